@@ -30,31 +30,31 @@ input_prints p (Some all) text whole Text Input status old from new is read fits
     let From : _ → Type 0 = λ o. PrintsOn p (Input all) status o new in
     let short : length whole ≤ most_bytes = fits in
     subst From same (prints_in p (Text text) (Input all) status from new
-    (λ printed meant told.
+    (λ printed meant reported.
     let Of : List ℕ → Type 0 = λ t. Text t printed meant in
-    let Told : List ℕ → Type 0 = λ t. Input t printed meant in
-    subst Told read (turn whole printed meant short (subst Of is told)))
+    let Reported : List ℕ → Type 0 = λ t. Input t printed meant in
+    subst Reported read (turn whole printed meant short (subst Of is reported)))
     prints)
 
 -- A command that fails while it reports an input that is too long has printed nothing or a
 -- beginning of `too long`.
-long_told : {P : Type 0} (p : printers.Ghosts P) (Prints : List ℕ → ExitStatus → Type 0) (old new : P)
+long_reported : {P : Type 0} (p : printers.Ghosts P) (Prints : List ℕ → ExitStatus → Type 0) (old new : P)
     → p.has_failed new ⊎ (new ≡ old) → GotPart too_long (p.contents old) (p.contents new) → Prints too_long Refused
     → PrintsOn p Prints Failed old new
-long_told p Prints old new (inl failed) part prints = inr (too_long, Refused, (failed, part), prints)
-long_told p Prints old new (inr same) part prints =
+long_reported p Prints old new (inl failed) part prints = inr (too_long, Refused, (failed, part), prints)
+long_reported p Prints old new (inr same) part prints =
     let Left : _ → Type 0 = λ o. Appends (p.contents old) (p.contents o) [] in
     inl (subst Left (sym same) (Appends-nil (p.contents old)))
 
-unread_told : {P : Type 0} (p : printers.Ghosts P) (Prints : List ℕ → ExitStatus → Type 0) (all : List ℕ) (status : ExitStatus) (old new : P)
+unread_reported : {P : Type 0} (p : printers.Ghosts P) (Prints : List ℕ → ExitStatus → Type 0) (all : List ℕ) (status : ExitStatus) (old new : P)
     → EndsUnread all status (p.contents old) (p.contents new) → (status ≡ Failed → p.has_failed new ⊎ (new ≡ old))
     → (most_bytes < length all → Prints too_long Refused) → PrintsOn p Prints status old new
-unread_told p Prints all Fine old new (inl told) failed long = absurd told.1
-unread_told p Prints all Fine old new (inr none) failed long = absurd (let e : Fine ≡ Failed = none.0 in cc)
-unread_told p Prints all Refused old new (inl told) failed long = (too_long, told.1, long told.0)
-unread_told p Prints all Refused old new (inr none) failed long = absurd (let e : Refused ≡ Failed = none.0 in cc)
-unread_told p Prints all Failed old new (inl told) failed long = long_told p Prints old new (failed refl) told.1 (long told.0)
-unread_told p Prints all Failed old new (inr none) failed long = inl none.1
+unread_reported p Prints all Fine old new (inl reported) failed long = absurd reported.1
+unread_reported p Prints all Fine old new (inr none) failed long = absurd (let e : Fine ≡ Failed = none.0 in cc)
+unread_reported p Prints all Refused old new (inl reported) failed long = (too_long, reported.1, long reported.0)
+unread_reported p Prints all Refused old new (inr none) failed long = absurd (let e : Refused ≡ Failed = none.0 in cc)
+unread_reported p Prints all Failed old new (inl reported) failed long = long_reported p Prints old new (failed refl) reported.1 (long reported.0)
+unread_reported p Prints all Failed old new (inr none) failed long = inl none.1
 
 -- A command that could not read its input prints `too long`, a beginning of that line, or nothing.
 pub unread_prints : {P : Type 0} (p : printers.Ghosts P) (input : Option (List ℕ)) (Input : List ℕ → List ℕ → ExitStatus → Type 0)
@@ -62,34 +62,34 @@ pub unread_prints : {P : Type 0} (p : printers.Ghosts P) (input : Option (List �
     → (status ≡ Failed → p.has_failed new ⊎ (new ≡ old)) → ((all : List ℕ) → most_bytes < length all → Input all too_long Refused)
     → IfSome input (λ all. PrintsOn p (Input all) status old new)
 unread_prints p None Input status old new unread failed long = tt
-unread_prints p (Some all) Input status old new unread failed long = unread_told p (Input all) all status old new unread failed (long all)
+unread_prints p (Some all) Input status old new unread failed long = unread_reported p (Input all) all status old new unread failed (long all)
 
 -- If a command builds its complete text before it prints, the built text satisfies `Prints`.
 is_made : (Prints : List ℕ → ExitStatus → Type 0) (meant : ExitStatus) (begun made : List ℕ) → meant ≢ Failed → begun ≡ []
     → PrintsAs Prints meant (Some begun) (Some made) → Prints made meant
 is_made Prints meant begun made goes none prints =
     let Made : List ℕ → Type 0 = λ b. (printed : List ℕ) × Appends (Some b) (Some made) printed × Prints printed meant in
-    let told = subst Made none (prints goes) in
-    let Told : List ℕ → Type 0 = λ t. Prints t meant in
-    subst Told (sym told.1) told.2
+    let reported = subst Made none (prints goes) in
+    let Reported : List ℕ → Type 0 = λ t. Prints t meant in
+    subst Reported (sym reported.1) reported.2
 
 pub made_prints : {P : Type 0} (p : printers.Ghosts P) (Prints : List ℕ → ExitStatus → Type 0) (begun made text : List ℕ)
     (meant status : ExitStatus) (old new : P) → begun ≡ [] → text ≡ made → PrintsAs Prints meant (Some begun) (Some made)
     → EndsAs p text meant status old new → PrintsOn p Prints status old new
 made_prints p Prints begun made text Fine Fine old new none same prints ends =
-    let Told : List ℕ → Type 0 = λ t. Prints t Fine in
-    (text, ends, subst Told (sym same) (is_made Prints Fine begun made (λ e. let f : Fine ≡ Failed = e in cc) none prints))
+    let Reported : List ℕ → Type 0 = λ t. Prints t Fine in
+    (text, ends, subst Reported (sym same) (is_made Prints Fine begun made (λ e. let f : Fine ≡ Failed = e in cc) none prints))
 made_prints p Prints begun made text Fine Refused old new none same prints ends = absurd ends
 made_prints p Prints begun made text Fine Failed old new none same prints ends =
-    let Told : List ℕ → Type 0 = λ t. Prints t Fine in
-    inr (text, Fine, ends, subst Told (sym same) (is_made Prints Fine begun made (λ e. let f : Fine ≡ Failed = e in cc) none prints))
+    let Reported : List ℕ → Type 0 = λ t. Prints t Fine in
+    inr (text, Fine, ends, subst Reported (sym same) (is_made Prints Fine begun made (λ e. let f : Fine ≡ Failed = e in cc) none prints))
 made_prints p Prints begun made text Refused Fine old new none same prints ends = absurd ends
 made_prints p Prints begun made text Refused Refused old new none same prints ends =
-    let Told : List ℕ → Type 0 = λ t. Prints t Refused in
-    (text, ends, subst Told (sym same) (is_made Prints Refused begun made (λ e. let f : Refused ≡ Failed = e in cc) none prints))
+    let Reported : List ℕ → Type 0 = λ t. Prints t Refused in
+    (text, ends, subst Reported (sym same) (is_made Prints Refused begun made (λ e. let f : Refused ≡ Failed = e in cc) none prints))
 made_prints p Prints begun made text Refused Failed old new none same prints ends =
-    let Told : List ℕ → Type 0 = λ t. Prints t Refused in
-    inr (text, Refused, ends, subst Told (sym same) (is_made Prints Refused begun made (λ e. let f : Refused ≡ Failed = e in cc) none prints))
+    let Reported : List ℕ → Type 0 = λ t. Prints t Refused in
+    inr (text, Refused, ends, subst Reported (sym same) (is_made Prints Refused begun made (λ e. let f : Refused ≡ Failed = e in cc) none prints))
 made_prints p Prints begun made text Failed Fine old new none same prints ends = absurd ends
 made_prints p Prints begun made text Failed Refused old new none same prints ends = absurd ends
 made_prints p Prints begun made text Failed Failed old new none same prints ends =

@@ -27,16 +27,16 @@ too_long = codes "too long\n"
 
 -- States that the output received the line `too long`, or a beginning of that line if the write
 -- failed.
-abbrev pub TellsTooLong : ExitStatus → (old new : Option (List ℕ)) → Type 0
-TellsTooLong Fine old new = ⊥
-TellsTooLong Refused old new = Appends old new too_long
-TellsTooLong Failed old new = GotPart too_long old new
+abbrev pub ReportsTooLong : ExitStatus → (old new : Option (List ℕ)) → Type 0
+ReportsTooLong Fine old new = ⊥
+ReportsTooLong Refused old new = Appends old new too_long
+ReportsTooLong Failed old new = GotPart too_long old new
 
 -- States how a command ends if it could not read its input. It prints `too long` for an input that
 -- is too long, and nothing if a read failed or memory ran out.
 abbrev pub EndsUnread : (input : List ℕ) → ExitStatus → (old new : Option (List ℕ)) → Type 0
 EndsUnread input status old new =
-    ((most_bytes < length input) × TellsTooLong status old new)
+    ((most_bytes < length input) × ReportsTooLong status old new)
     ⊎ ((status ≡ Failed) × Appends old new [])
 
 -- States how a command ends if it could not read its input. Says nothing if the input is unknown.

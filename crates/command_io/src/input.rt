@@ -1,7 +1,7 @@
 //! Reads the complete input of a command, up to a maximum length.
 ghost use Rattle.std.specs.Prelude.{◌≡◌, ◌≢◌, ◌≤◌, ◌↔◌, ◌⊎◌, Err, false, true, IfOk, IfErr, length};
 ghost use Rattle.command_io.specs.Input.{AreWholeOf, BlamesLengthRightly, LeavesUnread};
-ghost use Rattle.command_io.specs.Input.{TellsTooLong, most_bytes};
+ghost use Rattle.command_io.specs.Input.{ReportsTooLong, most_bytes};
 
 use crate::calls::Calls;
 use crate::printer::Printer;
@@ -106,7 +106,7 @@ pub fn read_input<R: Read, P: Printer>(
 
 // Prints the line `too long`, and returns the exit status for an input that is too long.
 fn print_too_long<P: Printer>(output: &mut P) -> ExitStatus
-    ensures told { TellsTooLong result (P.contents output.old) (P.contents output.new) }
+    ensures reported { ReportsTooLong result (P.contents output.old) (P.contents output.new) }
     ensures failed { result ≡ ExitStatus.Failed → P.has_failed output.new }
 {
     match output.print(b"too long\n") {

@@ -29,4 +29,4 @@ refusal_due words kind (Help text) (inl memory) help = absurd (memory_is_no_help
 refusal_due words kind (Help text) (inr among) help = subst (λ k. IsAmong k (errors_of (texts words))) help among
 refusal_due words kind Version (inl memory) version = absurd (memory_is_no_version (sym memory ∙ version))
 refusal_due words kind Version (inr among) version = subst (λ k. IsAmong k (errors_of (texts words))) version among
-refusal_due words kind Memory told refused = tt
+refusal_due words kind Memory reported refused = tt

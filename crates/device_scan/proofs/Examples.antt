@@ -5,7 +5,7 @@ use Rattle.sun_chain.specs.Image.{Words}
 use Rattle.sun_chain.specs.Tables.{common_table, inverter_table, meter_table, table_of}
 use Rattle.mb_wire.specs.declared.span.ReadFunction.TheVariants.{HoldingRegisters, InputRegisters}
 use Rattle.device_scan.specs.Answers.{Ask, settled}
-use Rattle.device_scan.specs.Counters.{counter_span, shown_by, decode_counter, told}
+use Rattle.device_scan.specs.Counters.{counter_span, shown_by, decode_counter, reported}
 use Rattle.device_scan.specs.Scans.{nothing}
 use Rattle.device_scan.specs.Stages.{begun, holding, is_known, model_at, stage_after, wanted}
 use Rattle.device_scan.specs.declared.counter.CounterScale.TheVariants.{Fixed, Register}
@@ -127,7 +127,7 @@ another_unit = refl
 excepted : settled one_read ((0 ∷ 7 ∷ 0 ∷ 0 ∷ 0 ∷ 3 ∷ 1 ∷ 131 ∷ 1 ∷ []) ∷ []) ≡ Some None
 excepted = refl
 
--- The spans that contain a counter and its scale.
+-- The registers that one request must read to get a counter and its scale factor.
 
 two_alone : counter_span HoldingRegisters 40000 (Fixed (pos 0)) ≡ Some (holding 40000 2)
 two_alone = refl
@@ -167,16 +167,16 @@ scale_is_read = refl
 scale_stands_before : decode_counter 9 (3 ∷ 0 ∷ 7 ∷ []) 10 (Register 9) ≡ Some (record { raw = 7; sf = pos 3 })
 scale_stands_before = refl
 
-least_scale : told 0xFFFD ≡ Some (negsuc 2)
+least_scale : reported 0xFFFD ≡ Some (negsuc 2)
 least_scale = refl
 
-below_the_least : told 0xFFFC ≡ None
+below_the_least : reported 0xFFFC ≡ None
 below_the_least = refl
 
-above_the_greatest : told 4 ≡ None
+above_the_greatest : reported 4 ≡ None
 above_the_greatest = refl
 
-not_implemented : told 0x8000 ≡ None
+not_implemented : reported 0x8000 ≡ None
 not_implemented = refl
 
 four_by_hand : decode_counter 10 (1 ∷ 2 ∷ []) 10 (Fixed (pos 4)) ≡ None

@@ -4,7 +4,7 @@ use Rattle.std.specs.List.{flat_map}
 use Rattle.std.proofs.lemmas.List.{append-nil, take_all, take-append-drop, take_rest}
 use Rattle.std.proofs.lemmas.List.Concat.{flat_map-append}
 use Rattle.mb_wire.specs.Frames.{span_of, IsFrame, IsOpen, IsBad, frames, rest}
-use Rattle.mb_wire.specs.Reader.{Buffered, TellsFraming, buffered_after, ended}
+use Rattle.mb_wire.specs.Reader.{Buffered, ReportsFraming, buffered_after, ended}
 use Rattle.mb_wire.specs.declared.frames.Framing.{Framing}
 use Rattle.mb_wire.specs.declared.frames.Framing.TheVariants.{Need, Whole, Foreign, Garbled}
 use Rattle.mb_wire.proofs.Readings.{AllByRecursion-append, Reads-is, Reads-only, span_of-append}
@@ -64,30 +64,30 @@ bad_stays b left bad =
     subst IsBad (sym alone.1) still
 
 -- A feed that ends a frame completes exactly that frame.
-pub told : (what : Framing) (b : List ℕ) → TellsFraming what b → (frames b ≡ ended what b) × (rest b ≡ (buffered_after what b).rest)
-told Need b tells = rest_alone b (inl tells)
-told Whole b tells = frame_alone b tells.0
-told Foreign b tells = frame_alone b tells.0
-told Garbled b tells = rest_alone b (inr tells.0)
+pub reported : (what : Framing) (b : List ℕ) → ReportsFraming what b → (frames b ≡ ended what b) × (rest b ≡ (buffered_after what b).rest)
+reported Need b reports = rest_alone b (inl reports)
+reported Whole b reports = frame_alone b reports.0
+reported Foreign b reports = frame_alone b reports.0
+reported Garbled b reports = rest_alone b (inr reports.0)
 
 -- A chunk consists of the bytes that a feed consumed and the remaining bytes.
 pub piece_is : (r piece : List ℕ) (taken : ℕ) → r ++ piece ≡ (r ++ take taken piece) ++ from taken piece
 piece_is r piece taken = ap (λ y. r ++ y) (sym (whole_again taken piece)) ∙ sym (append_assoc r (take taken piece) (from taken piece))
 
-pub piece_rest : (what : Framing) (r piece : List ℕ) (taken : ℕ) (buffered : Buffered) → TellsFraming what (r ++ take taken piece) → buffered ≡ buffered_after what (r ++ take taken piece)
+pub piece_rest : (what : Framing) (r piece : List ℕ) (taken : ℕ) (buffered : Buffered) → ReportsFraming what (r ++ take taken piece) → buffered ≡ buffered_after what (r ++ take taken piece)
     → rest (r ++ piece) ≡ rest (buffered.rest ++ from taken piece)
-piece_rest what r piece taken buffered tells is =
+piece_rest what r piece taken buffered reports is =
     let b = r ++ take taken piece in
-    let stays : rest b ≡ buffered.rest = (told what b tells).1 ∙ ap (λ (h : Buffered). h.rest) (sym is) in
+    let stays : rest b ≡ buffered.rest = (reported what b reports).1 ∙ ap (λ (h : Buffered). h.rest) (sym is) in
     ap rest (piece_is r piece taken) ∙ (frames-then b (from taken piece)).1 ∙ ap (λ y. rest (y ++ from taken piece)) stays
 
 -- A feed that consumes all of a chunk and completes no frame buffers all bytes.
-pub need_rest : (what : Framing) (r piece : List ℕ) (taken : ℕ) (buffered : Buffered) → TellsFraming what (r ++ take taken piece) → buffered ≡ buffered_after what (r ++ take taken piece)
+pub need_rest : (what : Framing) (r piece : List ℕ) (taken : ℕ) (buffered : Buffered) → ReportsFraming what (r ++ take taken piece) → buffered ≡ buffered_after what (r ++ take taken piece)
     → what ≡ Need → taken ≡ length piece → (buffered.rest ≡ rest (r ++ piece)) × IsOpen buffered.rest × (frames (r ++ piece) ≡ []) × (buffered ≡ buffered_after Need (r ++ piece))
-need_rest what r piece taken buffered tells is need all =
+need_rest what r piece taken buffered reports is need all =
     let b = r ++ take taken piece in
     let whole : b ≡ r ++ piece = ap (λ y. r ++ y) (take_all taken piece (omega arith)) in
-    let open_b : IsOpen b = subst (λ w. TellsFraming w b) need tells in
+    let open_b : IsOpen b = subst (λ w. ReportsFraming w b) need reports in
     let is_open : IsOpen (r ++ piece) = subst IsOpen whole open_b in
     let alone = rest_alone (r ++ piece) (inl is_open) in
     let is_need : buffered ≡ buffered_after Need (r ++ piece) = is ∙ ap (λ w. buffered_after w b) need ∙ ap (buffered_after Need) whole in
@@ -95,10 +95,10 @@ need_rest what r piece taken buffered tells is need all =
     (stays ∙ sym alone.1, subst IsOpen (sym stays) is_open, alone.0, is_need)
 
 -- After a feed that ends at an invalid length field, the rest of the stream is invalid.
-pub garbled_rest : (what : Framing) (r piece : List ℕ) (taken : ℕ) → TellsFraming what (r ++ take taken piece) → what ≡ Garbled → IsBad (rest (r ++ piece))
-garbled_rest what r piece taken tells garbled =
+pub garbled_rest : (what : Framing) (r piece : List ℕ) (taken : ℕ) → ReportsFraming what (r ++ take taken piece) → what ≡ Garbled → IsBad (rest (r ++ piece))
+garbled_rest what r piece taken reports garbled =
     let b = r ++ take taken piece in
-    let bad : TellsFraming Garbled b = subst (λ w. TellsFraming w b) garbled tells in
+    let bad : ReportsFraming Garbled b = subst (λ w. ReportsFraming w b) garbled reports in
     subst (λ y. IsBad (rest y)) (sym (piece_is r piece taken)) (bad_stays b (from taken piece) bad.0)
 
 -- An incomplete frame without further bytes completes no frame and is its own rest.

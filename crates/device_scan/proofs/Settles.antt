@@ -8,15 +8,15 @@ use Rattle.mb_wire.specs.Links.{TakeConsumes}
 use Rattle.mb_wire.specs.declared.link.Took.{Took}
 use Rattle.mb_wire.specs.declared.link.Took.TheVariants as took
 use Rattle.mb_wire.specs.Frames.{IsBad, IsOpen, IsOwn, frames, rest, tid_of}
-use Rattle.mb_wire.specs.Reader.{Buffered, Fields, TellsFraming, buffered_after, ended, fields_of}
+use Rattle.mb_wire.specs.Reader.{Buffered, Fields, ReportsFraming, buffered_after, ended, fields_of}
 use Rattle.mb_wire.specs.declared.frames.Framing.{Framing}
 use Rattle.mb_wire.specs.declared.frames.Framing.TheVariants.{Need, Whole, Foreign, Garbled}
 use Rattle.device_scan.specs.Answers.{Ask, first_of, frames_held, is_reply, settled, words_in}
 use Rattle.device_scan.specs.Answers.{words_seen}
-use Rattle.device_scan.specs.Lines.{Garbles, Hears, HearsAnswer, HearsTurn, TurnTells}
+use Rattle.device_scan.specs.Lines.{Garbles, Hears, HearsAnswer, HearsTurn, TurnReports}
 use Rattle.device_scan.specs.declared.hearing.Turn.{Turn}
 use Rattle.device_scan.specs.declared.hearing.Turn.TheVariants.{Idle, More, Settled}
-use Rattle.device_scan.proofs.Framing.{came_more, from, frames-then, need_rest, nothing_came, piece_is, told}
+use Rattle.device_scan.proofs.Framing.{came_more, from, frames-then, need_rest, nothing_came, piece_is, reported}
 
 pub if_ok_then : {X E : Type 0} (P Q : X → Type 0) (result : Result X E) → IfOk result P → ((x : X) → P x → Q x) → IfOk result Q
 if_ok_then P Q (Ok x) holds step = step x holds
@@ -75,31 +75,31 @@ same_held ask (Some f) fields is own equal =
     one_frame ask f true (own_reply ask f own ∙ eq-eqb _ _ (sym tids ∙ equal)) ∙ ap (λ (x : Fields). Some (words_in ask x)) (sym same)
 
 -- The frame that a feed completed decides the same result as the frame in the reader afterwards.
-settled_ended : (ask : Ask) (what : Framing) (b : List ℕ) → TellsFraming what b → settled ask (ended what b) ≡ settled ask (frames_held (buffered_after what b).frame)
-settled_ended ask Need b tells = refl
-settled_ended ask Whole b tells = refl
-settled_ended ask Foreign b tells = one_frame ask b false (foreign_reply ask b tells.1)
-settled_ended ask Garbled b tells = refl
+settled_ended : (ask : Ask) (what : Framing) (b : List ℕ) → ReportsFraming what b → settled ask (ended what b) ≡ settled ask (frames_held (buffered_after what b).frame)
+settled_ended ask Need b reports = refl
+settled_ended ask Whole b reports = refl
+settled_ended ask Foreign b reports = one_frame ask b false (foreign_reply ask b reports.1)
+settled_ended ask Garbled b reports = refl
 
-own_after : (what : Framing) (b : List ℕ) → TellsFraming what b → IfSome (buffered_after what b).frame IsOwn
-own_after Need b tells = tt
-own_after Whole b tells = tells.1
-own_after Foreign b tells = tt
-own_after Garbled b tells = tt
+own_after : (what : Framing) (b : List ℕ) → ReportsFraming what b → IfSome (buffered_after what b).frame IsOwn
+own_after Need b reports = tt
+own_after Whole b reports = reports.1
+own_after Foreign b reports = tt
+own_after Garbled b reports = tt
 
-pub own_held : (what : Framing) (b : List ℕ) (buffered : Buffered) → TellsFraming what b → buffered ≡ buffered_after what b → IfSome buffered.frame IsOwn
-own_held what b buffered tells is = subst (λ (h : Buffered). IfSome h.frame IsOwn) (sym is) (own_after what b tells)
+pub own_held : (what : Framing) (b : List ℕ) (buffered : Buffered) → ReportsFraming what b → buffered ≡ buffered_after what b → IfSome buffered.frame IsOwn
+own_held what b buffered reports is = subst (λ (h : Buffered). IfSome h.frame IsOwn) (sym is) (own_after what b reports)
 
 -- A chunk decides the result that its first feed decides, or else that of the remaining bytes.
-pub piece_settles : (ask : Ask) (what : Framing) (r piece : List ℕ) (taken : ℕ) (buffered : Buffered) → TellsFraming what (r ++ take taken piece) → buffered ≡ buffered_after what (r ++ take taken piece)
+pub piece_settles : (ask : Ask) (what : Framing) (r piece : List ℕ) (taken : ℕ) (buffered : Buffered) → ReportsFraming what (r ++ take taken piece) → buffered ≡ buffered_after what (r ++ take taken piece)
     → settled ask (frames (r ++ piece)) ≡ first_of (settled ask (frames_held buffered.frame)) (settled ask (frames (buffered.rest ++ from taken piece)))
-piece_settles ask what r piece taken buffered tells is =
+piece_settles ask what r piece taken buffered reports is =
     let b = r ++ take taken piece in
     let left = from taken piece in
-    let so = told what b tells in
+    let so = reported what b reports in
     let stays : rest b ≡ buffered.rest = so.1 ∙ ap (λ (h : Buffered). h.rest) (sym is) in
     let front : settled ask (frames b) ≡ settled ask (frames_held buffered.frame) =
-    ap (settled ask) so.0 ∙ settled_ended ask what b tells ∙ ap (λ (h : Buffered). settled ask (frames_held h.frame)) (sym is) in
+    ap (settled ask) so.0 ∙ settled_ended ask what b reports ∙ ap (λ (h : Buffered). settled ask (frames_held h.frame)) (sym is) in
     ap (λ (y : List ℕ). settled ask (frames y)) (piece_is r piece taken)
     ∙ ap (settled ask) (frames-then b left).0
     ∙ settled_both ask (frames b) (frames (rest b ++ left))
@@ -107,10 +107,10 @@ piece_settles ask what r piece taken buffered tells is =
     ∙ ap (λ (y : List ℕ). first_of (settled ask (frames_held buffered.frame)) (settled ask (frames (y ++ left)))) stays
 
 -- A feed that consumes all of a chunk and completes no frame decides no result.
-pub need_settles : (ask : Ask) (what : Framing) (r piece : List ℕ) (taken : ℕ) (buffered : Buffered) → TellsFraming what (r ++ take taken piece) → buffered ≡ buffered_after what (r ++ take taken piece)
+pub need_settles : (ask : Ask) (what : Framing) (r piece : List ℕ) (taken : ℕ) (buffered : Buffered) → ReportsFraming what (r ++ take taken piece) → buffered ≡ buffered_after what (r ++ take taken piece)
     → what ≡ Need → taken ≡ length piece → settled ask (frames_held buffered.frame) ≡ settled ask (frames (r ++ piece))
-need_settles ask what r piece taken buffered tells is need all =
-    let so = need_rest what r piece taken buffered tells is need all in
+need_settles ask what r piece taken buffered reports is need all =
+    let so = need_rest what r piece taken buffered reports is need all in
     ap (λ (h : Buffered). settled ask (frames_held h.frame)) so.3 ∙ ap (settled ask) (sym so.2)
 
 -- An earlier result has precedence over the result of a later chunk.
@@ -153,11 +153,11 @@ garbles_both a b c r s came first next = record {
 pub kept_idle : (a b : Option (List ℕ)) (piece : List ℕ) (answer : Took) → TakeConsumes a b (Ok answer) piece → answer ≡ took.Idle → Keeps a b
 kept_idle a b piece answer took is = subst (λ (t : Took). TakeConsumes a b (Ok t) piece) is took
 
-pub turn_bytes : (ask : Ask) (a b : Option (List ℕ)) (r s bytes : List ℕ) (turn : Turn) → Consumes a b bytes → s ≡ rest (r ++ bytes) → IsOpen s → TurnTells ask (frames (r ++ bytes)) turn → HearsTurn ask a b r s turn
-turn_bytes ask a b r s bytes turn took read is_open tells = record { came = bytes; hears = record { took = took; read = read; is_open = is_open }; tells = tells }
+pub turn_bytes : (ask : Ask) (a b : Option (List ℕ)) (r s bytes : List ℕ) (turn : Turn) → Consumes a b bytes → s ≡ rest (r ++ bytes) → IsOpen s → TurnReports ask (frames (r ++ bytes)) turn → HearsTurn ask a b r s turn
+turn_bytes ask a b r s bytes turn took read is_open reports = record { came = bytes; hears = record { took = took; read = read; is_open = is_open }; reports = reports }
 
 pub turn_idle : (ask : Ask) (a b : Option (List ℕ)) (r : List ℕ) → IsOpen r → Keeps a b → HearsTurn ask a b r r Idle
-turn_idle ask a b r is_open kept = record { came = []; hears = hears_nothing a b r is_open kept; tells = ap (settled ask) (nothing_came r is_open).0 }
+turn_idle ask a b r is_open kept = record { came = []; hears = hears_nothing a b r is_open kept; reports = ap (settled ask) (nothing_came r is_open).0 }
 
 -- True if bytes arrived over the link and decided no result.
 pub record Waits (ask : Ask) (a b : Option (List ℕ)) (r s : List ℕ) : Type 0 where
@@ -172,28 +172,28 @@ pub waits_more : (ask : Ask) (a b c : Option (List ℕ)) (r s t : List ℕ) → 
 waits_more ask a b c r s t waits turn = record {
   came = waits.came ++ turn.came;
   hears = hears_both a b c r s t waits.came turn.came waits.hears turn.hears;
-  nothing = settled_more ask r s waits.came turn.came waits.hears.read waits.nothing ∙ turn.tells;
+  nothing = settled_more ask r s waits.came turn.came waits.hears.read waits.nothing ∙ turn.reports;
 }
 
 pub waits_settled : (ask : Ask) (a b c : Option (List ℕ)) (r s t : List ℕ) (turn : Turn) (words : Option (List ℕ)) → Waits ask a b r s → HearsTurn ask b c s t turn
-    → ((came : List ℕ) → TurnTells ask (frames (s ++ came)) turn → words ≡ unwrap_or (settled ask (frames (s ++ came))) None) → HearsAnswer ask a c r t words
+    → ((came : List ℕ) → TurnReports ask (frames (s ++ came)) turn → words ≡ unwrap_or (settled ask (frames (s ++ came))) None) → HearsAnswer ask a c r t words
 waits_settled ask a b c r s t turn words waits heard brings = record {
   came = waits.came ++ heard.came;
   hears = hears_both a b c r s t waits.came heard.came waits.hears heard.hears;
   answer =
-      brings heard.came heard.tells
+      brings heard.came heard.reports
       ∙ ap (λ (x : Option (Option (List ℕ))). unwrap_or x None) (sym (settled_more ask r s waits.came heard.came waits.hears.read waits.nothing));
 }
 
 pub waits_answer : (ask : Ask) (a b c : Option (List ℕ)) (r s t : List ℕ) (answer : Option (Vec ℕ Global)) → Waits ask a b r s → HearsTurn ask b c s t (Settled answer) → HearsAnswer ask a c r t (words_seen answer)
 waits_answer ask a b c r s t answer waits heard =
     waits_settled ask a b c r s t (Settled answer) (words_seen answer) waits heard
-    (λ came tells. sym (ap (λ (x : Option (Option (List ℕ))). unwrap_or x None) tells))
+    (λ came reports. sym (ap (λ (x : Option (Option (List ℕ))). unwrap_or x None) reports))
 
 pub waits_idle : (ask : Ask) (a b c : Option (List ℕ)) (r s t : List ℕ) → Waits ask a b r s → HearsTurn ask b c s t Idle → HearsAnswer ask a c r t None
 waits_idle ask a b c r s t waits heard =
     waits_settled ask a b c r s t Idle None waits heard
-    (λ came tells. sym (ap (λ (x : Option (Option (List ℕ))). unwrap_or x None) tells))
+    (λ came reports. sym (ap (λ (x : Option (Option (List ℕ))). unwrap_or x None) reports))
 
 pub waits_end : (ask : Ask) (a b : Option (List ℕ)) (r s : List ℕ) → Waits ask a b r s → HearsAnswer ask a b r s None
 waits_end ask a b r s waits = record {

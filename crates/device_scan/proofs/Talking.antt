@@ -22,7 +22,7 @@ use Rattle.sun_chain.specs.Image.{Words}
 use Rattle.sun_points.specs.Writing.{GotPart, GotText}
 use Rattle.device_scan.specs.Answers.{Ask, brought, is_reply, request_frame, words_in, words_seen}
 use Rattle.device_scan.specs.Lines.{AtOnce, Again, Garbles, Hears, HearsAnswer, Inquiry, Line, OnlyInquires, OnlyRequests, Reads, Tries, ask, inquiry_frame, request_under}
-use Rattle.device_scan.specs.Scans.{Scans, AsksInTurn, Exchange, Talks, fresh, nothing, append_answer, words_after, words_told}
+use Rattle.device_scan.specs.Scans.{Scans, AsksInTurn, Exchange, Talks, fresh, nothing, append_answer, words_after, words_reported}
 use Rattle.device_scan.specs.Stages.{begun, stage_after, wanted}
 use Rattle.device_scan.specs.declared.stage.Stage.{Stage}
 use Rattle.device_scan.specs.declared.stage.Stage.TheVariants.{Mark, Head, Ending, Registers as InModel, Over}
@@ -162,9 +162,9 @@ reads_full unit a b span answer words (Again mid first next) is = tries_full uni
 pub same_words : (a b : Words) → ((address : ℕ) → a address ≡ b address) → a ≡ b
 same_words a b same = λ i. λ address. same address i
 
-told_more : (word : Words) (xs : List Exchange) (x : Exchange) → words_told word (xs ++ x ∷ []) ≡ words_after (words_told word xs) x
-told_more word [] x = refl
-told_more word (first ∷ xs) x = told_more (words_after word first) xs x
+reported_more : (word : Words) (xs : List Exchange) (x : Exchange) → words_reported word (xs ++ x ∷ []) ≡ words_after (words_reported word xs) x
+reported_more word [] x = refl
+reported_more word (first ∷ xs) x = reported_more (words_after word first) xs x
 
 talks_more : (unit : ℕ) (a : Line) (xs : List Exchange) (x : Exchange) (b c : Line) → Talks unit a xs b → Reads unit b c x.span x.words → Talks unit a (xs ++ x ∷ []) c
 talks_more unit a [] x b c talk reads = (c, subst (λ (l : Line). Reads unit l c x.span x.words) (sym talk) reads, refl)
@@ -173,7 +173,7 @@ talks_more unit a (first ∷ xs) x b c talk reads = (talk.0, talk.1, talks_more 
 -- True if the exchanges until now lead to this state of the link, these words and this stage.
 pub record Progress (unit : ℕ) (old now : Line) (word : Words) (stage : Stage) (exchanges : List Exchange) : Type 0 where
   pub asked : (later : List Exchange) → AsksInTurn word stage later → AsksInTurn nothing begun (exchanges ++ later)
-  pub words : word ≡ words_told nothing exchanges
+  pub words : word ≡ words_reported nothing exchanges
   pub talk : Talks unit old exchanges now
   pub few : 125 * length exchanges + potential stage ≤ 82161
 
@@ -188,7 +188,7 @@ progress_begun unit old now word stage unread is same = record {
 pub progress_more : (unit : ℕ) (old now next : Line) (word later : Words) (stage later_stage : Stage) (xs : List Exchange) (x : Exchange) →
     Progress unit old now word stage xs → wanted stage ≡ Some x.span → Reads unit now next x.span x.words → later ≡ words_after word x → later_stage ≡ stage_after later stage →
     Progress unit old next later later_stage (xs ++ x ∷ [])
-progress_more unit old now next word later stage later_stage xs x before is reads told goes =
+progress_more unit old now next word later stage later_stage xs x before is reads reported goes =
     let counted : length (xs ++ x ∷ []) ≡ length xs + 1 = length-append xs (x ∷ []) in
     let less : potential (stage_after later stage) + 125 ≤ potential stage = less_potential later stage x.span is in
     let same : potential later_stage ≡ potential (stage_after later stage) = ap potential goes in
@@ -198,9 +198,9 @@ progress_more unit old now next word later stage later_stage xs x before is read
           subst (λ (ys : List Exchange). AsksInTurn nothing begun ys) (sym (append_assoc xs (x ∷ []) more))
           (before.asked (x ∷ more) (
             is,
-            subst (λ (w : Words). AsksInTurn w (stage_after w stage) more) told (subst (λ (s : Stage). AsksInTurn later s more) goes asks),
+            subst (λ (w : Words). AsksInTurn w (stage_after w stage) more) reported (subst (λ (s : Stage). AsksInTurn later s more) goes asks),
           ));
-      words = told ∙ ap (λ (w : Words). words_after w x) before.words ∙ sym (told_more nothing xs x);
+      words = reported ∙ ap (λ (w : Words). words_after w x) before.words ∙ sym (reported_more nothing xs x);
       talk = talks_more unit old xs x now next before.talk reads;
       few = omega arith;
     }
@@ -239,7 +239,7 @@ pub going_more : (unit : ℕ) (old_bytes old_given bytes given later_bytes later
     ((inquiries : List Inquiry) × Appends given later_given (flat_map (inquiry_frame asked_unit) inquiries)) →
     later_unit ≡ asked_unit → later_taken ≤ taken + 2000 → ((address : ℕ) → later address ≡ append_answer word span.address words address) → later_stage ≡ stage_after later stage →
     Going unit old_bytes old_given later_bytes later_given later_unit later_open later_next later later_stage old_taken later_taken
-going_more unit old_bytes old_given bytes given later_bytes later_given asked_unit later_unit open_bytes later_open next later_next word later stage later_stage old_taken taken later_taken span words going is read inquires same few told goes =
+going_more unit old_bytes old_given bytes given later_bytes later_given asked_unit later_unit open_bytes later_open next later_next word later stage later_stage old_taken taken later_taken span words going is read inquires same few reported goes =
     let here = standing bytes given open_bytes next in
     let there = standing later_bytes later_given later_open later_next in
     let x : Exchange = record { span = span; words = words } in
@@ -250,7 +250,7 @@ going_more unit old_bytes old_given bytes given later_bytes later_given asked_un
     let before : taken ≤ old_taken + 2000 * length going.exchanges = going.takes in
     record {
       exchanges = going.exchanges ++ x ∷ [];
-      progress = progress_more unit (fresh old_bytes old_given) here there word later stage later_stage going.exchanges x going.progress is read_unit (same_words later (append_answer word span.address words) told) goes;
+      progress = progress_more unit (fresh old_bytes old_given) here there word later stage later_stage going.exchanges x going.progress is read_unit (same_words later (append_answer word span.address words) reported) goes;
       inquired = (
         going.inquired.0 ++ inquired.0,
         subst (λ (text : List ℕ). Appends old_given later_given text)

@@ -50,14 +50,14 @@ abbrev pub allowed : ℤ → Option ℤ
 allowed sf = if is_allowed sf then Some sf else None
 
 -- The power of ten in a sunssf register, or `None` if it is not implemented or not from -3 to 3.
-abbrev pub told : (word : ℕ) → Option ℤ
-told word = if word == 0x8000 then None else allowed (scale_value word)
+abbrev pub reported : (word : ℕ) → Option ℤ
+reported word = if word == 0x8000 then None else allowed (scale_value word)
 
 -- The power of ten of a counter, fixed or read from its register, or `None` if it is not from -3 to
 -- 3.
 abbrev pub scale_in : (first : ℕ) → List ℕ → CounterScale → Option ℤ
 scale_in first words (Fixed sf) = allowed sf
-scale_in first words (Register at) = told (word_at first words at)
+scale_in first words (Register at) = reported (word_at first words at)
 
 -- The count in the two words from `address`, high word first.
 abbrev pub count_in : (first : ℕ) → List ℕ → (address : ℕ) → ℕ

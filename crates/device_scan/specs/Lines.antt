@@ -42,10 +42,10 @@ pub record Hears (old_bytes new_bytes : Option (List ℕ)) (old_open new_open ca
     pub is_open : IsOpen new_open
 
 -- The facts about the frames that arrived for the request that each result of a turn implies.
-abbrev pub TurnTells : Ask → List (List ℕ) → Turn → Type 0
-TurnTells ask frames Idle = settled ask frames ≡ None
-TurnTells ask frames More = settled ask frames ≡ None
-TurnTells ask frames (Settled answer) = settled ask frames ≡ Some (words_seen answer)
+abbrev pub TurnReports : Ask → List (List ℕ) → Turn → Type 0
+TurnReports ask frames Idle = settled ask frames ≡ None
+TurnReports ask frames More = settled ask frames ≡ None
+TurnReports ask frames (Settled answer) = settled ask frames ≡ Some (words_seen answer)
 
 -- The effect of a turn that reads the link once: the result of the turn is the result of the frames
 -- in the new bytes.
@@ -53,7 +53,7 @@ pub record HearsTurn (ask : Ask) (old_bytes new_bytes : Option (List ℕ))
     (old_open new_open : List ℕ) (turn : Turn) : Type 0 where
   pub came : List ℕ
   pub hears : Hears old_bytes new_bytes old_open new_open came
-  pub tells : TurnTells ask (frames (old_open ++ came)) turn
+  pub reports : TurnReports ask (frames (old_open ++ came)) turn
 
 -- The effect of waiting for a response: `words` are the registers of the first response in the
 -- bytes that arrived, or `None`.

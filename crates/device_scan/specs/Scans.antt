@@ -38,9 +38,9 @@ abbrev pub words_after : Words → Exchange → Words
 words_after word exchange = append_answer word exchange.span.address exchange.words
 
 -- The image after a list of reads.
-abbrev pub words_told : Words → List Exchange → Words
-words_told word [] = word
-words_told word (exchange ∷ exchanges) = words_told (words_after word exchange) exchanges
+abbrev pub words_reported : Words → List Exchange → Words
+words_reported word [] = word
+words_reported word (exchange ∷ exchanges) = words_reported (words_after word exchange) exchanges
 
 -- True if the stage requires each read, given the words read until then, and requires no read after
 -- the last.
@@ -70,7 +70,7 @@ pub record Scans (unit : ℕ) (old_bytes old_given new_bytes new_given : Option 
   pub exchanges : List Exchange
   pub few : length exchanges ≤ MOST_READS
   pub asked : AsksInTurn nothing begun exchanges
-  pub words : (address : ℕ) → word address ≡ words_told nothing exchanges address
+  pub words : (address : ℕ) → word address ≡ words_reported nothing exchanges address
   pub end : Line
   pub talk : Talks unit (fresh old_bytes old_given) exchanges end
   pub bytes : end.bytes ≡ new_bytes

@@ -84,7 +84,7 @@ fn allowed(sf: i16) -> Option<i16>
 // Returns the power of ten in a sunssf register, or `None` if it is not implemented or not from -3
 // to 3.
 fn decode_scale(word: u16) -> Option<i16>
-    ensures { result ≡ specs.told word }
+    ensures { result ≡ specs.reported word }
 {
     if word == 0x8000 {
         None

@@ -18,7 +18,7 @@ use Rattle.energy_core.specs.Value.{unit_of}
 use Rattle.energy_core.specs.Account.{last_of, energy_of, step_to, steps_of, whole_energy, NeverFalls}
 use Rattle.energy_core.specs.Verdict.{judged, distance, applies, causes, verdict_of, can_count}
 use Rattle.energy_core.specs.Readings.{verdict_on, entries_of_readings, IsAccepted, AllAccepted}
-use Rattle.energy_core.specs.TrueRun.{Item, shown, told, newest, advance, true_steps, IsTrueRun, IsReadOftenEnough, TruthIsBooked}
+use Rattle.energy_core.specs.TrueRun.{Item, shown, reported, newest, advance, true_steps, IsTrueRun, IsReadOftenEnough, TruthIsBooked}
 use Rattle.energy_core.proofs.Tables.{find-none}
 use Rattle.energy_core.proofs.Turns.{distance-shown, turned}
 use Rattle.energy_core.proofs.Sums.{whole-cons}
@@ -67,8 +67,8 @@ terms_after ceiling sf first a = record { ceiling = ceiling; total = advance sf 
 one_reading : (range ceiling : ℕ) (sf : ℤ) (first a b : Item) → 0 < range → a.count ≤ b.count
     → IsTrue (can_count ceiling (unit_of sf) (b.at - a.at) (b.count - a.count))
     → ((c : Cause) → c ≢ cause.TooFast → c ≢ cause.NotBelowRange
-    → applies range (terms_after ceiling sf first a) (shown range sf a) (told range sf b) c ≡ false)
-    → (verdict_of range (terms_after ceiling sf first a) (shown range sf a) (told range sf b)
+    → applies range (terms_after ceiling sf first a) (shown range sf a) (reported range sf b) c ≡ false)
+    → (verdict_of range (terms_after ceiling sf first a) (shown range sf a) (reported range sf b)
     ≡ Accepted (if nat_lt (b.count % range) (a.count % range) then 1 else 0) (advance sf a b))
     × (distance range (a.count % range) (b.count % range) ≡ b.count - a.count)
 one_reading range ceiling sf first a b pos on slow others =
@@ -78,8 +78,8 @@ one_reading range ceiling sf first a b pos on slow others =
     let sum : a.count + (b.count - a.count) ≡ b.count = omega arith in
     let far : distance range (a.count % range) (b.count % range) ≡ b.count - a.count =
     ap (λ n. distance range (a.count % range) (n % range)) (sym sum) ∙ distance-shown range a.count (b.count - a.count) pos less in
-    let none : (c : Cause) → applies range terms (shown range sf a) (told range sf b) c ≡ false =
-    λ c. elim c as (λ c. applies range terms (shown range sf a) (told range sf b) c ≡ false) [
+    let none : (c : Cause) → applies range terms (shown range sf a) (reported range sf b) c ≡ false =
+    λ c. elim c as (λ c. applies range terms (shown range sf a) (reported range sf b) c ≡ false) [
       | cause.NotAccumulated ↦ others cause.NotAccumulated (λ e. cc) (λ e. cc)
       | cause.ScaleChanged ↦ others cause.ScaleChanged (λ e. cc) (λ e. cc)
       | cause.NotLater ↦ others cause.NotLater (λ e. cc) (λ e. cc)
@@ -89,7 +89,7 @@ one_reading range ceiling sf first a b pos on slow others =
       | cause.TotalFull ↦ others cause.TotalFull (λ e. cc) (λ e. cc)
       | cause.NotBelowRange ↦ not_beyond_range range b.count pos
     ] in (
-      accepted range terms (shown range sf a) (told range sf b) none
+      accepted range terms (shown range sf a) (reported range sf b) none
           ∙ ap (λ n. Accepted (if nat_lt (b.count % range) (a.count % range) then 1 else 0) (n * unit_of sf)) far,
       far,
     )
@@ -143,8 +143,8 @@ nothing_yet v u n = let z : n - n ≡ 0 = omega arith in let m : (n - n) * u ≡
 -- counts.
 verdict_next : (range ceiling : ℕ) (sf : ℤ) (first b : Item) (items : List Item) (es : List Entry) (v : Verdict)
     → Booked range ceiling sf first items es
-    → verdict_of range (terms_after ceiling sf first (newest first items)) (shown range sf (newest first items)) (told range sf b) ≡ v
-    → verdict_on range ceiling (shown range sf first) es (told range sf b) ≡ v
+    → verdict_of range (terms_after ceiling sf first (newest first items)) (shown range sf (newest first items)) (reported range sf b) ≡ v
+    → verdict_on range ceiling (shown range sf first) es (reported range sf b) ≡ v
 verdict_next range ceiling sf first b items es v h is = rw (h.whole, h.last) is
 
 is_accepted : (v : Verdict) (rolls step : ℕ) → v ≡ Accepted rolls step → IsAccepted v
@@ -152,8 +152,8 @@ is_accepted (Accepted r s) rolls step h = tt
 is_accepted (Held c) rolls step h = absurd (cc)
 
 record Run (range ceiling : ℕ) (sf : ℤ) (first : Item) (items : List Item) : Type 0 where
-  booked : Booked range ceiling sf first items (entries_of_readings range ceiling (shown range sf first) (map (told range sf) items))
-  accepted : AllAccepted range ceiling (shown range sf first) (map (told range sf) items)
+  booked : Booked range ceiling sf first items (entries_of_readings range ceiling (shown range sf first) (map (reported range sf) items))
+  accepted : AllAccepted range ceiling (shown range sf first) (map (reported range sf) items)
 
 whole_run : (range ceiling : ℕ) (sf : ℤ) (first : Item) (items : List Item) → 0 < range
     → IsTrueRun ceiling sf first items → IsReadOftenEnough range ceiling sf first items → Run range ceiling sf first items
@@ -171,7 +171,7 @@ whole_run range ceiling sf first [] pos run often =
 whole_run range ceiling sf first (b ∷ items) pos run often =
     let before = whole_run range ceiling sf first items pos run.3 often.1 in
     let one = one_reading range ceiling sf first (newest first items) b pos run.1 run.2 often.0 in
-    let es : List Entry = entries_of_readings range ceiling (shown range sf first) (map (told range sf) items) in
+    let es : List Entry = entries_of_readings range ceiling (shown range sf first) (map (reported range sf) items) in
     let verdict = verdict_next range ceiling sf first b items es _ before.booked one.0 in
     record {
       booked = rw verdict (next range ceiling sf first b items es pos run.1 before.booked one.1);

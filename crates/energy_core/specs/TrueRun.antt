@@ -22,8 +22,8 @@ abbrev pub shown : (range : ℕ) → ℤ → Item → Last
 shown range sf item = record { at = item.at; raw = item.count % range; sf = sf }
 
 -- The reading of the meter at a true count: the count modulo the counter's range.
-abbrev pub told : (range : ℕ) → ℤ → Item → Reading
-told range sf item = record { at = item.at; raw = item.count % range; sf = sf }
+abbrev pub reported : (range : ℕ) → ℤ → Item → Reading
+reported range sf item = record { at = item.at; raw = item.count % range; sf = sf }
 
 -- The latest item of a true run. For an empty list, it is the item at the opening.
 abbrev pub newest : Item → List Item → Item
@@ -54,7 +54,7 @@ IsReadOftenEnough range ceiling sf first (b ∷ items) =
     let a = newest first items in
     let terms : Terms = record { ceiling = ceiling; total = advance sf first a } in
     ((c : Cause) → c ≢ cause.TooFast → c ≢ cause.NotBelowRange
-    → applies range terms (shown range sf a) (told range sf b) c ≡ false)
+    → applies range terms (shown range sf a) (reported range sf b) c ≡ false)
     × IsReadOftenEnough range ceiling sf first items
 
 -- The true steps of a run, one between each two consecutive items. The latest step comes first.
@@ -68,12 +68,12 @@ true_steps sf first (b ∷ items) =
 -- energy between its times, and the total energy is the true energy since the opening.
 pub record IsBookedTruly (range ceiling : ℕ) (sf : ℤ) (first : Item) (items : List Item) : Type 0
   where
-    pub accepted : AllAccepted range ceiling (shown range sf first) (map (told range sf) items)
+    pub accepted : AllAccepted range ceiling (shown range sf first) (map (reported range sf) items)
     pub steps : steps_of range (shown range sf first)
-        (entries_of_readings range ceiling (shown range sf first) (map (told range sf) items))
+        (entries_of_readings range ceiling (shown range sf first) (map (reported range sf) items))
         ≡ true_steps sf first items
     pub energy : whole_energy range (shown range sf first)
-        (entries_of_readings range ceiling (shown range sf first) (map (told range sf) items))
+        (entries_of_readings range ceiling (shown range sf first) (map (reported range sf) items))
         ≡ advance sf first (newest first items)
 
 -- Theorem: a true run that is polled often enough is recorded truly, however often the counter

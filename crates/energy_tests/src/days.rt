@@ -10,7 +10,7 @@ pub const CENTRAL_EUROPE: &str = "CET-1CEST,M3.5.0,M10.5.0/3";
 const EASTERN: &str = "EST5EDT,M3.2.0,M11.1.0";
 
 /// An expected civil day, the number of its intervals, and their energy in mWh.
-struct Told {
+struct Reported {
     year: i16,
     month: i8,
     day: i8,
@@ -18,9 +18,9 @@ struct Told {
     mwh: u128,
 }
 
-macro_rules! told {
+macro_rules! reported {
     ($year:expr, $month:expr, $day:expr, $count:expr, $mwh:expr) => {
-        Told {
+        Reported {
             year: $year,
             month: $month,
             day: $day,
@@ -33,7 +33,7 @@ macro_rules! told {
 struct Case {
     zone: &'static str,
     step: Step,
-    days: &'static [Told],
+    days: &'static [Reported],
 }
 
 static CASES: [Case; 7] = [
@@ -42,40 +42,43 @@ static CASES: [Case; 7] = [
     Case {
         zone: CENTRAL_EUROPE,
         step: step!(1_711_839_600, 1_711_922_400, 920_000),
-        days: &[told!(2024, 3, 31, 92, 920_000)],
+        days: &[reported!(2024, 3, 31, 92, 920_000)],
     },
     Case {
         zone: CENTRAL_EUROPE,
         step: step!(1_729_980_000, 1_730_070_000, 1_000_000),
-        days: &[told!(2024, 10, 27, 100, 1_000_000)],
+        days: &[reported!(2024, 10, 27, 100, 1_000_000)],
     },
     // A change that sets the clocks back over midnight.
     Case {
         zone: "AAA0BBB,M3.2.0/0:30,M11.1.0/0:30",
         step: step!(1_730_587_500, 1_730_592_900, 60_000),
-        days: &[told!(2024, 11, 2, 3, 30_000), told!(2024, 11, 3, 3, 30_000)],
+        days: &[
+            reported!(2024, 11, 2, 3, 30_000),
+            reported!(2024, 11, 3, 3, 30_000),
+        ],
     },
     Case {
         zone: EASTERN,
         step: step!(1_710_046_800, 1_710_129_600, 92),
-        days: &[told!(2024, 3, 10, 92, 92)],
+        days: &[reported!(2024, 3, 10, 92, 92)],
     },
     Case {
         zone: EASTERN,
         step: step!(1_730_606_400, 1_730_696_400, 100),
-        days: &[told!(2024, 11, 3, 100, 100)],
+        days: &[reported!(2024, 11, 3, 100, 100)],
     },
     Case {
         zone: "<+0545>-5:45",
         step: step!(1_704_046_500, 1_704_132_900, 96),
-        days: &[told!(2024, 1, 1, 96, 96)],
+        days: &[reported!(2024, 1, 1, 96, 96)],
     },
     Case {
         zone: "UTC0",
         step: step!(0, 172_800, 4_000_000_000_000_000_000),
         days: &[
-            told!(1970, 1, 1, 96, 2_000_000_000_000_000_000),
-            told!(1970, 1, 2, 96, 2_000_000_000_000_000_000),
+            reported!(1970, 1, 1, 96, 2_000_000_000_000_000_000),
+            reported!(1970, 1, 2, 96, 2_000_000_000_000_000_000),
         ],
     },
 ];
@@ -97,22 +100,22 @@ fn folded(
     Ok(fold)
 }
 
-fn is_reported(total: &DayTotal, told: &Told) -> bool {
+fn is_reported(total: &DayTotal, reported: &Reported) -> bool {
     let day = total.day;
-    day.year() == told.year
-        && day.month() == told.month
-        && day.day() == told.day
-        && total.count == told.count
-        && total.mwh == told.mwh
+    day.year() == reported.year
+        && day.month() == reported.month
+        && day.day() == reported.day
+        && total.count == reported.count
+        && total.mwh == reported.mwh
 }
 
 /// Returns whether day totals equal the expected days.
-fn are_reported(totals: &[DayTotal], days: &[Told]) -> bool {
+fn are_reported(totals: &[DayTotal], days: &[Reported]) -> bool {
     totals.len() == days.len()
         && totals
             .iter()
             .zip(days)
-            .all(|(total, told)| is_reported(total, told))
+            .all(|(total, reported)| is_reported(total, reported))
 }
 
 /// Returns whether rows add up to the expected days. The function checks a fold, a clone of the
@@ -122,7 +125,7 @@ fn folds_to(
     alloc: Global,
     rows: &[Share],
     zone: &Zone,
-    days: &[Told],
+    days: &[Reported],
 ) -> Result<bool, DayFault> {
     let fold = folded(rt, alloc, rows, zone)?;
     let copy = fold.clone()?;
@@ -154,7 +157,7 @@ static ROWS: [Share; 5] = [
     share!(3600, 5_000),
 ];
 
-static FOUR_INTERVALS: [Told; 1] = [told!(1970, 1, 1, 4, 345_000)];
+static FOUR_INTERVALS: [Reported; 1] = [reported!(1970, 1, 1, 4, 345_000)];
 
 /// Checks that a quarter hour with two rows counts once.
 #[test]
@@ -165,7 +168,7 @@ fn an_interval_with_two_rows_counts_once(rt: HostRuntime) {
 
 static ONE_ROW: [Share; 1] = [share!(1_711_839_600, 7)];
 
-static ONE_INTERVAL: [Told; 1] = [told!(2024, 3, 31, 1, 7)];
+static ONE_INTERVAL: [Reported; 1] = [reported!(2024, 3, 31, 1, 7)];
 
 /// Checks that `by_day` adds up rows by civil day, and that an empty list of rows has no days.
 #[test]

@@ -111,8 +111,8 @@ fn seal_in(rt: &HostRuntime, file: &str) -> io::Result<Option<Vec<u8>>> {
     Ok(Some(bytes))
 }
 
-fn ended(told: Result<bool, Failure<'_>>) -> Ending<'_> {
-    match told {
+fn ended(reported: Result<bool, Failure<'_>>) -> Ending<'_> {
+    match reported {
         Ok(true) => Ending::Fine,
         Ok(false) => Ending::Refused,
         Err(failure) => Ending::Failed(failure),
@@ -146,7 +146,7 @@ fn audit_against<'a, D: Databases>(
                 ..
             },
         ) => Ending::NoSeal(file),
-        told => ended(told),
+        reported => ended(reported),
     }
 }
 

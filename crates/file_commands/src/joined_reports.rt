@@ -3,7 +3,7 @@ use crate::carries::say_refused;
 use crate::escaped::Escaped;
 use crate::files::{OfficeFiles, Opening};
 use crate::forms::{form_of, range_of, statement_of};
-use crate::opening::open_telling;
+use crate::opening::open_reporting;
 use carried_books::{
     Apart, JoinedFiles, JoinedStatement, Keeping, Unjoined, report_joined, state_joined,
 };
@@ -137,7 +137,7 @@ pub(crate) fn join_in<'a, D: Databases, K: Keeping, E: Write>(
     is_new: bool,
     errors: &mut E,
 ) -> Result<JoinedOffice<K>, NotJoined<'a>> {
-    match open_telling(rt, databases, path, is_new, errors) {
+    match open_reporting(rt, databases, path, is_new, errors) {
         Ok(connection) => match join_stored(rt.alloc(), connection, joined, register, *range) {
             Ok(joined) => Ok(joined),
             Err(fault) => Err(not_joined(errors, before, path, fault)),

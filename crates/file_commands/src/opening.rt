@@ -39,12 +39,12 @@ pub fn open_in<'a, D: Databases>(
     path: &'a str,
 ) -> Result<Connection<D::Store>, Failure<'a>> {
     let mut errors = Escaped::new(rt.stderr());
-    open_telling(rt, databases, path, false, &mut errors)
+    open_reporting(rt, databases, path, false, &mut errors)
 }
 
 /// Opens the database of an office like [`open_in`], but writes reports to `errors`. If the file is
 /// new, does not report that its log is missing.
-pub(crate) fn open_telling<'a, D: Databases, E: Write>(
+pub(crate) fn open_reporting<'a, D: Databases, E: Write>(
     rt: &HostRuntime,
     databases: &D,
     path: &'a str,

@@ -39,8 +39,10 @@ pub(crate) fn rule_of_name(rt: &HostRuntime, name: &str) -> io::Result<Option<St
         return Ok(None);
     }
     let path = format!(in rt.alloc(); "{FOLDER}/{name}")?;
-    let Ok(content) = fs::read(rt, path.as_str()) else {
-        return Ok(None);
+    let content = match fs::read(rt, path.as_str()) {
+        Ok(content) => content,
+        Err(fault) if fault.kind() == io::ErrorKind::OutOfMemory => return Err(fault),
+        Err(_) => return Ok(None),
     };
     match last_rule(&content) {
         Some(rule) if Zone::read(rule).is_ok() => Ok(Some(String::from_str(rt.alloc(), rule)?)),

@@ -55,8 +55,8 @@ pub(crate) fn run(
             ),
         },
     }
-    let told = for_browsers(alloc, &NAMES, request, &reply)?;
-    printed.extend_from_slice(&told)
+    let reported = for_browsers(alloc, &NAMES, request, &reply)?;
+    printed.extend_from_slice(&reported)
 }
 
 // Appends the response of a route of `sunreg run`. All counts of events are 0, and there are no

@@ -42,10 +42,10 @@ negative_is_refused : reply_bytes (fault_said Negative)
 unfolding digits
 negative_is_refused = refl
 
-faulty_rows_are_told : reply_bytes (fault_said (Faulty (record { row = 2; fault = fault_of.Address } ∷ record { row = 3; fault = fault_of.Name } ∷ [])))
+faulty_rows_are_reported : reply_bytes (fault_said (Faulty (record { row = 2; fault = fault_of.Address } ∷ record { row = 3; fault = fault_of.Name } ∷ [])))
     ≡ codes "HTTP/1.1 422 Unprocessable Content\r\nContent-Type: application/json\r\nContent-Length: 24\r\nConnection: close\r\n\r\n{\"faults\":[[2,7],[3,3]]}"
 unfolding digits
-faulty_rows_are_told = refl
+faulty_rows_are_reported = refl
 
 abbrev asks : List ℕ → List ℕ → Start
 asks method target = record { method = method; target = target; headers = [] }
@@ -65,10 +65,10 @@ no_length : reply_bytes (reply_of office routes (asks (codes "POST") (codes "/de
 unfolding digits matchit_on_literals
 no_length = refl
 
-intervals_are_told : reply_bytes (reply_of office routes (asks (codes "GET") (codes "/meters/m1/intervals")) [] (Err Malformed))
+intervals_are_reported : reply_bytes (reply_of office routes (asks (codes "GET") (codes "/meters/m1/intervals")) [] (Err Malformed))
     ≡ codes "HTTP/1.1 200 OK\r\nContent-Type: text/plain\r\nConnection: close\r\n\r\n900 177777\n1800 22223\nend 2\n"
 unfolding digits matchit_on_literals
-intervals_are_told = refl
+intervals_are_reported = refl
 
 request_is_kept : kept_request (codes "POST") (codes "/devices") (codes "{}") ≡ codes "POST /devices\n{}"
 request_is_kept = refl
@@ -87,7 +87,7 @@ row = record {
   ended = false;
 }
 
-meter_is_told : meter_text row
+meter_is_reported : meter_text row
     ≡ codes "{\"at\":1900,\"ended\":false,\"last\":5200,\"meter\":\"m1\",\"range\":4294967296,\"register\":\"main\",\"sf\":0,\"total\":\"200000\"}"
 unfolding digits
-meter_is_told = refl
+meter_is_reported = refl

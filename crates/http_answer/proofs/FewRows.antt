@@ -61,5 +61,5 @@ few_in [] h = few_no_header
 few_in (header ∷ rows) h = either_few (is_header header) (faults_below rows) no_header (few_below rows (omega arith)) few_no_header
 
 -- The faulty rows that the program reports for a point list are within the bounds of `AreFew`.
-pub told_few : (text : List ℕ) (told : List FaultyRow) → AreFaults (list_faults (rows_read text)) told → AreFew told
-told_few text told is = subst AreFew (sym is.0) (few_in (rows_read text) (omega (arith, length-take 514 (csv_rows text))))
+pub reported_few : (text : List ℕ) (reported : List FaultyRow) → AreFaults (list_faults (rows_read text)) reported → AreFew reported
+reported_few text reported is = subst AreFew (sym is.0) (few_in (rows_read text) (omega (arith, length-take 514 (csv_rows text))))

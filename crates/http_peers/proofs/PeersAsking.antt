@@ -23,7 +23,7 @@ use Rattle.office_http.specs.Serving.{Lasts, with_asked}
 use Rattle.office_rules.specs.History.{History}
 use Rattle.run_http.specs.Answer.{Asks}
 use Rattle.run_http.specs.MeterReplies.{RepliesRows}
-use Rattle.run_http.specs.Pieces.{BeginsReply, TellsOn}
+use Rattle.run_http.specs.Pieces.{BeginsReply, ReportsOn}
 use Rattle.run_http.specs.RegisterReplies.{RepliesEnergy}
 use Rattle.run_http.specs.SiteReply.{RepliesSite}
 use Rattle.run_http.specs.StatusRoute.{IsFor, IsRunRoute}
@@ -149,6 +149,6 @@ pub asks_begun : {B E : Type 0} (names : List (List ℕ)) (ledger : B → Ledger
     → PeersAsk names at ledger old new
 asks_begun names ledger at old new it from till reply put result begins = only_asks names ledger at old new begins.answer begins.asks
 
-pub asks_told : {B E : Type 0} (names : List (List ℕ)) (ledger : B → Ledger) (at : ℕ) (old new : Office B) (left later : RemainingRows) (seconds : ℕ)
-    (from to : List ℕ) (result : Result (Result (Unit {0}) Refusal) E) → TellsOn ledger old new left later seconds from to result → PeersAsk names at ledger old new
-asks_told names ledger at old new left later seconds from to result tells = only_asks names ledger at old new tells.answer tells.asks
+pub asks_reported : {B E : Type 0} (names : List (List ℕ)) (ledger : B → Ledger) (at : ℕ) (old new : Office B) (left later : RemainingRows) (seconds : ℕ)
+    (from to : List ℕ) (result : Result (Result (Unit {0}) Refusal) E) → ReportsOn ledger old new left later seconds from to result → PeersAsk names at ledger old new
+asks_reported names ledger at old new left later seconds from to result reports = only_asks names ledger at old new reports.answer reports.asks

@@ -41,10 +41,10 @@ ReportsOver zone facts files register form before after (Err why) text =
 
 -- The reported days are the sums of the energy in the current file and in the earlier files. The
 -- sums are exact if the total energy in mWh fits in 128 bits.
-abbrev pub TellsReportOver : {B : Type 0} → (B → Ledger) → (old new : Office B) → Zone
+abbrev pub ReportsReportOver : {B : Type 0} → (B → Ledger) → (old new : Office B) → Zone
     → (earlier : EarlierDays) → (register : List ℕ) → ReportForm → Result (Unit {0}) Refusal
     → (text : List ℕ) → Type 0
-TellsReportOver ledger old new zone earlier register form answer text =
+ReportsReportOver ledger old new zone earlier register form answer text =
     After ledger old new (λ past. (files : List (List Fact))
     → AreSumOf zone (rows_over register files) earlier
     → HasNumber (rows_over register (facts_of past ∷ files))
@@ -58,9 +58,9 @@ pub record AsksEnergyOver {B : Type 0} (ledger : B → Ledger) (old new : Office
   pub answer : Result (Unit {0}) Refusal
   pub report : List ℕ
   pub asks : OnlyAsks ledger old new answer
-  pub gives : IfOk result (λ told. told ≡ answer)
-  pub tells : OnOk result
-      (TellsReportOver ledger old new zone earlier register form answer report)
+  pub gives : IfOk result (λ reported. reported ≡ answer)
+  pub reports : OnOk result
+      (ReportsReportOver ledger old new zone earlier register form answer report)
   pub puts : OnOk result (OnOk answer (holds ≡ had ++ report))
 
 -- The call queries the store once, and appends the response with the energy report or the refusal,
@@ -71,6 +71,6 @@ pub record RepliesEnergyOver {B : Type 0} (ledger : B → Ledger) (old new : Off
   pub answer : Result (Unit {0}) Refusal
   pub report : List ℕ
   pub asks : OnlyAsks ledger old new answer
-  pub tells : OnOk result
-      (TellsReportOver ledger old new zone earlier register form answer report)
+  pub reports : OnOk result
+      (ReportsReportOver ledger old new zone earlier register form answer report)
   pub puts : OnOk result (to ≡ with_energy_reply answer report from)

@@ -20,9 +20,9 @@ use Rattle.run_http.specs.declared.texts.site.SiteLine.{SiteLine}
 abbrev pub line_of : Register → Option LatestMeter → SiteLine
 line_of register None =
     record { row = record { register = register; meter = None }; earlier = None }
-line_of register (Some told) = record {
-  row = record { register = register; meter = Some told.meter };
-  earlier = told.earlier;
+line_of register (Some reported) = record {
+  row = record { register = register; meter = Some reported.meter };
+  earlier = reported.earlier;
 }
 
 -- The line of an accounting register with the latest of its meters in the current and earlier
@@ -36,12 +36,12 @@ abbrev pub line_over : List EarlierRegister → SiteRow → SiteLine
 line_over earlier row = line_after (earlier_meters earlier row.register.name) row
 
 -- The lines of all accounting registers, or the program's refusal of the query.
-abbrev pub IsTold : List EarlierRegister → Result (Vec SiteRow Global) Refusal
+abbrev pub IsReported : List EarlierRegister → Result (Vec SiteRow Global) Refusal
     → Result (Vec SiteLine Global) Refusal → Type 0
-IsTold earlier (Ok rows) (Ok lines) = lines.items ≡ map (line_over earlier) rows.items
-IsTold earlier (Ok rows) (Err why) = ⊥
-IsTold earlier (Err why) (Ok lines) = ⊥
-IsTold earlier (Err why) (Err told) = told ≡ why
+IsReported earlier (Ok rows) (Ok lines) = lines.items ≡ map (line_over earlier) rows.items
+IsReported earlier (Ok rows) (Err why) = ⊥
+IsReported earlier (Err why) (Ok lines) = ⊥
+IsReported earlier (Err why) (Err reported) = reported ≡ why
 
 -- The response of `/site` with the accounting registers, or with the program's refusal of the
 -- query.

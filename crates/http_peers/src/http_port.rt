@@ -12,7 +12,7 @@ use crate::route_answers::{
     answer_days, answer_entries, answer_meters, answer_metrics, answer_site, answer_status,
     answer_voids,
 };
-use crate::run_told::{RunSystem, RunTold};
+use crate::run_reported::{RunReported, RunSystem};
 use crate::slots::{
     empty_slots, has_rows_left, held_bytes, is_attended, is_done, is_ready, open_slots,
     record_state,
@@ -265,7 +265,7 @@ impl HttpPort {
         names: &[&str],
         request: &[u8],
         office: &mut Office<B>,
-        told: &RunTold<'_>,
+        reported: &RunReported<'_>,
         now: Now,
         rows: &mut Option<RemainingRows>,
     ) -> ClientResponse
@@ -273,21 +273,30 @@ impl HttpPort {
     {
         let alloc = self.alloc;
         match run_route(names, request) {
-            Some(RunRoute::Own(route)) => answer_status(alloc, route, told),
-            Some(RunRoute::Metrics) => answer_metrics(alloc, office, told),
-            Some(RunRoute::Site) => answer_site(alloc, office, told.earlier.registers, now.moment),
+            Some(RunRoute::Own(route)) => answer_status(alloc, route, reported),
+            Some(RunRoute::Metrics) => answer_metrics(alloc, office, reported),
+            Some(RunRoute::Site) => answer_site(
+                alloc,
+                office,
+                reported.earlier.registers,
+                now.moment,
+            ),
             Some(RunRoute::Intervals { meter, span }) => {
                 answer_span(alloc, office, &meter, span, rows)
             }
             Some(RunRoute::Entries { meter, from }) => answer_entries(alloc, office, &meter, from),
             Some(RunRoute::Voids { meter }) => answer_voids(alloc, office, &meter),
             Some(RunRoute::Energy { register, form }) => {
-                answer_days(alloc, office, told.earlier, &register, &form)
+                answer_days(alloc, office, reported.earlier, &register, &form)
             }
             Some(RunRoute::Meters { register }) => answer_meters(alloc, office, &register),
             None => {
                 if self.room.rejects(request, self.is_lost) {
-                    return answer_status(alloc, StatusRoute::Rejected(Status::Unavailable), told);
+                    return answer_status(
+                        alloc,
+                        StatusRoute::Rejected(Status::Unavailable),
+                        reported,
+                    );
                 }
                 match begin_all(alloc, &self.router, request, office, rows) {
                     Some(begun) => begun,
@@ -305,7 +314,7 @@ impl HttpPort {
         names: &[&str],
         request: &[u8],
         office: &mut Office<B>,
-        told: &RunTold<'_>,
+        reported: &RunReported<'_>,
         now: Now,
         rows: &mut Option<RemainingRows>,
     ) -> ClientResponse
@@ -314,7 +323,7 @@ impl HttpPort {
         if let Some(reply) = self.repeats.again(self.alloc, request) {
             return ClientResponse::Replied(reply);
         }
-        let asked = self.reply(names, request, office, told, now, rows);
+        let asked = self.reply(names, request, office, reported, now, rows);
         self.keep_reply(names, request, &asked);
         asked
     }
@@ -343,7 +352,7 @@ impl HttpPort {
             ClientResponse::Replied(reply) => match for_browsers(
                 self.alloc, names, request, &reply,
             ) {
-                Ok(told) => ClientResponse::Replied(told),
+                Ok(reported) => ClientResponse::Replied(reported),
                 Err(_) => ClientResponse::Failed,
             },
             ClientResponse::Open => ClientResponse::Open,
@@ -423,7 +432,7 @@ impl HttpPort {
         rt: &R,
         request: &[u8],
         asked: ClientResponse,
-        told: &RunTold<'_>,
+        reported: &RunReported<'_>,
     ) -> ClientResponse
         ensures { (result ≡ asked) ⊎ (self.new.is_lost ≡ true) }
     {
@@ -431,7 +440,11 @@ impl HttpPort {
             return asked;
         }
         self.lose_files();
-        answer_status(self.alloc, StatusRoute::Rejected(Status::Unavailable), told)
+        answer_status(
+            self.alloc,
+            StatusRoute::Rejected(Status::Unavailable),
+            reported,
+        )
     }
 
     // Makes the response to the complete request of a client.
@@ -442,15 +455,15 @@ impl HttpPort {
         client: &mut Client,
         names: &[&str],
         office: &mut Office<B>,
-        told: &RunTold<'_>,
+        reported: &RunReported<'_>,
         now: Now,
     )
         ensures { PeersAsk (texts names.now) now.moment B.ledger office.old office.new }
     {
         let begun = even_milliseconds(rt);
         let mut rows = None;
-        let asked = self.reply_again(names, &client.request, office, told, now, &mut rows);
-        let asked = self.confirmed(rt, &client.request, asked, told);
+        let asked = self.reply_again(names, &client.request, office, reported, now, &mut rows);
+        let asked = self.confirmed(rt, &client.request, asked, reported);
         let took = even_milliseconds(rt).saturating_sub(begun);
         self.count_reply(slot, &client.request, &asked, took);
         self.keep_first(slot, rows.is_some());
@@ -513,13 +526,13 @@ impl HttpPort {
         client: &mut Client,
         names: &[&str],
         office: &mut Office<B>,
-        told: &RunTold<'_>,
+        reported: &RunReported<'_>,
         now: Now,
     )
         ensures { PeersAsk (texts names.now) now.moment B.ledger office.old office.new }
     {
         if client.read_request(&self.router) {
-            self.answer_request(rt, slot, client, names, office, told, now);
+            self.answer_request(rt, slot, client, names, office, reported, now);
             return;
         }
         self.send_pieces(rt, slot, client, office, now);
@@ -534,7 +547,7 @@ impl HttpPort {
         slot: usize,
         names: &[&str],
         office: &mut Office<B>,
-        told: &RunTold<'_>,
+        reported: &RunReported<'_>,
         now: Now,
     )
         ensures { PeersAsk (texts names.now) now.moment B.ledger office.old office.new }
@@ -542,7 +555,7 @@ impl HttpPort {
         let Some(mut client) = self.take_ready(slot) else {
             return;
         };
-        self.serve_client(rt, slot, &mut client, names, office, told, now);
+        self.serve_client(rt, slot, &mut client, names, office, reported, now);
         self.return_client(slot, client, now.time);
     }
 }

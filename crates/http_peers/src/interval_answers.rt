@@ -120,7 +120,7 @@ pub(crate) fn begin_all<B: Books>(
 
 /// Appends the next chunk of a response or the end of the response, and returns whether it was the
 /// end. Returns `None` if the store failed or memory ran out.
-#[tactic(auto, using(crate::proofs::PeersAsking::nobody_asks, crate::proofs::PeersAsking::asks_told))]
+#[tactic(auto, using(crate::proofs::PeersAsking::nobody_asks, crate::proofs::PeersAsking::asks_reported))]
 pub(crate) fn append_piece<B: Books>(
     alloc: Global,
     text: &mut Vec<u8>,

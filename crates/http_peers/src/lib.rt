@@ -11,7 +11,7 @@ mod moments;
 mod outbox;
 mod repeats;
 mod route_answers;
-mod run_told;
+mod run_reported;
 mod site_over;
 mod slots;
 
@@ -20,5 +20,5 @@ pub use http_port::{HttpPort, PORT_TOKEN};
 pub use kept_room::KeptRoom;
 pub use moments::{Now, even_milliseconds};
 pub use outbox::{Outbox, Went, went_by};
-pub use run_told::{RunSystem, RunTold};
+pub use run_reported::{RunReported, RunSystem};
 pub use site_over::reply_site_over;

@@ -3,7 +3,7 @@ ghost use Rattle.std.specs.Prelude.{ℕ, List};
 ghost use Rattle.http_peers.specs.PeersAsk.{PeersAsk};
 
 use crate::energy_over::{EarlierFiles, place_among, reply_energy_over};
-use crate::run_told::RunTold;
+use crate::run_reported::RunReported;
 use crate::site_over::reply_site_over;
 use carried_books::EarlierRegister;
 use energy_report::ReportForm;
@@ -21,17 +21,17 @@ use std::alloc::Global;
 pub(crate) fn answer_status(
     alloc: Global,
     route: StatusRoute,
-    told: &RunTold<'_>,
+    reported: &RunReported<'_>,
 ) -> ClientResponse {
     let mut text = Vec::new(alloc);
-    let monitor = told.monitor;
+    let monitor = reported.monitor;
     match reply_status(
         alloc,
         &mut text,
         route,
         &monitor.counts,
         &monitor.states,
-        told.lacks,
+        reported.lacks,
     ) {
         Ok(()) => ClientResponse::Replied(text),
         Err(_) => ClientResponse::Failed,
@@ -44,12 +44,12 @@ pub(crate) fn answer_status(
 pub(crate) fn answer_metrics<B: Books>(
     alloc: Global,
     office: &mut Office<B>,
-    told: &RunTold<'_>,
+    reported: &RunReported<'_>,
 ) -> ClientResponse
     ensures { (names : List (List ℕ)) (at : ℕ) → PeersAsk names at B.ledger office.old office.new }
 {
     let mut text = Vec::new(alloc);
-    let monitor = told.monitor;
+    let monitor = reported.monitor;
     match reply_metrics(alloc, &mut text, office, &monitor.counts, &monitor.states) {
         Ok(()) => ClientResponse::Replied(text),
         Err(_) => ClientResponse::Failed,

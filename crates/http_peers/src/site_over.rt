@@ -16,12 +16,12 @@ fn line_after(earlier: &[Installation], row: &SiteRow) -> SiteLine
     ensures { result ≡ site.line_after earlier.now row.now }
 {
     match latest_meter(earlier, &row.meter) {
-        Some(told) => SiteLine {
+        Some(reported) => SiteLine {
             row: SiteRow {
                 register: row.register,
-                meter: Some(told.meter),
+                meter: Some(reported.meter),
             },
-            earlier: told.earlier,
+            earlier: reported.earlier,
         },
         None => SiteLine {
             row: *row,
@@ -53,7 +53,7 @@ fn current_part(
     earlier: &[EarlierRegister],
     answer: &Result<Vec<SiteRow>, Refusal>,
 ) -> Result<Result<Vec<SiteLine>, Refusal>, AllocError>
-    ensures { IfOk result (site.IsTold earlier.now answer.now) }
+    ensures { IfOk result (site.IsReported earlier.now answer.now) }
 {
     match answer {
         Ok(rows) => {
@@ -75,8 +75,8 @@ fn append_answer(
     ensures { OnOk result (text.new.items
         ≡ site.with_site_over earlier.now moment answer.now text.old.items) }
 {
-    let told = current_part(alloc, earlier, answer)?;
-    write_site_reply(alloc, text, moment, &told)
+    let reported = current_part(alloc, earlier, answer)?;
+    write_site_reply(alloc, text, moment, &reported)
 }
 
 /// Appends the response of `/site`: each accounting register with its latest meter in the current

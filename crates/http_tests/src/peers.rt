@@ -2,7 +2,7 @@
 use crate::connections::{REQUEST, Stepping, client_of, energy_of_ended};
 use crate::office::{metered, utc};
 use http_peers::{
-    EarlierFiles, HttpPort, KeptRoom, Now, Outbox, PORT_TOKEN, RunSystem, RunTold, Went,
+    EarlierFiles, HttpPort, KeptRoom, Now, Outbox, PORT_TOKEN, RunReported, RunSystem, Went,
     even_milliseconds, went_by,
 };
 use memory_books::ListBooks;
@@ -92,14 +92,14 @@ impl Listening {
         self.port.accept(self.poll.registry(), time);
         let first = self.port.first();
         for step in 0..MOST_CLIENTS {
-            let told = RunTold {
+            let reported = RunReported {
                 monitor: &self.monitor,
                 lacks: &[],
                 earlier: &*earlier,
             };
             let place = place_at(first, step);
             self.port
-                .attend(&self.system, place, &[], office, &told, now);
+                .attend(&self.system, place, &[], office, &reported, now);
         }
         self.port.sweep(time);
     }

@@ -10,12 +10,12 @@ use sun_points::{Point, Scale, Text, write_scaled};
 // right error if the text is longer.
 fn is_cut(output: &Narrow, outcome: io::Result<()>, room: usize, text: &str) -> bool {
     let all = text.as_bytes();
-    let told = match outcome {
+    let reported = match outcome {
         Ok(()) => room >= all.len(),
         Err(error) if output.fails => room < all.len() && error.kind() == ErrorKind::StorageFull,
         Err(error) => room < all.len() && error.kind() == ErrorKind::WriteZero,
     };
-    told && output.taken.as_slice() == &all[..room.min(all.len())]
+    reported && output.taken.as_slice() == &all[..room.min(all.len())]
 }
 
 fn cut_value(rt: &impl Abort, alloc: Global, room: usize, fails: bool) -> bool {

@@ -171,8 +171,8 @@ fn assert_read(
     link.given().to_vec(alloc).expect(rt, "no memory")
 }
 
-// The second request may succeed after an exception response. A failure of the first write, the
-// second write or the first read is a fault.
+// An exception response does not end the read: the counter is found by the second request. If the
+// connection fails at the first write, the second write or the first read, the result is a fault.
 #[test]
 fn words_may_come_after_an_exception(rt: HostRuntime) {
     let wanted = Ok(shown(Some((65538, -1))));

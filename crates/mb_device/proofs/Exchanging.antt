@@ -16,7 +16,7 @@ turn_exchanges buffered course turned old new standing turn =
       exchange = record { taken = turn.taken; given = sent_to course old.maps (own_frames (buffered ++ turn.taken)) };
       consumed = turn.consumed;
       given = turn.answered.given;
-      exchanges = record { given = refl; maps = turn.answered.maps; stands = turn.stands; is_open = turn.tells.0.is_open };
+      exchanges = record { given = refl; maps = turn.answered.maps; stands = turn.stands; is_open = turn.reports.0.is_open };
     }
 
 pub serving_exchanges : (buffered : List ℕ) (course : Course) (count : ℕ) (old new : Around) (standing : Standing) → Serves buffered course (Ok count) old new standing → ExchangesOver buffered course old new standing
@@ -25,7 +25,7 @@ serving_exchanges buffered course count old new standing serves =
       exchange = record { taken = serves.taken; given = sent_to course old.maps (own_frames (buffered ++ serves.taken)) };
       consumed = serves.consumed;
       given = serves.answered.given;
-      exchanges = record { given = refl; maps = serves.answered.maps; stands = serves.stands; is_open = serves.tells.0.is_open };
+      exchanges = record { given = refl; maps = serves.answered.maps; stands = serves.stands; is_open = serves.reports.0.is_open };
     }
 
 -- The buffered bytes of a server that is still serving.

@@ -6,7 +6,7 @@ use Rattle.std.proofs.lemmas.List.Concat.{flat_map-append}
 use Rattle.std.proofs.lemmas.List.Elements.{filter-append}
 use Rattle.std.proofs.lemmas.Bool.{cond-true, cond-false, eq-eqb, ne_eqb}
 use Rattle.mb_wire.specs.Frames.{span_of, IsFrame, IsOpen, IsBad, frames, rest}
-use Rattle.mb_wire.specs.Reader.{Buffered, TellsFraming, buffered_after}
+use Rattle.mb_wire.specs.Reader.{Buffered, ReportsFraming, buffered_after}
 use Rattle.mb_wire.specs.declared.frames.Framing.{Framing}
 use Rattle.mb_wire.specs.declared.frames.Framing.TheVariants.{Need, Whole, Foreign, Garbled}
 use Rattle.mb_wire.proofs.Readings.{AllByRecursion-append, Reads-is, Reads-only, span_of-append}
@@ -63,57 +63,57 @@ bad_alone b left bad =
     (ap (filter is_own) alone.0, subst IsBad (sym alone.1) still)
 
 -- The Modbus frame that a feed ended is the frame in the reader after the feed.
-told_frames : (what : Framing) (b : List ℕ) → TellsFraming what b → (own_frames b ≡ buffered_frames (buffered_after what b).frame) × (rest b ≡ (buffered_after what b).rest)
-told_frames Need b tells = open_alone b tells
-told_frames Whole b tells =
-    let alone = frame_alone b tells.0 in
-    (ap (filter is_own) alone.0 ∙ cond-true _ _ _ (eq-eqb _ _ tells.1), alone.1)
-told_frames Foreign b tells =
-    let alone = frame_alone b tells.0 in
-    (ap (filter is_own) alone.0 ∙ cond-false _ _ _ (ne_eqb _ _ tells.1), alone.1)
-told_frames Garbled b tells = let alone = rest_alone b (inr tells.0) in (ap (filter is_own) alone.0, alone.1)
+reported_frames : (what : Framing) (b : List ℕ) → ReportsFraming what b → (own_frames b ≡ buffered_frames (buffered_after what b).frame) × (rest b ≡ (buffered_after what b).rest)
+reported_frames Need b reports = open_alone b reports
+reported_frames Whole b reports =
+    let alone = frame_alone b reports.0 in
+    (ap (filter is_own) alone.0 ∙ cond-true _ _ _ (eq-eqb _ _ reports.1), alone.1)
+reported_frames Foreign b reports =
+    let alone = frame_alone b reports.0 in
+    (ap (filter is_own) alone.0 ∙ cond-false _ _ _ (ne_eqb _ _ reports.1), alone.1)
+reported_frames Garbled b reports = let alone = rest_alone b (inr reports.0) in (ap (filter is_own) alone.0, alone.1)
 
 -- After a feed, the remaining frames of a chunk are those of the bytes that the feed did not
 -- consume.
-pub piece_frames : (what : Framing) (r piece : List ℕ) (taken : ℕ) (buffered : Buffered) → TellsFraming what (r ++ take taken piece) → buffered ≡ buffered_after what (r ++ take taken piece)
+pub piece_frames : (what : Framing) (r piece : List ℕ) (taken : ℕ) (buffered : Buffered) → ReportsFraming what (r ++ take taken piece) → buffered ≡ buffered_after what (r ++ take taken piece)
     → (own_frames (r ++ piece) ≡ buffered_frames buffered.frame ++ own_frames (buffered.rest ++ from taken piece)) × (rest (r ++ piece) ≡ rest (buffered.rest ++ from taken piece))
-piece_frames what r piece taken buffered tells is =
+piece_frames what r piece taken buffered reports is =
     let b = r ++ take taken piece in
     let left = from taken piece in
-    let told = told_frames what b tells in
+    let reported = reported_frames what b reports in
     let whole : r ++ piece ≡ b ++ left = ap (λ y. r ++ y) (sym (whole_again taken piece)) ∙ sym (append_assoc r (take taken piece) left) in
     let frame : buffered_frames (buffered_after what b).frame ≡ buffered_frames buffered.frame = ap (λ (h : Buffered). buffered_frames h.frame) (sym is) in
-    let stays : rest b ≡ buffered.rest = told.1 ∙ ap (λ (h : Buffered). h.rest) (sym is) in (
-      ap own_frames whole ∙ own_frames-then b left ∙ ap (λ y. y ++ own_frames (rest b ++ left)) (told.0 ∙ frame) ∙ ap (λ y. buffered_frames buffered.frame ++ own_frames (y ++ left)) stays,
+    let stays : rest b ≡ buffered.rest = reported.1 ∙ ap (λ (h : Buffered). h.rest) (sym is) in (
+      ap own_frames whole ∙ own_frames-then b left ∙ ap (λ y. y ++ own_frames (rest b ++ left)) (reported.0 ∙ frame) ∙ ap (λ y. buffered_frames buffered.frame ++ own_frames (y ++ left)) stays,
       ap rest whole ∙ (frames-then b left).1 ∙ ap (λ y. rest (y ++ left)) stays,
     )
 
 -- After a feed that consumes all of a chunk and ends no frame, the reader has buffered the stream's
 -- rest.
-pub need_piece : (what : Framing) (r piece : List ℕ) (taken : ℕ) (buffered : Buffered) → TellsFraming what (r ++ take taken piece) → buffered ≡ buffered_after what (r ++ take taken piece) → what ≡ Need → taken ≡ length piece
+pub need_piece : (what : Framing) (r piece : List ℕ) (taken : ℕ) (buffered : Buffered) → ReportsFraming what (r ++ take taken piece) → buffered ≡ buffered_after what (r ++ take taken piece) → what ≡ Need → taken ≡ length piece
     → (own_frames (r ++ piece) ≡ buffered_frames buffered.frame) × IsOpen (rest (r ++ piece)) × (buffered.rest ≡ rest (r ++ piece))
-need_piece what r piece taken buffered tells is need all =
+need_piece what r piece taken buffered reports is need all =
     let b = r ++ take taken piece in
     let whole : b ≡ r ++ piece = ap (λ y. r ++ y) (take_all taken piece (omega arith)) in
-    let told : TellsFraming Need b = subst (λ w. TellsFraming w b) need tells in
+    let reported : ReportsFraming Need b = subst (λ w. ReportsFraming w b) need reports in
     let is_need : buffered ≡ buffered_after Need b = is ∙ ap (λ w. buffered_after w b) need in
-    let alone = open_alone b told in
+    let alone = open_alone b reported in
     let nothing : buffered_frames buffered.frame ≡ [] = ap (λ (h : Buffered). buffered_frames h.frame) is_need in
     let stays : buffered.rest ≡ b = ap (λ (h : Buffered). h.rest) is_need in (
       ap own_frames (sym whole) ∙ alone.0 ∙ sym nothing,
-      subst (λ y. IsOpen (rest y)) whole (subst IsOpen (sym alone.1) told),
+      subst (λ y. IsOpen (rest y)) whole (subst IsOpen (sym alone.1) reported),
       stays ∙ sym alone.1 ∙ ap rest whole,
     )
 
 -- After a feed that ends at an invalid length field, the stream is garbled.
-pub garbled_piece : (what : Framing) (r piece : List ℕ) (taken : ℕ) (buffered : Buffered) → TellsFraming what (r ++ take taken piece) → buffered ≡ buffered_after what (r ++ take taken piece) → what ≡ Garbled
+pub garbled_piece : (what : Framing) (r piece : List ℕ) (taken : ℕ) (buffered : Buffered) → ReportsFraming what (r ++ take taken piece) → buffered ≡ buffered_after what (r ++ take taken piece) → what ≡ Garbled
     → (own_frames (r ++ piece) ≡ buffered_frames buffered.frame) × IsBad (rest (r ++ piece))
-garbled_piece what r piece taken buffered tells is garbled =
+garbled_piece what r piece taken buffered reports is garbled =
     let b = r ++ take taken piece in
     let whole : b ++ from taken piece ≡ r ++ piece = append_assoc r (take taken piece) (from taken piece) ∙ ap (λ y. r ++ y) (whole_again taken piece) in
-    let told : TellsFraming Garbled b = subst (λ w. TellsFraming w b) garbled tells in
+    let reported : ReportsFraming Garbled b = subst (λ w. ReportsFraming w b) garbled reports in
     let is_garbled : buffered ≡ buffered_after Garbled b = is ∙ ap (λ w. buffered_after w b) garbled in
-    let alone = bad_alone b (from taken piece) told.0 in
+    let alone = bad_alone b (from taken piece) reported.0 in
     let nothing : buffered_frames buffered.frame ≡ [] = ap (λ (h : Buffered). buffered_frames h.frame) is_garbled in (
       ap own_frames (sym whole) ∙ alone.0 ∙ sym nothing,
       subst (λ y. IsBad (rest y)) whole alone.1,

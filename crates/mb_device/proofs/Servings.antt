@@ -7,7 +7,7 @@ use Rattle.mb_wire.specs.Links.{risen}
 use Rattle.mb_wire.specs.declared.link.LastTake.{LastTake}
 use Rattle.mb_device.specs.Maps.{Maps}
 use Rattle.mb_device.specs.Tricks.{Course, Playing, CutOff, carried_out, is_cut}
-use Rattle.mb_device.specs.Server.{Answered, Around, Counts, ServeTells, Served, Serves, Standing, Faulted, Holds, Over, TellsTake, TurnTells, Turns, came_to_end, course_after_all, has_faulted, is_over, is_read_fault, is_serving, own_frames, served_to_end, standing_on, stretch}
+use Rattle.mb_device.specs.Server.{Answered, Around, Counts, ServeReports, Served, Serves, Standing, Faulted, Holds, Over, ReportsTake, TurnReports, Turns, came_to_end, course_after_all, has_faulted, is_over, is_read_fault, is_serving, own_frames, served_to_end, standing_on, stretch}
 use Rattle.mb_device.specs.declared.server.ServeFault.{ServeFault}
 use Rattle.mb_device.specs.declared.server.ServeFault.TheVariants as fault
 use Rattle.mb_device.specs.declared.server.Turned.{Turned}
@@ -65,7 +65,7 @@ Served-more buffered course count turned a b c before after so_far serving turns
       answered = AllAnswered-same course _ _ a c more.0 (all_then_all course left _ _ a b c so_far.answered dealt turn.answered);
       stands = turn.stands ∙ ap (λ r. standing_on r (course_after_all left b.maps (own_frames (rest bytes ++ turn.taken)))) (sym more.1) ∙ ap (standing_on (rest (buffered ++ (so_far.taken ++ turn.taken)))) (sym same);
       counts = subst (λ n. Counts (n + turned.answered) (stretch course a.maps (buffered ++ (so_far.taken ++ turn.taken)))) (sym counted)
-          (counts_then course left a.maps b.maps (own_frames bytes) (buffered ++ (so_far.taken ++ turn.taken)) (rest bytes ++ turn.taken) turned.answered dealt more.0 more.1 turn.tells.0);
+          (counts_then course left a.maps b.maps (own_frames bytes) (buffered ++ (so_far.taken ++ turn.taken)) (rest bytes ++ turn.taken) turned.answered dealt more.0 more.1 turn.reports.0);
     }
 
 -- `serve` ends if a turn found the end of the input or an injected fault closed the connection.
@@ -86,30 +86,30 @@ Serves-end buffered course count turned a b c before after so_far serving turns 
       consumed = all.consumed;
       answered = all.answered;
       stands = all.stands;
-      tells = (all.counts, λ going. (turn.tells.1.end (ap is_cut (sym same) ∙ going) ended).1);
+      reports = (all.counts, λ going. (turn.reports.1.end (ap is_cut (sym same) ∙ going) ended).1);
     }
 
 -- If the allowed turns are used up, the result `TurnsUsed` has the effects that `Serves` defines.
 pub Serves-used : (buffered : List ℕ) (course : Course) (count : ℕ) (a b : Around) (before : Standing) → Served buffered course count a b before → is_serving before ≡ true → Serves buffered course (Err fault.TurnsUsed) a b Faulted
 Serves-used buffered course count a b before so_far serving =
     let dealt = reached buffered course count a b before so_far serving in
-    record { taken = so_far.taken; consumed = so_far.consumed; answered = so_far.answered; stands = refl; tells = record { going = dealt.going; is_open = so_far.counts.is_open dealt.going } }
+    record { taken = so_far.taken; consumed = so_far.consumed; answered = so_far.answered; stands = refl; reports = record { going = dealt.going; is_open = so_far.counts.is_open dealt.going } }
 
-serve_tells_fault : (e : ServeFault) (buffered taken more : List ℕ) (course left : Course) (maps after : Maps) (remaining : Option (List ℕ)) → IsOpen (rest (buffered ++ taken)) → Dealt course maps (own_frames (buffered ++ taken)) left after
-    → TurnTells (Err e) (stretch left after (rest (buffered ++ taken) ++ more)) more remaining → ServeTells (Err e) (stretch course maps (buffered ++ (taken ++ more))) remaining
-serve_tells_fault fault.Read buffered taken more course left maps after remaining is_open dealt tells =
+serve_reports_fault : (e : ServeFault) (buffered taken more : List ℕ) (course left : Course) (maps after : Maps) (remaining : Option (List ℕ)) → IsOpen (rest (buffered ++ taken)) → Dealt course maps (own_frames (buffered ++ taken)) left after
+    → TurnReports (Err e) (stretch left after (rest (buffered ++ taken) ++ more)) more remaining → ServeReports (Err e) (stretch course maps (buffered ++ (taken ++ more))) remaining
+serve_reports_fault fault.Read buffered taken more course left maps after remaining is_open dealt reports =
     let none = nothing_taken (rest (buffered ++ taken)) is_open in
     let same = taken_more buffered taken more in
-    let nothing : own_frames (rest (buffered ++ taken) ++ more) ≡ [] = ap (λ m. own_frames (rest (buffered ++ taken) ++ m)) tells ∙ none.0 in
+    let nothing : own_frames (rest (buffered ++ taken) ++ more) ≡ [] = ap (λ m. own_frames (rest (buffered ++ taken) ++ m)) reports ∙ none.0 in
     let stays : course_after_all course maps (own_frames (buffered ++ (taken ++ more))) ≡ left =
     ap (course_after_all course maps) same.0 ∙ course_then course left maps after _ (own_frames (rest (buffered ++ taken) ++ more)) dealt ∙ ap (course_after_all left after) nothing in
-    let rests : rest (buffered ++ (taken ++ more)) ≡ rest (buffered ++ taken) = same.1 ∙ ap (λ m. rest (rest (buffered ++ taken) ++ m)) tells ∙ none.1 in
+    let rests : rest (buffered ++ (taken ++ more)) ≡ rest (buffered ++ taken) = same.1 ∙ ap (λ m. rest (rest (buffered ++ taken) ++ m)) reports ∙ none.1 in
     record { going = ap is_cut stays ∙ dealt.going; is_open = subst IsOpen (sym rests) is_open }
-serve_tells_fault fault.Write buffered taken more course left maps after remaining is_open dealt tells = tells
-serve_tells_fault fault.Garbled buffered taken more course left maps after remaining is_open dealt tells =
+serve_reports_fault fault.Write buffered taken more course left maps after remaining is_open dealt reports = reports
+serve_reports_fault fault.Garbled buffered taken more course left maps after remaining is_open dealt reports =
     let same = taken_more buffered taken more in
-    garbled_then course left maps after (own_frames (buffered ++ taken)) (buffered ++ (taken ++ more)) (rest (buffered ++ taken) ++ more) dealt same.0 same.1 tells
-serve_tells_fault fault.TurnsUsed buffered taken more course left maps after remaining is_open dealt tells = absurd tells
+    garbled_then course left maps after (own_frames (buffered ++ taken)) (buffered ++ (taken ++ more)) (rest (buffered ++ taken) ++ more) dealt same.0 same.1 reports
+serve_reports_fault fault.TurnsUsed buffered taken more course left maps after remaining is_open dealt reports = absurd reports
 
 -- `serve` returns the fault that its last turn returned.
 pub Serves-fault : (e : ServeFault) (buffered : List ℕ) (course : Course) (count : ℕ) (a b c : Around) (before after : Standing) → Served buffered course count a b before → is_serving before ≡ true
@@ -126,7 +126,7 @@ Serves-fault e buffered course count a b c before after so_far serving turns =
       consumed = Consumes-trans _ _ _ _ _ so_far.consumed turn.consumed;
       answered = subst (λ fs. Answered {X = ℕ} (Err e) course fs a c) (sym more.0) all;
       stands = turn.stands;
-      tells = serve_tells_fault e buffered so_far.taken turn.taken course left a.maps b.maps c.remaining (so_far.counts.is_open dealt.going) dealt turn.tells;
+      reports = serve_reports_fault e buffered so_far.taken turn.taken course left a.maps b.maps c.remaining (so_far.counts.is_open dealt.going) dealt turn.reports;
     }
 
 -- ---- a server that is still serving
@@ -154,18 +154,18 @@ pub turn_serves : (turned : Turned) (old new : Around) (before after : Standing)
 turn_serves turned old new before after serving turns no_end =
     let holds = buffered_by before serving in
     let turn = turns holds.0 holds.1 holds.2 in
-    let going = cut_or_not _ turned.ended turn.tells.1.cut no_end in
+    let going = cut_or_not _ turned.ended turn.reports.1.cut no_end in
     ap is_serving turn.stands ∙ standing_serves _ _ going
 
 no_end : (result : Result Turned ServeFault) (turned : Turned) (after : Standing) → result ≡ Ok turned → turned.ended ≡ false → came_to_end result after ≡ false
 no_end result turned after is going = ap (λ r. came_to_end r after) is ∙ ap (λ b. b && not (is_over after)) going
 
 -- The read of a turn that did not report the end found no end of the input.
-pub goes_on : (result : Result Turned ServeFault) (turned : Turned) (after : Standing) (last : Option LastTake) → TellsTake (came_to_end result after) (is_read_fault result) last → result ≡ Ok turned → turned.ended ≡ false → TellsTake false false last
-goes_on result turned after last tells is going =
+pub goes_on : (result : Result Turned ServeFault) (turned : Turned) (after : Standing) (last : Option LastTake) → ReportsTake (came_to_end result after) (is_read_fault result) last → result ≡ Ok turned → turned.ended ≡ false → ReportsTake false false last
+goes_on result turned after last reports is going =
     let first = no_end result turned after is going in
     let second : is_read_fault result ≡ false = ap is_read_fault is in
-    record { answer = tells.answer; taken = tells.taken; end = sym first ∙ tells.end; failure = sym second ∙ tells.failure }
+    record { answer = reports.answer; taken = reports.taken; end = sym first ∙ reports.end; failure = sym second ∙ reports.failure }
 
 -- A turn that did not report the end does not raise the count of ends.
 pub counts_no_end : (result : Result Turned ServeFault) (turned : Turned) (standing : Standing) (before after : ℕ) → after ≡ risen (came_to_end result standing) before → result ≡ Ok turned → turned.ended ≡ false → after ≡ before
@@ -180,4 +180,4 @@ pub turn_is_no_end : (e : ServeFault) (old new : Around) (before after : Standin
 turn_is_no_end e old new before after serving turns is =
     let holds = buffered_by before serving in
     let turn = turns holds.0 holds.1 holds.2 in
-    subst (λ x. TurnTells (Err x) (stretch holds.1 old.maps (holds.0 ++ turn.taken)) turn.taken new.remaining) is turn.tells
+    subst (λ x. TurnReports (Err x) (stretch holds.1 old.maps (holds.0 ++ turn.taken)) turn.taken new.remaining) is turn.reports

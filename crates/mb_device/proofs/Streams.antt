@@ -14,7 +14,7 @@ use Rattle.mb_device.specs.Maps.{Maps}
 use Rattle.mb_device.specs.Device.{answer_to, maps_after}
 use Rattle.mb_device.specs.Tricks.{Course, Playing, CutOff, answer_of, carried_out, course_after, course_next, is_cut, sent, sent_next}
 use Rattle.mb_wire.specs.Links.{GivesPart}
-use Rattle.mb_device.specs.Server.{AllAnswered, Answered, Around, BrokenOff, Counts, BufferedTells, IsGarbled, Holds, PieceTells, Faulted, TurnTells, Turns, answer_to_frame, answers, course_after_all, buffered_frames, maps_after_all, own_frames, sent_to, standing_on, stretch}
+use Rattle.mb_device.specs.Server.{AllAnswered, Answered, Around, BrokenOff, Counts, BufferedReports, IsGarbled, Holds, PieceReports, Faulted, TurnReports, Turns, answer_to_frame, answers, course_after_all, buffered_frames, maps_after_all, own_frames, sent_to, standing_on, stretch}
 use Rattle.mb_device.specs.declared.server.ServeFault.{ServeFault}
 use Rattle.mb_device.specs.declared.server.ServeFault.TheVariants as fault
 use Rattle.mb_device.specs.declared.server.Turned.{Turned}
@@ -193,18 +193,18 @@ garbled_then course mid maps after xs bytes left dealt frames rests garbled =
     let same = ap (course_after_all course maps) frames ∙ course_then course mid maps after xs (own_frames left) dealt in
     record { going = ap is_cut same ∙ garbled.going; bad = subst IsBad (sym rests) garbled.bad }
 
-pub piece_then : (course mid : Course) (maps after : Maps) (xs : List (List ℕ)) (bytes left buffered : List ℕ) (first count : ℕ) → Dealt course maps xs mid after → own_frames bytes ≡ xs ++ own_frames left → rest bytes ≡ rest left → first ≡ length xs → PieceTells (Ok count) (stretch mid after left) buffered → PieceTells (Ok (first + count)) (stretch course maps bytes) buffered
-piece_then course mid maps after xs bytes left buffered first count dealt frames rests is tells =
+pub piece_then : (course mid : Course) (maps after : Maps) (xs : List (List ℕ)) (bytes left buffered : List ℕ) (first count : ℕ) → Dealt course maps xs mid after → own_frames bytes ≡ xs ++ own_frames left → rest bytes ≡ rest left → first ≡ length xs → PieceReports (Ok count) (stretch mid after left) buffered → PieceReports (Ok (first + count)) (stretch course maps bytes) buffered
+piece_then course mid maps after xs bytes left buffered first count dealt frames rests is reports =
     let same = ap (course_after_all course maps) frames ∙ course_then course mid maps after xs (own_frames left) dealt in (
-      subst (λ n. Counts (n + count) (stretch course maps bytes)) (sym is) (counts_then course mid maps after xs bytes left count dealt frames rests tells.0),
-      λ going. tells.1 (ap is_cut (sym same) ∙ going) ∙ sym rests,
+      subst (λ n. Counts (n + count) (stretch course maps bytes)) (sym is) (counts_then course mid maps after xs bytes left count dealt frames rests reports.0),
+      λ going. reports.1 (ap is_cut (sym same) ∙ going) ∙ sym rests,
     )
 
-pub piece_fault : (e : ServeFault) (course mid : Course) (maps after : Maps) (xs : List (List ℕ)) (bytes left buffered new : List ℕ) → Dealt course maps xs mid after → own_frames bytes ≡ xs ++ own_frames left → rest bytes ≡ rest left → PieceTells (Err e) (stretch mid after left) buffered → PieceTells (Err e) (stretch course maps bytes) new
-piece_fault fault.Read course mid maps after xs bytes left buffered new dealt frames rests tells = tells
-piece_fault fault.Write course mid maps after xs bytes left buffered new dealt frames rests tells = tells
-piece_fault fault.Garbled course mid maps after xs bytes left buffered new dealt frames rests tells = garbled_then course mid maps after xs bytes left dealt frames rests tells
-piece_fault fault.TurnsUsed course mid maps after xs bytes left buffered new dealt frames rests tells = tells
+pub piece_fault : (e : ServeFault) (course mid : Course) (maps after : Maps) (xs : List (List ℕ)) (bytes left buffered new : List ℕ) → Dealt course maps xs mid after → own_frames bytes ≡ xs ++ own_frames left → rest bytes ≡ rest left → PieceReports (Err e) (stretch mid after left) buffered → PieceReports (Err e) (stretch course maps bytes) new
+piece_fault fault.Read course mid maps after xs bytes left buffered new dealt frames rests reports = reports
+piece_fault fault.Write course mid maps after xs bytes left buffered new dealt frames rests reports = reports
+piece_fault fault.Garbled course mid maps after xs bytes left buffered new dealt frames rests reports = garbled_then course mid maps after xs bytes left dealt frames rests reports
+piece_fault fault.TurnsUsed course mid maps after xs bytes left buffered new dealt frames rests reports = reports
 
 -- ---- a connection that an injected fault closed
 
@@ -235,8 +235,8 @@ AllAnswered-cut course xs ys a b cut h =
       maps = h.maps ∙ ap (maps_after_all a.maps) (sym (carried_cut course a.maps xs ys cut));
     }
 
-pub cut_tells : (count : ℕ) (course : Course) (maps : Maps) (xs ys : List (List ℕ)) (bytes buffered : List ℕ) → own_frames bytes ≡ xs ++ ys → is_cut (course_after_all course maps xs) ≡ true → count ≡ length (carried_out course xs) → PieceTells (Ok count) (stretch course maps bytes) buffered
-cut_tells count course maps xs ys bytes buffered frames cut counted =
+pub cut_reports : (count : ℕ) (course : Course) (maps : Maps) (xs ys : List (List ℕ)) (bytes buffered : List ℕ) → own_frames bytes ≡ xs ++ ys → is_cut (course_after_all course maps xs) ≡ true → count ≡ length (carried_out course xs) → PieceReports (Ok count) (stretch course maps bytes) buffered
+cut_reports count course maps xs ys bytes buffered frames cut counted =
     let same = ap (course_after_all course maps) frames ∙ sym (course_cut course maps xs ys cut) in
     let all = ap (carried_out course) frames ∙ carried_cut course maps xs ys cut in
     let still : is_cut (course_after_all course maps (own_frames bytes)) ≡ true = ap is_cut same ∙ cut in
@@ -294,11 +294,11 @@ buffered_course course new shown buffered frame maps same is next =
     next ∙ ap (course_next course) (answer_is maps frame lent.0 lent.2) ∙ ap (λ h. course_after_all course maps (buffered_frames h)) (sym lent.1)
 
 -- A fault of the response to the frame in the reader leaves that response incomplete.
-pub buffered_fault : (e : ServeFault) (course : Course) (frame : Option (List ℕ)) (xs ys : List (List ℕ)) (a b : Around) → BufferedTells (Err e) frame → Answered {X = ℕ} (Err e) course xs a b → Answered {X = ℕ} (Err e) course (xs ++ ys) a b
-buffered_fault fault.Read course frame xs ys a b tells h = absurd tells
-buffered_fault fault.Write course frame xs ys a b tells h = BrokenOff-before course xs ys a b h
-buffered_fault fault.Garbled course frame xs ys a b tells h = absurd tells
-buffered_fault fault.TurnsUsed course frame xs ys a b tells h = absurd tells
+pub buffered_fault : (e : ServeFault) (course : Course) (frame : Option (List ℕ)) (xs ys : List (List ℕ)) (a b : Around) → BufferedReports (Err e) frame → Answered {X = ℕ} (Err e) course xs a b → Answered {X = ℕ} (Err e) course (xs ++ ys) a b
+buffered_fault fault.Read course frame xs ys a b reports h = absurd reports
+buffered_fault fault.Write course frame xs ys a b reports h = BrokenOff-before course xs ys a b h
+buffered_fault fault.Garbled course frame xs ys a b reports h = absurd reports
+buffered_fault fault.TurnsUsed course frame xs ys a b reports h = absurd reports
 
 -- ---- one turn
 
@@ -328,7 +328,7 @@ turn_over buffered course ended old new is_open going left at_end given maps =
       consumed = Consumes-none _ _ left;
       answered = AllAnswered-none course _ old new none.0 given maps;
       stands = ap (λ b. standing_on b course) (sym none.1) ∙ ap (standing_on (rest (buffered ++ []))) (sym stays);
-      tells = (
+      reports = (
         record { counted = sym (ap length nothing); is_open = λ _. subst IsOpen (sym none.1) is_open },
         record { cut = λ cut. absurd (both_ways _ cut (ap is_cut stays ∙ going)); end = λ _ e. (refl, at_end e) },
       );
@@ -355,7 +355,7 @@ turn_failed buffered course old new is_open left given maps =
       consumed = Consumes-none _ _ left;
       answered = AllAnswered-none course _ old new none.0 given maps;
       stands = refl;
-      tells = refl;
+      reports = refl;
     }
 
 -- Two equal states of a server have the same results.
@@ -371,16 +371,16 @@ answered_fault X Y fault.Write course fs a b h = h
 answered_fault X Y fault.Garbled course fs a b h = h
 answered_fault X Y fault.TurnsUsed course fs a b h = h
 
-turn_tells_fault : (e : ServeFault) (course : Course) (maps old : Maps) (bytes taken left : List ℕ) (remaining : Option (List ℕ)) → maps ≡ old → PieceTells (Err e) (stretch course maps bytes) left → TurnTells (Err e) (stretch course old bytes) taken remaining
-turn_tells_fault fault.Read course maps old bytes taken left remaining same h = absurd h
-turn_tells_fault fault.Write course maps old bytes taken left remaining same h = h
-turn_tells_fault fault.Garbled course maps old bytes taken left remaining same h = subst (λ m. IsGarbled (stretch course m bytes)) same h
-turn_tells_fault fault.TurnsUsed course maps old bytes taken left remaining same h = absurd h
+turn_reports_fault : (e : ServeFault) (course : Course) (maps old : Maps) (bytes taken left : List ℕ) (remaining : Option (List ℕ)) → maps ≡ old → PieceReports (Err e) (stretch course maps bytes) left → TurnReports (Err e) (stretch course old bytes) taken remaining
+turn_reports_fault fault.Read course maps old bytes taken left remaining same h = absurd h
+turn_reports_fault fault.Write course maps old bytes taken left remaining same h = h
+turn_reports_fault fault.Garbled course maps old bytes taken left remaining same h = subst (λ m. IsGarbled (stretch course m bytes)) same h
+turn_reports_fault fault.TurnsUsed course maps old bytes taken left remaining same h = absurd h
 
 pub turn_fault : (e : ServeFault) (course : Course) (buffered piece left : List ℕ) (came_as : Took) (n : ℕ) (old mid new : Around) → is_cut course ≡ false → TakeConsumes old.remaining mid.remaining (Ok came_as) piece → came_as ≡ took.Bytes n → length piece ≤ 260
     → Keeps mid.remaining new.remaining → Keeps old.given mid.given → mid.maps ≡ old.maps
-    → Answered {X = ℕ} (Err e) course (own_frames (buffered ++ take n piece)) mid new → PieceTells (Err e) (stretch course mid.maps (buffered ++ take n piece)) left → Turns buffered course (Err e) old new Faulted
-turn_fault e course buffered piece left came_as n old mid new going bytes is few kept given maps answered tells =
+    → Answered {X = ℕ} (Err e) course (own_frames (buffered ++ take n piece)) mid new → PieceReports (Err e) (stretch course mid.maps (buffered ++ take n piece)) left → Turns buffered course (Err e) old new Faulted
+turn_fault e course buffered piece left came_as n old mid new going bytes is few kept given maps answered reports =
     let came = subst (λ t. TakeConsumes old.remaining mid.remaining (Ok t) piece) is bytes in
     record {
       taken = take n piece;
@@ -388,27 +388,27 @@ turn_fault e course buffered piece left came_as n old mid new going bytes is few
       consumed = Consumes-kept _ _ _ _ came kept;
       answered = answered_fault ℕ Turned e course _ old new (answered_from {X = ℕ} (Err e) course _ old mid new given maps going answered);
       stands = refl;
-      tells = turn_tells_fault e course mid.maps old.maps _ (take n piece) left _ maps tells;
+      reports = turn_reports_fault e course mid.maps old.maps _ (take n piece) left _ maps reports;
     }
 
 pub turn_bytes : (count : ℕ) (course after : Course) (buffered piece left : List ℕ) (came_as : Took) (n : ℕ) (ended : Bool) (old mid new : Around) → is_cut course ≡ false → TakeConsumes old.remaining mid.remaining (Ok came_as) piece → came_as ≡ took.Bytes n → length piece ≤ 260
     → Keeps mid.remaining new.remaining → Keeps old.given mid.given → mid.maps ≡ old.maps
-    → AllAnswered course (own_frames (buffered ++ take n piece)) mid new → PieceTells (Ok count) (stretch course mid.maps (buffered ++ take n piece)) left
+    → AllAnswered course (own_frames (buffered ++ take n piece)) mid new → PieceReports (Ok count) (stretch course mid.maps (buffered ++ take n piece)) left
     → after ≡ course_after_all course mid.maps (own_frames (buffered ++ take n piece)) → ended ≡ is_cut after
     → Turns buffered course (Ok record { answered = count; ended = ended }) old new (standing_on left after)
-turn_bytes count course after buffered piece left came_as n ended old mid new going bytes is few kept given maps answered tells same ends =
+turn_bytes count course after buffered piece left came_as n ended old mid new going bytes is few kept given maps answered reports same ends =
     let came = subst (λ t. TakeConsumes old.remaining mid.remaining (Ok t) piece) is bytes in
     let bytes = buffered ++ take n piece in
     let course_is : after ≡ course_after_all course old.maps (own_frames bytes) = same ∙ ap (λ m. course_after_all course m (own_frames bytes)) maps in
-    let told = subst (λ m. PieceTells (Ok count) (stretch course m bytes) left) maps tells in
+    let reported = subst (λ m. PieceReports (Ok count) (stretch course m bytes) left) maps reports in
     record {
       taken = take n piece;
       few = omega (arith, length-take n piece);
       consumed = Consumes-kept _ _ _ _ came kept;
       answered = answered_from {X = Turned} (Ok record { answered = count; ended = ended }) course _ old mid new given maps going answered;
-      stands = ap (standing_on left) course_is ∙ standing-same left (rest bytes) _ told.1;
-      tells = (
-        told.0,
+      stands = ap (standing_on left) course_is ∙ standing-same left (rest bytes) _ reported.1;
+      reports = (
+        reported.0,
         record {
           cut = λ cut. ends ∙ ap is_cut course_is ∙ cut;
           end = λ goes e. absurd (both_ways _ (sym (ends ∙ ap is_cut course_is) ∙ e) goes);

@@ -145,28 +145,28 @@ pub record IsGarbled (stretch : Stretch) : Type 0 where
 
 -- Defines when a turn reports the end: always after an injected fault closed the connection.
 -- Otherwise only if the turn read nothing and no input is left.
-pub record EndTells (ended : Bool) (left : Course) (taken : List ℕ) (remaining : Option (List ℕ)) :
+pub record EndReports (ended : Bool) (left : Course) (taken : List ℕ) (remaining : Option (List ℕ)) :
     Type 0 where
   pub cut : is_cut left ≡ true → ended ≡ true
   pub end : is_cut left ≡ false → ended ≡ true → (taken ≡ []) × IsAtEnd remaining
 
 -- The facts about the bytes read that each result of a turn implies.
-abbrev pub TurnTells : Result Turned ServeFault → Stretch → List ℕ → Option (List ℕ) → Type 0
-TurnTells (Ok turned) stretch taken remaining =
-    Counts turned.answered stretch × EndTells turned.ended stretch.left taken remaining
-TurnTells (Err Read) stretch taken remaining = taken ≡ []
-TurnTells (Err Write) stretch taken remaining = Unit {0}
-TurnTells (Err Garbled) stretch taken remaining = IsGarbled stretch
-TurnTells (Err TurnsUsed) stretch taken remaining = ⊥
+abbrev pub TurnReports : Result Turned ServeFault → Stretch → List ℕ → Option (List ℕ) → Type 0
+TurnReports (Ok turned) stretch taken remaining =
+    Counts turned.answered stretch × EndReports turned.ended stretch.left taken remaining
+TurnReports (Err Read) stretch taken remaining = taken ≡ []
+TurnReports (Err Write) stretch taken remaining = Unit {0}
+TurnReports (Err Garbled) stretch taken remaining = IsGarbled stretch
+TurnReports (Err TurnsUsed) stretch taken remaining = ⊥
 
 -- The facts about the bytes read that each result of `serve` implies.
-abbrev pub ServeTells : Result ℕ ServeFault → Stretch → Option (List ℕ) → Type 0
-ServeTells (Ok count) stretch remaining =
+abbrev pub ServeReports : Result ℕ ServeFault → Stretch → Option (List ℕ) → Type 0
+ServeReports (Ok count) stretch remaining =
     Counts count stretch × (is_cut stretch.left ≡ false → IsAtEnd remaining)
-ServeTells (Err Read) stretch remaining = IsGoing stretch
-ServeTells (Err Write) stretch remaining = Unit {0}
-ServeTells (Err Garbled) stretch remaining = IsGarbled stretch
-ServeTells (Err TurnsUsed) stretch remaining = IsGoing stretch
+ServeReports (Err Read) stretch remaining = IsGoing stretch
+ServeReports (Err Write) stretch remaining = Unit {0}
+ServeReports (Err Garbled) stretch remaining = IsGarbled stretch
+ServeReports (Err TurnsUsed) stretch remaining = IsGoing stretch
 
 -- True if an injected fault closed the connection.
 abbrev pub is_over : Standing → Bool
@@ -196,7 +196,7 @@ is_read_fault (Err TurnsUsed) = false
 
 -- True if the last read of the link had a buffer of 260 bytes. The read found the end exactly if
 -- `ended` is true, and failed exactly if `failed` is true.
-pub record TellsTake (ended failed : Bool) (last : Option LastTake) : Type 0 where
+pub record ReportsTake (ended failed : Bool) (last : Option LastTake) : Type 0 where
   pub answer : Result Took LinkFailed
   pub taken : last ≡ Some (record { room = MAX_ADU; answer = answer })
   pub end : ended ≡ is_end answer
@@ -212,7 +212,7 @@ pub record Turns (buffered : List ℕ) (course : Course) (result : Result Turned
   pub stands : standing
       ≡ standing_after result (buffered ++ taken)
       (course_after_all course old.maps (own_frames (buffered ++ taken)))
-  pub tells : TurnTells result (stretch course old.maps (buffered ++ taken)) taken new.remaining
+  pub reports : TurnReports result (stretch course old.maps (buffered ++ taken)) taken new.remaining
 
 -- True if the server executed all frames read until now and sent everything due for them. `count`
 -- is the number of these frames.
@@ -235,7 +235,7 @@ pub record Serves (buffered : List ℕ) (course : Course) (result : Result ℕ S
   pub stands : standing
       ≡ standing_after result (buffered ++ taken)
       (course_after_all course old.maps (own_frames (buffered ++ taken)))
-  pub tells : ServeTells result (stretch course old.maps (buffered ++ taken)) new.remaining
+  pub reports : ServeReports result (stretch course old.maps (buffered ++ taken)) new.remaining
 
 -- The effects of `serve` by a server whose state before the call is `held`. They are those of
 -- `Serves` if the server serves a connection.
@@ -256,22 +256,22 @@ HoldsFrame None = Unit {0}
 HoldsFrame (Some frame) = IsFrame frame
 
 -- The facts that each result implies after the server responded to the frame in the reader.
-abbrev pub BufferedTells : Result ℕ ServeFault → Option (List ℕ) → Type 0
-BufferedTells (Ok count) frame = count ≡ length (buffered_frames frame)
-BufferedTells (Err Read) frame = ⊥
-BufferedTells (Err Write) frame = Unit {0}
-BufferedTells (Err Garbled) frame = ⊥
-BufferedTells (Err TurnsUsed) frame = ⊥
+abbrev pub BufferedReports : Result ℕ ServeFault → Option (List ℕ) → Type 0
+BufferedReports (Ok count) frame = count ≡ length (buffered_frames frame)
+BufferedReports (Err Read) frame = ⊥
+BufferedReports (Err Write) frame = Unit {0}
+BufferedReports (Err Garbled) frame = ⊥
+BufferedReports (Err TurnsUsed) frame = ⊥
 
 -- The facts that each result implies after the server responded to the frames of a chunk: about all
 -- bytes up to the end of the chunk, and about the bytes then buffered.
-abbrev pub PieceTells : Result ℕ ServeFault → Stretch → List ℕ → Type 0
-PieceTells (Ok count) stretch buffered =
+abbrev pub PieceReports : Result ℕ ServeFault → Stretch → List ℕ → Type 0
+PieceReports (Ok count) stretch buffered =
     Counts count stretch × (is_cut stretch.left ≡ false → buffered ≡ rest stretch.bytes)
-PieceTells (Err Read) stretch buffered = ⊥
-PieceTells (Err Write) stretch buffered = Unit {0}
-PieceTells (Err Garbled) stretch buffered = IsGarbled stretch
-PieceTells (Err TurnsUsed) stretch buffered = ⊥
+PieceReports (Err Read) stretch buffered = ⊥
+PieceReports (Err Write) stretch buffered = Unit {0}
+PieceReports (Err Garbled) stretch buffered = IsGarbled stretch
+PieceReports (Err TurnsUsed) stretch buffered = ⊥
 
 -- The state of a server after a turn with this result, by the reader and the connection after the
 -- turn.

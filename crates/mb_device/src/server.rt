@@ -6,8 +6,8 @@ ghost use Rattle.mb_wire.specs.Frames.{IsOpen};
 ghost use Rattle.mb_wire.specs.Links.{Gives, risen};
 ghost use Rattle.mb_device.specs.Device.{answer_to, maps_after};
 ghost use Rattle.mb_device.specs.Tricks.{Course, answer_of, begun, course_next, is_cut, sent_next};
-ghost use Rattle.mb_device.specs.Server.{Answered, Faulted, BufferedTells, Holds, HoldsFrame};
-ghost use Rattle.mb_device.specs.Server.{Over, PieceTells, ServesFrom, TakesTurn, TellsTake, Turns};
+ghost use Rattle.mb_device.specs.Server.{Answered, Faulted, BufferedReports, Holds, HoldsFrame};
+ghost use Rattle.mb_device.specs.Server.{Over, PieceReports, ServesFrom, TakesTurn, ReportsTake, Turns};
 ghost use Rattle.mb_device.specs.Server.{around, came_to_end, course_after_all, has_faulted};
 ghost use Rattle.mb_device.specs.Server.{buffered_frames, is_link_fault, is_over, is_read_fault};
 ghost use Rattle.mb_device.specs.Server.{is_serving, own_frames, scene, serve_fault_number};
@@ -124,7 +124,7 @@ fn answer_buffered<L: Link>(
     ensures answered { Answered result sender.old (buffered_frames reader.now.frame)
         (around (L.remaining link.old) (L.given link.old) bank.old)
         (around (L.remaining link.new) (L.given link.new) bank.new) }
-    ensures tells { BufferedTells result reader.now.frame }
+    ensures reports { BufferedReports result reader.now.frame }
     ensures after { sender.new ≡
         course_after_all sender.old bank.old (buffered_frames reader.now.frame) }
     ensures remaining { Keeps (L.remaining link.old) (L.remaining link.new) }
@@ -155,7 +155,7 @@ fn answer_piece<L: Link>(
     ensures answered { Answered result sender.old (own_frames (reader.old.rest ++ piece.now))
         (around (L.remaining link.old) (L.given link.old) bank.old)
         (around (L.remaining link.new) (L.given link.new) bank.new) }
-    ensures tells { PieceTells result
+    ensures reports { PieceReports result
         (stretch sender.old bank.old (reader.old.rest ++ piece.now)) reader.new.rest }
     ensures after { let frames = own_frames (reader.old.rest ++ piece.now) in
         IfOk result (λ count. sender.new ≡ course_after_all sender.old bank.old frames) }
@@ -197,7 +197,7 @@ fn take_turn<L: Link>(
     ensures few { IfOk result (λ turned. turned.answered ≤ MAX_ADU) }
     ensures failures { L.failed link.new ≡ risen (is_link_fault result) (L.failed link.old) }
     ensures takes { L.taken link.new ≡ risen true (L.taken link.old) }
-    ensures take { TellsTake (came_to_end result (standing_in result reader.new sender.new))
+    ensures take { ReportsTake (came_to_end result (standing_in result reader.new sender.new))
         (is_read_fault result) (L.last link.new) }
     ensures ends { L.ended link.new ≡
         risen (came_to_end result (standing_in result reader.new sender.new)) (L.ended link.old) }
@@ -288,7 +288,7 @@ impl<'t> Server<'t> {
         ensures failures { L.failed link.new ≡ risen (is_link_fault result) (L.failed link.old) }
         ensures takes { L.taken link.new ≡ risen (is_serving self.old) (L.taken link.old) }
         ensures take { is_serving self.old ≡ true →
-            TellsTake (came_to_end result self.new) (is_read_fault result) (L.last link.new) }
+            ReportsTake (came_to_end result self.new) (is_read_fault result) (L.last link.new) }
         ensures ends { L.ended link.new ≡ risen (came_to_end result self.new) (L.ended link.old) }
     {
         if self.failed {
@@ -325,7 +325,7 @@ impl<'t> Server<'t> {
         ensures failures { L.failed link.new ≡ risen (is_link_fault result) (L.failed link.old) }
         ensures turns { L.taken link.new ≤ L.taken link.old + max_turns }
         ensures last_turn { is_serving self.old ≡ true → 1 ≤ max_turns →
-            TellsTake (served_to_end result self.new) (is_read_fault result) (L.last link.new) }
+            ReportsTake (served_to_end result self.new) (is_read_fault result) (L.last link.new) }
         ensures ends { L.ended link.new ≡ risen (served_to_end result self.new) (L.ended link.old) }
         ensures turns_used { result ≡ Err ServeFault.TurnsUsed →
             L.taken link.old + max_turns < 2 ^ 64 →

@@ -7,7 +7,7 @@ use Rattle.std.proofs.lemmas.List.Concat.{flat_map-append}
 use Rattle.std.proofs.lemmas.Bool.{and_from, and_parts, le-leb, leb-true, cond-true, cond-false, false_from_ne_true, cases_Bool, cases_lt, and_cases, leb-false, both_ways}
 use Rattle.mb_wire.proofs.Buffers.{span_of-take}
 use Rattle.mb_wire.specs.Frames.{span_of, IsFrame, IsOpen, IsBad, Reads, begins_with_frame, frames_in, rest_in, frames, rest}
-use Rattle.mb_wire.specs.Reader.{TellsFraming, buffered_after, ended}
+use Rattle.mb_wire.specs.Reader.{ReportsFraming, buffered_after, ended}
 use Rattle.mb_wire.specs.declared.frames.Framing.{Framing}
 use Rattle.mb_wire.specs.declared.frames.Framing.TheVariants.{Need, Whole, Foreign, Garbled}
 
@@ -169,7 +169,7 @@ more_rest bytes r p fs h ends =
     record { joined = ap (λ y. y ++ p) h.joined ∙ append_assoc (concat fs) r p; each = h.each; ends = ends }
 
 -- A feed extends the split of all earlier bytes by the frame that it ends, or by a longer rest.
-pub Reads-fed : (what : Framing) (bytes r p : List ℕ) (fs : List (List ℕ)) → Reads bytes fs r → TellsFraming what (r ++ p) → Reads (bytes ++ p) (fs ++ ended what (r ++ p)) ((buffered_after what (r ++ p)).rest)
+pub Reads-fed : (what : Framing) (bytes r p : List ℕ) (fs : List (List ℕ)) → Reads bytes fs r → ReportsFraming what (r ++ p) → Reads (bytes ++ p) (fs ++ ended what (r ++ p)) ((buffered_after what (r ++ p)).rest)
 Reads-fed Need bytes r p fs h t = more_rest bytes r p fs h (inl t)
 Reads-fed Whole bytes r p fs h t = more_frame bytes r p fs h t.0
 Reads-fed Foreign bytes r p fs h t = more_frame bytes r p fs h t.0

@@ -28,11 +28,11 @@ FitsState Ended bytes = IsFrame bytes × IsOwn bytes
 FitsState Stuck bytes = IsBad bytes × (length bytes ≡ 6)
 
 -- The form of the bytes since the last frame ended, by the result of a feed.
-abbrev pub TellsFraming : Framing → List ℕ → Type 0
-TellsFraming Need bytes = IsOpen bytes
-TellsFraming Whole bytes = IsFrame bytes × IsOwn bytes
-TellsFraming Foreign bytes = IsFrame bytes × (IsOwn bytes → ⊥)
-TellsFraming Garbled bytes = IsBad bytes × (length bytes ≡ 6)
+abbrev pub ReportsFraming : Framing → List ℕ → Type 0
+ReportsFraming Need bytes = IsOpen bytes
+ReportsFraming Whole bytes = IsFrame bytes × IsOwn bytes
+ReportsFraming Foreign bytes = IsFrame bytes × (IsOwn bytes → ⊥)
+ReportsFraming Garbled bytes = IsBad bytes × (length bytes ≡ 6)
 
 -- True if the feed ended a frame, of Modbus or of another protocol.
 abbrev pub IsEnd : Framing → Type 0

@@ -4,7 +4,7 @@ ghost use Rattle.std.specs.Prelude.{take, ◌⊎◌};
 ghost use Rattle.std.specs.Option.{option_map};
 ghost use Rattle.mb_wire.specs.Frames.{IsOpen, IsBad, IsGoodSpan, span_of, tid_of, unit_of, pdu_of};
 ghost use Rattle.mb_wire.specs.Frames.{Reads, frames, rest};
-ghost use Rattle.mb_wire.specs.Reader.{Buffered, IsEnd, IsOwnFrame, ReadsOn, SpellsFrame, TellsFraming};
+ghost use Rattle.mb_wire.specs.Reader.{Buffered, IsEnd, IsOwnFrame, ReadsOn, SpellsFrame, ReportsFraming};
 ghost use Rattle.mb_wire.specs.Reader.{buffered_after, fields_of, spelled, spelling};
 ghost use Rattle.mb_wire.specs.Bytes.{word};
 
@@ -126,7 +126,7 @@ fn what_is(buf: &[u8; MAX_ADU], len: usize, span: usize) -> Framing
     requires good { IsGoodSpan span }
     requires header { 6 ≤ len }
     requires within { len ≤ 6 + span }
-    ensures tells { TellsFraming result (take len buf.now) }
+    ensures reports { ReportsFraming result (take len buf.now) }
     ensures need { result ≡ Framing.Need → len < 6 + span }
     ensures full { IsEnd result → len ≡ 6 + span }
 {
@@ -149,7 +149,7 @@ fn take_in(buf: &mut [u8; MAX_ADU], len: usize, piece: &[u8]) -> Step
     ensures need { result.fed.what ≡ Framing.Need → result.fed.taken ≡ length piece.now }
     ensures buffered { take result.len buf.new ≡
         take len buf.old ++ take result.fed.taken piece.now }
-    ensures tells { TellsFraming result.fed.what (take result.len buf.new) }
+    ensures reports { ReportsFraming result.fed.what (take result.len buf.new) }
     ensures moves { IsEnd result.fed.what → 0 < result.fed.taken }
 {
     let head = top_up_header(buf, len, piece);
@@ -202,7 +202,7 @@ impl FrameReader {
         ensures taken { result.taken ≤ length piece.now }
         ensures need { result.what ≡ Framing.Need → result.taken ≡ length piece.now }
         ensures moves { IsEnd result.what → 0 < result.taken }
-        ensures tells { TellsFraming result.what (self.old.rest ++ take result.taken piece.now) }
+        ensures reports { ReportsFraming result.what (self.old.rest ++ take result.taken piece.now) }
         ensures after { self.new ≡
             buffered_after result.what (self.old.rest ++ take result.taken piece.now) }
         ensures reads { ReadsOn self.old self.new (take result.taken piece.now) result.what }
@@ -215,7 +215,7 @@ impl FrameReader {
         ensures taken { result.taken ≤ length piece.now }
         ensures need { result.what ≡ Framing.Need → result.taken ≡ length piece.now }
         ensures moves { IsEnd result.what → 0 < result.taken }
-        ensures tells { TellsFraming result.what (self.old.rest ++ take result.taken piece.now) }
+        ensures reports { ReportsFraming result.what (self.old.rest ++ take result.taken piece.now) }
         ensures after { self.new ≡
             buffered_after result.what (self.old.rest ++ take result.taken piece.now) }
         ensures stuck { IsBad self.old.rest → (result.what ≡ Framing.Garbled) × (result.taken ≡ 0) }

@@ -14,7 +14,7 @@ use Rattle.memory_books.specs.declared.list_books.ListBooks.{ListBooks}
 use Rattle.memory_books.specs.declared.figures.Figures.{Figures}
 use Rattle.memory_books.specs.Figures.{AreFigures}
 use Rattle.memory_books.specs.Listed.{AreListed, FiguresFollow, HasOne, ledger_of}
-use Rattle.memory_books.specs.Looking.{failures_in, told}
+use Rattle.memory_books.specs.Looking.{failures_in, reported}
 
 following : (known facts : List Fact) → reverse known ++ facts ≡ reverse (with_facts facts known)
 following known facts = sym (reverse-append (reverse facts) known ∙ ap (λ (xs : List Fact). reverse known ++ xs) (reverse-reverse facts))
@@ -75,7 +75,7 @@ added old mid new facts is zone tables figures keeps still_zone none_failed = re
 
 -- If memory runs out before the store's list gets the new records, then the failure satisfies the
 -- guarantees of the call `book`. The store is unchanged.
-pub not_added : (old new : ListBooks) (facts : List Fact) (lacks : AllocError) (result : Result (Unit {0}) BooksFault) → result ≡ told (Err lacks)
+pub not_added : (old new : ListBooks) (facts : List Fact) (lacks : AllocError) (result : Result (Unit {0}) BooksFault) → result ≡ reported (Err lacks)
     → new.facts.items ≡ old.facts.items → new.zone ≡ old.zone → new.tables ≡ old.tables → new.figures ≡ old.figures
     → failures_in new.last_failure ≡ faults_after result (failures_in old.last_failure) → (facts ≡ [] → false ≡ true)
     → Books (ledger_of old) (ledger_of new) facts result

@@ -11,9 +11,9 @@ abbrev pub latest_first : List Fact → List Fact
 latest_first facts = reverse facts
 
 -- The result of a call of a store in memory, which fails only if memory runs out.
-abbrev pub told : {T : Type 0} → Result T AllocError → Result T BooksFault
-told (Ok answer) = Ok answer
-told (Err lacks) = Err Memory
+abbrev pub reported : {T : Type 0} → Result T AllocError → Result T BooksFault
+reported (Ok answer) = Ok answer
+reported (Err lacks) = Err Memory
 
 -- The failure counter of a store in memory. The count is always 0. The last failure, if any, is
 -- that memory ran out.

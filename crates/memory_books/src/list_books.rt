@@ -4,7 +4,7 @@ ghost use Rattle.office_books.specs.Faults.{faults_after};
 ghost use Rattle.office_events.specs.declared.facts.Fact.{Fact};
 ghost use Rattle.memory_books.specs.Tables.Whole.{AreWhole};
 ghost use Rattle.memory_books.specs.Listed.{AreListed};
-ghost use Rattle.memory_books.specs.Looking.{failures_in, told};
+ghost use Rattle.memory_books.specs.Looking.{failures_in, reported};
 
 use crate::figures::Figures;
 use crate::lookups;
@@ -100,7 +100,7 @@ fn note_failure<T>(
     last_failure: &mut Option<BooksFault>,
     done: Result<T, AllocError>,
 ) -> Result<T, BooksFault>
-    ensures answer { result ≡ told done }
+    ensures answer { result ≡ reported done }
     ensures noted { failures_in last_failure.new
         ≡ faults_after result (failures_in last_failure.old) }
 {

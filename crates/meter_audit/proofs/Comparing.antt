@@ -53,13 +53,13 @@ between_at wanted found i d e f same lt within h =
 
 -- ---- lists of rows without a difference
 
-none_told : (b : Bool) (f : IntervalFault) (o : Option IntervalFault) → (if b then Some f else o) ≡ None → (b ≡ false) × (o ≡ None)
-none_told true f o h = absurd (cc)
-none_told false f o h = (refl, h)
+none_reported : (b : Bool) (f : IntervalFault) (o : Option IntervalFault) → (if b then Some f else o) ≡ None → (b ≡ false) × (o ≡ None)
+none_reported true f o h = absurd (cc)
+none_reported false f o h = (refl, h)
 
-told_unless : (b : Bool) (f : IntervalFault) → (if b then None else Some f) ≡ None → b ≡ true
-told_unless true f h = refl
-told_unless false f h = absurd (cc)
+reported_unless : (b : Bool) (f : IntervalFault) → (if b then None else Some f) ≡ None → b ≡ true
+reported_unless true f h = refl
+reported_unless false f h = absurd (cc)
 
 same_start : (a b : ℕ) → nat_lt a b ≡ false → nat_lt b a ≡ false → a ≡ b
 same_start a b h g = grind (arith, nat_tests)
@@ -71,9 +71,9 @@ same_share a b c d h g =
 
 pub same_rows : (row other : Share) → fault_between row other ≡ None → row ≡ other
 same_rows row other h =
-    let one = none_told (nat_lt row.start other.start) _ _ h in
-    let two = none_told (nat_lt other.start row.start) _ _ one.1 in
-    let three = told_unless (row.mwh == other.mwh) _ two.1 in
+    let one = none_reported (nat_lt row.start other.start) _ _ h in
+    let two = none_reported (nat_lt other.start row.start) _ _ one.1 in
+    let three = reported_unless (row.mwh == other.mwh) _ two.1 in
     same_share row.start other.start row.mwh other.mwh (same_start row.start other.start one.0 two.0) (eqb-true row.mwh other.mwh three)
 
 not_before : (n : ℕ) → nat_lt n n ≡ false
@@ -94,7 +94,7 @@ pub differ_at : (wanted found : List Share) (i : ℕ) (d e : Share) (f : Interva
 differ_at wanted found i d e f lt h is =
     let row : Share = get_or wanted i d in
     let other : get_or found i e ≡ row = ap (λ rs. get_or rs i e) is ∙ own_default wanted i e d lt in
-    let told : None ≡ Some f = sym (no_fault row) ∙ ap (fault_between row) (sym other) ∙ h in
+    let reported : None ≡ Some f = sym (no_fault row) ∙ ap (fault_between row) (sym other) ∙ h in
     absurd (cc)
 
 pub lengths_differ : (wanted found : List Share) → length found < length wanted → found ≡ wanted → ⊥

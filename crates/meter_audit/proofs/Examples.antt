@@ -26,8 +26,8 @@ use Rattle.meter_audit.specs.Comparing.{next_fault}
 abbrev house : Installed
 house = record { range = 4294967296; ceiling = 100000; opening = record { at = 1000; raw = 5000; sf = pos 0 } }
 
-abbrev told : (place : ℕ) → RowKind → (moment raw rolls after : ℕ) → ℤ → Bool → TableRow
-told place k moment raw rolls after sf v = record {
+abbrev reported : (place : ℕ) → RowKind → (moment raw rolls after : ℕ) → ℤ → Bool → TableRow
+reported place k moment raw rolls after sf v = record {
   place = place;
   kind = k;
   moment = moment;
@@ -53,7 +53,7 @@ check place l total ended = check_as place l total ended true
 
 -- A table row of a reading that is 200 Wh above the opening.
 abbrev first : TableRow
-first = told 2 row_kind.Reading 1900 5200 0 0 (pos 0) false
+first = reported 2 row_kind.Reading 1900 5200 0 0 (pos 0) false
 
 after_first : passed house (begun house) first
     ≡ Ok (check 2 (last 1900 5200 (pos 0)) 200000 false, Some (record { from = 1000; till = 1900; mwh = 200000 }))
@@ -87,7 +87,7 @@ fine_tables = record {
 
 -- The table rows of a voided first reading and of the reading after it.
 abbrev voided_first : TableRow
-voided_first = told 2 row_kind.Reading 1900 5200 0 0 (pos 0) true
+voided_first = reported 2 row_kind.Reading 1900 5200 0 0 (pos 0) true
 
 after_voided : passed house (begun house) voided_first ≡ Ok (check_as 2 (last 1000 5000 (pos 0)) 0 false false, None)
 unfolding unit_of
@@ -95,60 +95,60 @@ after_voided = refl
 
 -- The check applies the rules of a valid reading to a voided reading only if the row before is
 -- valid.
-voided_too_fast : passed house (begun house) (told 2 row_kind.Reading 1900 50000 0 0 (pos 0) true) ≡ Err (fault.Held cause.TooFast)
+voided_too_fast : passed house (begun house) (reported 2 row_kind.Reading 1900 50000 0 0 (pos 0) true) ≡ Err (fault.Held cause.TooFast)
 unfolding unit_of
 voided_too_fast = refl
 
-voided_after_a_voided : passed house (check_as 2 (last 1000 5000 (pos 0)) 0 false false) (told 3 row_kind.Reading 1900 50000 0 0 (pos 0) true)
+voided_after_a_voided : passed house (check_as 2 (last 1000 5000 (pos 0)) 0 false false) (reported 3 row_kind.Reading 1900 50000 0 0 (pos 0) true)
     ≡ Ok (check_as 3 (last 1000 5000 (pos 0)) 0 false false, None)
 voided_after_a_voided = refl
 
 -- A closing passes the check, and no row may follow it.
-closed : passed house (begun house) (told 2 row_kind.Closing 1900 5200 0 0 (pos 0) false)
+closed : passed house (begun house) (reported 2 row_kind.Closing 1900 5200 0 0 (pos 0) false)
     ≡ Ok (check 2 (last 1900 5200 (pos 0)) 200000 true, Some (record { from = 1000; till = 1900; mwh = 200000 }))
 unfolding unit_of
 closed = refl
 
-after_a_closing : passed house (check 2 (last 1900 5200 (pos 0)) 200000 true) (told 3 row_kind.Reading 2800 5300 0 0 (pos 0) false)
+after_a_closing : passed house (check 2 (last 1900 5200 (pos 0)) 200000 true) (reported 3 row_kind.Reading 2800 5300 0 0 (pos 0) false)
     ≡ Err fault.AfterClosing
 after_a_closing = refl
 
 -- A rescale may change the scale factor, and a reset may not.
-rescaled : passed house (begun house) (told 2 row_kind.Rescale 2000 5000 0 500 (pos 1) false)
+rescaled : passed house (begun house) (reported 2 row_kind.Rescale 2000 5000 0 500 (pos 1) false)
     ≡ Ok (check 2 (last 2000 500 (pos 1)) 0 false, Some (record { from = 1000; till = 2000; mwh = 0 }))
 unfolding unit_of
 rescaled = refl
 
-reset_to_a_scale : passed house (begun house) (told 2 row_kind.Reset 2000 5000 0 500 (pos 1) false) ≡ Err (fault.Scale (pos 0))
+reset_to_a_scale : passed house (begun house) (reported 2 row_kind.Reset 2000 5000 0 500 (pos 1) false) ≡ Err (fault.Scale (pos 0))
 reset_to_a_scale = refl
 
 -- Refused table rows, one for each fault that the examples before do not have.
-a_gap : passed house (begun house) (told 3 row_kind.Reading 1900 5200 0 0 (pos 0) false) ≡ Err (fault.Place 2)
+a_gap : passed house (begun house) (reported 3 row_kind.Reading 1900 5200 0 0 (pos 0) false) ≡ Err (fault.Place 2)
 a_gap = refl
 
-opened_again : passed house (begun house) (told 2 row_kind.Opening 1900 5200 0 0 (pos 0) false) ≡ Err fault.OpenedAgain
+opened_again : passed house (begun house) (reported 2 row_kind.Opening 1900 5200 0 0 (pos 0) false) ≡ Err fault.OpenedAgain
 opened_again = refl
 
-a_closing_is_voided : passed house (begun house) (told 2 row_kind.Closing 1900 5200 0 0 (pos 0) true) ≡ Err fault.CannotBeVoided
+a_closing_is_voided : passed house (begun house) (reported 2 row_kind.Closing 1900 5200 0 0 (pos 0) true) ≡ Err fault.CannotBeVoided
 a_closing_is_voided = refl
 
-a_reading_has_an_after : passed house (begun house) (told 2 row_kind.Reading 1900 5200 0 7 (pos 0) false) ≡ Err fault.Unused
+a_reading_has_an_after : passed house (begun house) (reported 2 row_kind.Reading 1900 5200 0 7 (pos 0) false) ≡ Err fault.Unused
 a_reading_has_an_after = refl
 
-a_rollover_too_many : passed house (begun house) (told 2 row_kind.Reading 1900 5200 1 0 (pos 0) false) ≡ Err (fault.Rolls 0)
+a_rollover_too_many : passed house (begun house) (reported 2 row_kind.Reading 1900 5200 1 0 (pos 0) false) ≡ Err (fault.Rolls 0)
 unfolding unit_of
 a_rollover_too_many = refl
 
-too_fast : passed house (begun house) (told 2 row_kind.Reading 1900 50000 0 0 (pos 0) false) ≡ Err (fault.Held cause.TooFast)
+too_fast : passed house (begun house) (reported 2 row_kind.Reading 1900 50000 0 0 (pos 0) false) ≡ Err (fault.Held cause.TooFast)
 unfolding unit_of
 too_fast = refl
 
-by_hand_it_may_be : passed house (begun house) (told 2 row_kind.Manual 1900 50000 0 0 (pos 0) false)
+by_hand_it_may_be : passed house (begun house) (reported 2 row_kind.Manual 1900 50000 0 0 (pos 0) false)
     ≡ Ok (check 2 (last 1900 50000 (pos 0)) 45000000 false, Some (record { from = 1000; till = 1900; mwh = 45000000 }))
 unfolding unit_of
 by_hand_it_may_be = refl
 
-it_went_back : passed house (begun house) (told 2 row_kind.Manual 1900 4999 0 0 (pos 0) false) ≡ Err (fault.Refused term.NegativeStep)
+it_went_back : passed house (begun house) (reported 2 row_kind.Manual 1900 4999 0 0 (pos 0) false) ≡ Err (fault.Refused term.NegativeStep)
 it_went_back = refl
 
 -- Differences between lists of interval rows, and equal lists.

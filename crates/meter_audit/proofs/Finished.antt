@@ -34,14 +34,14 @@ same_tables es es' is is' l l' t t' e e' h1 h2 h3 h4 h5 =
     ap (λ x. tables_with x is l t e) h1 ∙ ap (λ x. tables_with es' x l t e) h2 ∙ ap (λ x. tables_with es' is' x t e) h3
     ∙ ap (λ x. tables_with es' is' l' x e) h4 ∙ ap (λ x. tables_with es' is' l' t' x) h5
 
-agrees_where_fine : (meter : Installed) (told : List TableRow) (done : List Share) (progress : Progress) (tables : Tables)
-    → HasGone meter told done progress → tables.entries ≡ told ++ opening_row meter.opening ∷ []
+agrees_where_fine : (meter : Installed) (reported : List TableRow) (done : List Share) (progress : Progress) (tables : Tables)
+    → HasGone meter reported done progress → tables.entries ≡ reported ++ opening_row meter.opening ∷ []
     → AreFine meter tables → Agrees tables done progress
-agrees_where_fine meter told done progress tables gone entries fine =
-    let both : told ++ opening_row meter.opening ∷ [] ≡ later_rows meter fine.rows ++ opening_row meter.opening ∷ [] =
+agrees_where_fine meter reported done progress tables gone entries fine =
+    let both : reported ++ opening_row meter.opening ∷ [] ≡ later_rows meter fine.rows ++ opening_row meter.opening ∷ [] =
     sym entries ∙ ap (λ (t : Tables). t.entries) fine.are in
     let same : later_rows meter fine.rows ≡ later_rows meter gone.rows =
-    sym (same_but_last told (later_rows meter fine.rows) (opening_row meter.opening) both) ∙ gone.told_is in
+    sym (same_but_last reported (later_rows meter fine.rows) (opening_row meter.opening) both) ∙ gone.reported_is in
     let rows : fine.rows ≡ gone.rows = rows_are_distinct meter fine.rows gone.rows fine.fit gone.taken.fit same in
     let are : tables ≡ tables_of meter gone.rows = fine.are ∙ ap (tables_of meter) rows in
     let check : progress.check ≡ check_after meter gone.rows = gone.taken.check_is in
@@ -52,16 +52,16 @@ agrees_where_fine meter told done progress tables gone entries fine =
       ended = ap (λ (t : Tables). t.ended) are ∙ sym (ap (λ (c : Check). c.is_ended) check);
     }
 
-fine_where_agrees : (meter : Installed) (told : List TableRow) (done : List Share) (progress : Progress) (tables : Tables)
-    → HasGone meter told done progress → tables.entries ≡ told ++ opening_row meter.opening ∷ []
+fine_where_agrees : (meter : Installed) (reported : List TableRow) (done : List Share) (progress : Progress) (tables : Tables)
+    → HasGone meter reported done progress → tables.entries ≡ reported ++ opening_row meter.opening ∷ []
     → Agrees tables done progress → AreFine meter tables
-fine_where_agrees meter told done progress tables gone entries h =
+fine_where_agrees meter reported done progress tables gone entries h =
     let check : progress.check ≡ check_after meter gone.rows = gone.taken.check_is in
     record {
       rows = gone.rows;
       fit = gone.taken.fit;
       are = same_tables tables.entries _ tables.intervals _ tables.last _ tables.total _ tables.ended _
-          (entries ∙ ap (λ (ts : List TableRow). ts ++ opening_row meter.opening ∷ []) gone.told_is)
+          (entries ∙ ap (λ (ts : List TableRow). ts ++ opening_row meter.opening ∷ []) gone.reported_is)
           (h.intervals ∙ gone.intervals)
           (h.last ∙ ap (λ (c : Check). c.last) check)
           (h.total ∙ ap (λ (c : Check). c.total) check)
@@ -69,11 +69,11 @@ fine_where_agrees meter told done progress tables gone entries h =
     }
 
 pub finished_is_fine : FinishedIsFine
-finished_is_fine meter told done progress tables gone entries =
-    (agrees_where_fine meter told done progress tables gone entries, fine_where_agrees meter told done progress tables gone entries)
+finished_is_fine meter reported done progress tables gone entries =
+    (agrees_where_fine meter reported done progress tables gone entries, fine_where_agrees meter reported done progress tables gone entries)
 
 pub refused_is_not_fine : RefusedIsNotFine
-refused_is_not_fine meter told newer done progress row fault well gone h all =
+refused_is_not_fine meter reported newer done progress row fault well gone h all =
     refused_below meter gone.rows row fault newer all.rows well gone.taken.fit
     (subst (λ (c : Check). passed meter c row ≡ Err fault) gone.taken.check_is h) all.fit
-    (ap (λ (ts : List TableRow). newer ++ row ∷ ts) (sym gone.told_is) ∙ all.told_is)
+    (ap (λ (ts : List TableRow). newer ++ row ∷ ts) (sym gone.reported_is) ∙ all.reported_is)

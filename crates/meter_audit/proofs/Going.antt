@@ -73,20 +73,20 @@ struck_of range last row h =
       | inr off ↦ off
     ]
 
-pub goes_standing : PassedRowsFit → (meter : Installed) (old new : Progress) (told : TableRow) (next : Check) (step : Step) → IsWellInstalled meter
-    → passed meter old.check told ≡ Ok (next, Some step) → new.check ≡ next
+pub goes_standing : PassedRowsFit → (meter : Installed) (old new : Progress) (reported : TableRow) (next : Check) (step : Step) → IsWellInstalled meter
+    → passed meter old.check reported ≡ Ok (next, Some step) → new.check ≡ next
     → new.wanted.items ≡ with_shares old.wanted.items (shares_of step)
-    → (before : List TableRow) (done : List Share) → HasGone meter before done old → HasGone meter (told ∷ before) done new
-goes_standing law meter old new told next step well passes check_is wanted_is before done gone =
-    let t : IsTaken meter gone.rows told next (Some step) = law meter gone.rows old.check told next (Some step) well gone.taken passes in
+    → (before : List TableRow) (done : List Share) → HasGone meter before done old → HasGone meter (reported ∷ before) done new
+goes_standing law meter old new reported next step well passes check_is wanted_is before done gone =
+    let t : IsTaken meter gone.rows reported next (Some step) = law meter gone.rows old.check reported next (Some step) well gone.taken passes in
     let es : List Entry = entries_in gone.rows in
     let s = step_of meter.range (last_after meter es) t.row step t.step_is in
     let is : entries_in (t.row ∷ gone.rows) ≡ t.row.entry ∷ es = entries_standing t.row gone.rows s.0 in
     record {
       rows = t.row ∷ gone.rows;
       taken = subst (λ (c : Check). HasTaken meter (t.row ∷ gone.rows) c) (sym check_is) t.taken;
-      told_is = ap (λ (x : TableRow). x ∷ before) t.told_is
-          ∙ ap (λ (ts : List TableRow). table_row (scale_after meter (t.row ∷ gone.rows)) t.row ∷ ts) gone.told_is;
+      reported_is = ap (λ (x : TableRow). x ∷ before) t.reported_is
+          ∙ ap (λ (ts : List TableRow). table_row (scale_after meter (t.row ∷ gone.rows)) t.row ∷ ts) gone.reported_is;
       intervals = ap (λ (rs : List Share). done ++ rs) wanted_is
           ∙ sym (joins done old.wanted.items (shares_of step) gone.begun)
           ∙ ap (λ (rs : List Share). with_shares rs (shares_of step)) gone.intervals
@@ -95,19 +95,19 @@ goes_standing law meter old new told next step well passes check_is wanted_is be
       begun = λ none. gone.begun (still_some old.wanted.items (shares_of step) (sym wanted_is ∙ none));
     }
 
-pub goes_voided : PassedRowsFit → (meter : Installed) (old new : Progress) (told : TableRow) (next : Check) → IsWellInstalled meter
-    → passed meter old.check told ≡ Ok (next, None) → new.check ≡ next → new.wanted.items ≡ old.wanted.items
-    → (before : List TableRow) (done : List Share) → HasGone meter before done old → HasGone meter (told ∷ before) done new
-goes_voided law meter old new told next well passes check_is wanted_is before done gone =
-    let t : IsTaken meter gone.rows told next None = law meter gone.rows old.check told next None well gone.taken passes in
+pub goes_voided : PassedRowsFit → (meter : Installed) (old new : Progress) (reported : TableRow) (next : Check) → IsWellInstalled meter
+    → passed meter old.check reported ≡ Ok (next, None) → new.check ≡ next → new.wanted.items ≡ old.wanted.items
+    → (before : List TableRow) (done : List Share) → HasGone meter before done old → HasGone meter (reported ∷ before) done new
+goes_voided law meter old new reported next well passes check_is wanted_is before done gone =
+    let t : IsTaken meter gone.rows reported next None = law meter gone.rows old.check reported next None well gone.taken passes in
     let es : List Entry = entries_in gone.rows in
     let off = struck_of meter.range (last_after meter es) t.row t.step_is in
     let is : entries_in (t.row ∷ gone.rows) ≡ es = entries_struck t.row gone.rows off in
     record {
       rows = t.row ∷ gone.rows;
       taken = subst (λ (c : Check). HasTaken meter (t.row ∷ gone.rows) c) (sym check_is) t.taken;
-      told_is = ap (λ (x : TableRow). x ∷ before) t.told_is
-          ∙ ap (λ (ts : List TableRow). table_row (scale_after meter (t.row ∷ gone.rows)) t.row ∷ ts) gone.told_is;
+      reported_is = ap (λ (x : TableRow). x ∷ before) t.reported_is
+          ∙ ap (λ (ts : List TableRow). table_row (scale_after meter (t.row ∷ gone.rows)) t.row ∷ ts) gone.reported_is;
       intervals = ap (λ (rs : List Share). done ++ rs) wanted_is ∙ gone.intervals
           ∙ ap (λ (xs : List Entry). rows_of_steps (steps_after meter xs)) (sym is);
       begun = λ none. gone.begun (sym wanted_is ∙ none);
@@ -155,13 +155,13 @@ none_left (row ∷ rows) h =
 -- `drop_done` moves interval rows from the pending rows to the compared rows.
 pub drops_done : (old new : Progress) → new.check ≡ old.check
     → new.wanted.items ≡ drop (settled_in old.wanted.items) old.wanted.items → DropsDone old new
-drops_done old new same left meter told done gone =
+drops_done old new same left meter reported done gone =
     let rows : List Share = old.wanted.items in
     let n : ℕ = settled_in rows in
     record {
       rows = gone.rows;
       taken = subst (λ (check : Check). HasTaken meter gone.rows check) (sym same) gone.taken;
-      told_is = gone.told_is;
+      reported_is = gone.reported_is;
       intervals = ap (λ (rs : List Share). (done ++ take n rows) ++ rs) left
           ∙ append_assoc done (take n rows) (drop n rows)
           ∙ ap (λ (rs : List Share). done ++ rs) (take-append-drop n rows)

@@ -49,9 +49,9 @@ no_fault : {X : Type 0} (o : Option RowFault) (r : Result X RowFault) (x : X) �
 no_fault None r x h = (refl, h)
 no_fault (Some f) r x h = absurd (cc)
 
-none_told : (b : Bool) (f : RowFault) (o : Option RowFault) → (if b then Some f else o) ≡ None → (b ≡ false) × (o ≡ None)
-none_told true f o h = absurd (cc)
-none_told false f o h = (refl, h)
+none_reported : (b : Bool) (f : RowFault) (o : Option RowFault) → (if b then Some f else o) ≡ None → (b ≡ false) × (o ≡ None)
+none_reported true f o h = absurd (cc)
+none_reported false f o h = (refl, h)
 
 same_Ok : {X E : Type 0} (x y : X) → (let r : Result X E = Ok x in r) ≡ Ok y → x ≡ y
 same_Ok x y h = cc
@@ -99,8 +99,8 @@ shaped check row k h =
 
 -- ---- the table row of the encoded row
 
-abbrev told_with : (place : ℕ) → RowKind → (moment raw rolls after : ℕ) → ℤ → Bool → TableRow
-told_with place k moment raw rolls after sf v = record {
+abbrev reported_with : (place : ℕ) → RowKind → (moment raw rolls after : ℕ) → ℤ → Bool → TableRow
+reported_with place k moment raw rolls after sf v = record {
   place = place;
   kind = k;
   moment = moment;
@@ -111,13 +111,13 @@ told_with place k moment raw rolls after sf v = record {
   is_voided = v;
 }
 
-same_told : (place moment raw : ℕ) (k k' : RowKind) (rolls rolls' after after' : ℕ) (sf sf' : ℤ) (v v' : Bool)
+same_reported : (place moment raw : ℕ) (k k' : RowKind) (rolls rolls' after after' : ℕ) (sf sf' : ℤ) (v v' : Bool)
     → k ≡ k' → rolls ≡ rolls' → after ≡ after' → sf ≡ sf' → v ≡ v'
-    → told_with place k moment raw rolls after sf v ≡ told_with place k' moment raw rolls' after' sf' v'
-same_told place moment raw k k' rolls rolls' after after' sf sf' v v' hk hr ha hs hv =
-    ap (λ x. told_with place x moment raw rolls after sf v) hk ∙ ap (λ x. told_with place k' moment raw x after sf v) hr
-    ∙ ap (λ x. told_with place k' moment raw rolls' x sf v) ha ∙ ap (λ x. told_with place k' moment raw rolls' after' x v) hs
-    ∙ ap (λ x. told_with place k' moment raw rolls' after' sf' x) hv
+    → reported_with place k moment raw rolls after sf v ≡ reported_with place k' moment raw rolls' after' sf' v'
+same_reported place moment raw k k' rolls rolls' after after' sf sf' v v' hk hr ha hs hv =
+    ap (λ x. reported_with place x moment raw rolls after sf v) hk ∙ ap (λ x. reported_with place k' moment raw x after sf v) hr
+    ∙ ap (λ x. reported_with place k' moment raw rolls' x sf v) ha ∙ ap (λ x. reported_with place k' moment raw rolls' after' x v) hs
+    ∙ ap (λ x. reported_with place k' moment raw rolls' after' sf' x) hv
 
 not_not : (b : Bool) → b ≡ not (not b)
 not_not true = refl
@@ -128,15 +128,15 @@ unused n h = grind (arith, nat_tests)
 
 -- The entry row that a table row of the kind `k` encodes.
 abbrev row_in : EntryKind → TableRow → EntryRow
-row_in k told = record { place = told.place; kind = k; entry = entry_in k told; stands = not told.is_voided }
+row_in k reported = record { place = reported.place; kind = k; entry = entry_in k reported; stands = not reported.is_voided }
 
-told_by : (k : EntryKind) (told : TableRow) (sf : ℤ) → told.kind ≡ kind_as k → has_unused k told ≡ false → told.sf ≡ sf
-    → told ≡ table_row sf (row_in k told)
-told_by kind.Reading told sf hk used hs = same_told told.place told.moment told.raw told.kind row_kind.Reading told.rolls told.rolls told.after 0 told.sf sf told.is_voided (not (not told.is_voided)) hk refl (unused told.after used) hs (not_not told.is_voided)
-told_by kind.Manual told sf hk used hs = same_told told.place told.moment told.raw told.kind row_kind.Manual told.rolls told.rolls told.after 0 told.sf sf told.is_voided (not (not told.is_voided)) hk refl (unused told.after used) hs (not_not told.is_voided)
-told_by kind.Closing told sf hk used hs = same_told told.place told.moment told.raw told.kind row_kind.Closing told.rolls told.rolls told.after 0 told.sf sf told.is_voided (not (not told.is_voided)) hk refl (unused told.after used) hs (not_not told.is_voided)
-told_by kind.Reset told sf hk used hs = same_told told.place told.moment told.raw told.kind row_kind.Reset told.rolls 0 told.after told.after told.sf sf told.is_voided (not (not told.is_voided)) hk (unused told.rolls used) refl hs (not_not told.is_voided)
-told_by kind.Rescale told sf hk used hs = same_told told.place told.moment told.raw told.kind row_kind.Rescale told.rolls 0 told.after told.after told.sf sf told.is_voided (not (not told.is_voided)) hk (unused told.rolls used) refl hs (not_not told.is_voided)
+reported_by : (k : EntryKind) (reported : TableRow) (sf : ℤ) → reported.kind ≡ kind_as k → has_unused k reported ≡ false → reported.sf ≡ sf
+    → reported ≡ table_row sf (row_in k reported)
+reported_by kind.Reading reported sf hk used hs = same_reported reported.place reported.moment reported.raw reported.kind row_kind.Reading reported.rolls reported.rolls reported.after 0 reported.sf sf reported.is_voided (not (not reported.is_voided)) hk refl (unused reported.after used) hs (not_not reported.is_voided)
+reported_by kind.Manual reported sf hk used hs = same_reported reported.place reported.moment reported.raw reported.kind row_kind.Manual reported.rolls reported.rolls reported.after 0 reported.sf sf reported.is_voided (not (not reported.is_voided)) hk refl (unused reported.after used) hs (not_not reported.is_voided)
+reported_by kind.Closing reported sf hk used hs = same_reported reported.place reported.moment reported.raw reported.kind row_kind.Closing reported.rolls reported.rolls reported.after 0 reported.sf sf reported.is_voided (not (not reported.is_voided)) hk refl (unused reported.after used) hs (not_not reported.is_voided)
+reported_by kind.Reset reported sf hk used hs = same_reported reported.place reported.moment reported.raw reported.kind row_kind.Reset reported.rolls 0 reported.after reported.after reported.sf sf reported.is_voided (not (not reported.is_voided)) hk (unused reported.rolls used) refl hs (not_not reported.is_voided)
+reported_by kind.Rescale reported sf hk used hs = same_reported reported.place reported.moment reported.raw reported.kind row_kind.Rescale reported.rolls 0 reported.after reported.after reported.sf sf reported.is_voided (not (not reported.is_voided)) hk (unused reported.rolls used) refl hs (not_not reported.is_voided)
 
 -- ---- the scale factor after a row
 
@@ -144,13 +144,13 @@ same_scale : (a b : ℤ) → not (int_eq a b) ≡ false → a ≡ b
 same_scale a b h = (Decides-int_eq a b).0 (grind arith)
 
 -- The scale factor column of a row that passes is the counter's scale factor after the row's entry.
-scale_following : (k : EntryKind) (told : TableRow) (check : Check) → is_off_scale check k told ≡ false
-    → told.sf ≡ (after check.last (entry_in k told)).sf
-scale_following kind.Reading told check h = same_scale told.sf check.last.sf h
-scale_following kind.Manual told check h = same_scale told.sf check.last.sf h
-scale_following kind.Closing told check h = same_scale told.sf check.last.sf h
-scale_following kind.Reset told check h = refl
-scale_following kind.Rescale told check h = refl
+scale_following : (k : EntryKind) (reported : TableRow) (check : Check) → is_off_scale check k reported ≡ false
+    → reported.sf ≡ (after check.last (entry_in k reported)).sf
+scale_following kind.Reading reported check h = same_scale reported.sf check.last.sf h
+scale_following kind.Manual reported check h = same_scale reported.sf check.last.sf h
+scale_following kind.Closing reported check h = same_scale reported.sf check.last.sf h
+scale_following kind.Reset reported check h = refl
+scale_following kind.Rescale reported check h = refl
 
 -- ---- a voided reading that passes
 
@@ -175,18 +175,18 @@ above a b h = grind (arith, nat_tests)
 at_most : (a b : ℕ) → nat_lt a b ≡ false → b ≤ a
 at_most a b h = grind (arith, nat_tests)
 
-was_reading : (meter : Installed) (check : Check) (told : TableRow) → voided_fault meter check told ≡ None
-    → WasReading meter.range check.last told.moment told.raw told.rolls
-was_reading meter check told h =
-    let one = none_told (told.raw == 0) _ _ h in
-    let two = none_told (nat_le meter.range told.raw) _ _ one.1 in
-    let three = none_told (nat_le told.moment check.last.at) _ _ two.1 in
-    let four = none_told (nat_lt 1 told.rolls) _ _ three.1 in
+was_reading : (meter : Installed) (check : Check) (reported : TableRow) → voided_fault meter check reported ≡ None
+    → WasReading meter.range check.last reported.moment reported.raw reported.rolls
+was_reading meter check reported h =
+    let one = none_reported (reported.raw == 0) _ _ h in
+    let two = none_reported (nat_le meter.range reported.raw) _ _ one.1 in
+    let three = none_reported (nat_le reported.moment check.last.at) _ _ two.1 in
+    let four = none_reported (nat_lt 1 reported.rolls) _ _ three.1 in
     record {
-      accumulated = not_zero told.raw one.0;
-      below = above meter.range told.raw two.0;
-      later = above told.moment check.last.at three.0;
-      once = at_most 1 told.rolls four.0;
+      accumulated = not_zero reported.raw one.0;
+      below = above meter.range reported.raw two.0;
+      later = above reported.moment check.last.at three.0;
+      once = at_most 1 reported.rolls four.0;
     }
 
 -- ---- a valid entry that passes
@@ -201,20 +201,20 @@ accepted_by rolls (verdict.Accepted wanted step) h =
 
 -- The entry of the row was recorded. `next` is the state of the check after it, and `step` is the
 -- step to it.
-record IsAfter (check : Check) (k : EntryKind) (told : TableRow) (answer : Result (Last × Step) TermFault) (next : Check) (step : Option Step) : Type 0 where
+record IsAfter (check : Check) (k : EntryKind) (reported : TableRow) (answer : Result (Last × Step) TermFault) (next : Check) (step : Option Step) : Type 0 where
   last : Last
   gone : Step
   answered : answer ≡ Ok (last, gone)
   next_is : next
-      ≡ record { place = told.place; last = last; total = check.total + gone.mwh; is_ended = is_closing k; stands = true }
+      ≡ record { place = reported.place; last = last; total = check.total + gone.mwh; is_ended = is_closing k; stands = true }
   step_is : step ≡ Some gone
 
-booked_after : (check : Check) (k : EntryKind) (told : TableRow) (answer : Result (Last × Step) TermFault) (next : Check) (step : Option Step)
-    → following check k told answer ≡ Ok (next, step) → IsAfter check k told answer next step
-booked_after check k told (Err f) next step h = absurd (cc)
-booked_after check k told (Ok (last, gone)) next step h =
+booked_after : (check : Check) (k : EntryKind) (reported : TableRow) (answer : Result (Last × Step) TermFault) (next : Check) (step : Option Step)
+    → following check k reported answer ≡ Ok (next, step) → IsAfter check k reported answer next step
+booked_after check k reported (Err f) next step h = absurd (cc)
+booked_after check k reported (Ok (last, gone)) next step h =
     let made : Check = record {
-      place = told.place;
+      place = reported.place;
       last = last;
       total = check.total + gone.mwh;
       is_ended = is_closing k;
@@ -230,28 +230,28 @@ booked_after check k told (Ok (last, gone)) next step h =
     }
 
 -- A valid table row without a fault encodes an entry that the rules accept.
-stood_fits : (meter : Installed) (rows : List EntryRow) (told : TableRow) (k : EntryKind) (next : Last) (step : Step)
+stood_fits : (meter : Installed) (rows : List EntryRow) (reported : TableRow) (k : EntryKind) (next : Last) (step : Step)
     → let check = check_after meter rows in
-    is_off_scale check k told ≡ false → reading_fault meter check k told ≡ None
-    → entered meter.range check.total check.last (entry_in k told) ≡ Ok (next, step)
-    → EntryFits meter (entries_in rows) k (entry_in k told)
-stood_fits meter rows told kind.Reading next step scale none booked =
-    let v = accepted_by told.rolls _ none in record { step = v.0; accepted = v.1 }
-stood_fits meter rows told kind.Manual next step scale none booked = record { next = next; step = step; entered = booked }
-stood_fits meter rows told kind.Closing next step scale none booked = record { next = next; step = step; entered = booked }
-stood_fits meter rows told kind.Reset next step scale none booked =
-    (record { next = next; step = step; entered = booked }, same_scale told.sf (last_after meter (entries_in rows)).sf scale)
-stood_fits meter rows told kind.Rescale next step scale none booked = record { next = next; step = step; entered = booked }
+    is_off_scale check k reported ≡ false → reading_fault meter check k reported ≡ None
+    → entered meter.range check.total check.last (entry_in k reported) ≡ Ok (next, step)
+    → EntryFits meter (entries_in rows) k (entry_in k reported)
+stood_fits meter rows reported kind.Reading next step scale none booked =
+    let v = accepted_by reported.rolls _ none in record { step = v.0; accepted = v.1 }
+stood_fits meter rows reported kind.Manual next step scale none booked = record { next = next; step = step; entered = booked }
+stood_fits meter rows reported kind.Closing next step scale none booked = record { next = next; step = step; entered = booked }
+stood_fits meter rows reported kind.Reset next step scale none booked =
+    (record { next = next; step = step; entered = booked }, same_scale reported.sf (last_after meter (entries_in rows)).sf scale)
+stood_fits meter rows reported kind.Rescale next step scale none booked = record { next = next; step = step; entered = booked }
 
 -- A reading without a fault would be accepted after the rows before it.
-was_accepted : (meter : Installed) (rows : List EntryRow) (told : TableRow) (k : EntryKind) → is_reading k ≡ true
-    → reading_fault meter (check_after meter rows) k told ≡ None → EntryFits meter (entries_in rows) k (entry_in k told)
-was_accepted meter rows told kind.Reading is none =
-    let v = accepted_by told.rolls _ none in record { step = v.0; accepted = v.1 }
-was_accepted meter rows told kind.Manual is none = absurd (cc)
-was_accepted meter rows told kind.Closing is none = absurd (cc)
-was_accepted meter rows told kind.Reset is none = absurd (cc)
-was_accepted meter rows told kind.Rescale is none = absurd (cc)
+was_accepted : (meter : Installed) (rows : List EntryRow) (reported : TableRow) (k : EntryKind) → is_reading k ≡ true
+    → reading_fault meter (check_after meter rows) k reported ≡ None → EntryFits meter (entries_in rows) k (entry_in k reported)
+was_accepted meter rows reported kind.Reading is none =
+    let v = accepted_by reported.rolls _ none in record { step = v.0; accepted = v.1 }
+was_accepted meter rows reported kind.Manual is none = absurd (cc)
+was_accepted meter rows reported kind.Closing is none = absurd (cc)
+was_accepted meter rows reported kind.Reset is none = absurd (cc)
+was_accepted meter rows reported kind.Rescale is none = absurd (cc)
 
 -- ---- the state of the check after a row that passes
 
@@ -271,17 +271,17 @@ ended_by : (b c : Bool) → c ≡ false → b ≡ (if b then true else c)
 ended_by true c h = refl
 ended_by false c h = sym h
 
-stood_taken : (meter : Installed) (rows : List EntryRow) (told : TableRow) (k : EntryKind) (next : Check) (step : Option Step)
-    → IsWellInstalled meter → AllFit meter rows → IsShaped (check_after meter rows) told k → told.is_voided ≡ false
-    → stood meter (check_after meter rows) k told ≡ Ok (next, step) → IsTaken meter rows told next step
-stood_taken meter rows told k next step well fit shape stands h =
+stood_taken : (meter : Installed) (rows : List EntryRow) (reported : TableRow) (k : EntryKind) (next : Check) (step : Option Step)
+    → IsWellInstalled meter → AllFit meter rows → IsShaped (check_after meter rows) reported k → reported.is_voided ≡ false
+    → stood meter (check_after meter rows) k reported ≡ Ok (next, step) → IsTaken meter rows reported next step
+stood_taken meter rows reported k next step well fit shape stands h =
     let check : Check = check_after meter rows in
     let es : List Entry = entries_in rows in
-    let e : Entry = entry_in k told in
-    let row : EntryRow = row_in k told in
-    let free = no_fault (reading_fault meter check k told) _ (next, step) h in
-    let gone = booked_after check k told _ next step free.1 in
-    let fits : EntryFits meter es k e = stood_fits meter rows told k gone.last gone.gone shape.scale free.0 gone.answered in
+    let e : Entry = entry_in k reported in
+    let row : EntryRow = row_in k reported in
+    let free = no_fault (reading_fault meter check k reported) _ (next, step) h in
+    let gone = booked_after check k reported _ next step free.1 in
+    let fits : EntryFits meter es k e = stood_fits meter rows reported k gone.last gone.gone shape.scale free.0 gone.answered in
     let on : row.stands ≡ true = ap not stands in
     let row_fits : RowFits meter rows row = record {
       place = omega (arith, shape.place);
@@ -300,69 +300,69 @@ stood_taken meter rows told k next step well fit shape stands h =
     omega (arith, mwh, whole_with meter e es follow, ap (total_after meter) is) in
     record {
       row = row;
-      told_is = told_by k told (scale_after meter (row ∷ rows)) shape.kind_is shape.used
-          (scale_following k told check shape.scale ∙ sym (ap (λ (xs : List Entry). (last_after meter xs).sf) is));
+      reported_is = reported_by k reported (scale_after meter (row ∷ rows)) shape.kind_is shape.used
+          (scale_following k reported check shape.scale ∙ sym (ap (λ (xs : List Entry). (last_after meter xs).sf) is));
       taken = record {
         fit = all;
         check_is = gone.next_is
-            ∙ same_check told.place (length (row ∷ rows) + 1) gone.last _ (check.total + gone.gone.mwh) _ (is_closing k) _ true _
+            ∙ same_check reported.place (length (row ∷ rows) + 1) gone.last _ (check.total + gone.gone.mwh) _ (is_closing k) _ true _
             (omega (arith, shape.place)) last total (ended_by (is_closing k) (is_ended rows) shape.unended) (sym on);
       };
       step_is = gone.step_is ∙ ap Some booked.step_is ∙ sym (cond-true _ _ _ on);
     }
 
-voided_taken : (meter : Installed) (rows : List EntryRow) (told : TableRow) (k : EntryKind) (next : Check) (step : Option Step)
-    → AllFit meter rows → IsShaped (check_after meter rows) told k → told.is_voided ≡ true
-    → voided meter (check_after meter rows) k told ≡ Ok (next, step) → IsTaken meter rows told next step
-voided_taken meter rows told k next step fit shape v h =
+voided_taken : (meter : Installed) (rows : List EntryRow) (reported : TableRow) (k : EntryKind) (next : Check) (step : Option Step)
+    → AllFit meter rows → IsShaped (check_after meter rows) reported k → reported.is_voided ≡ true
+    → voided meter (check_after meter rows) k reported ≡ Ok (next, step) → IsTaken meter rows reported next step
+voided_taken meter rows reported k next step fit shape v h =
     let check : Check = check_after meter rows in
     let es : List Entry = entries_in rows in
-    let e : Entry = entry_in k told in
-    let row : EntryRow = row_in k told in
-    let free = no_fault (voided_fault meter check told) _ (next, step) h in
-    let stood = no_fault (stood_fault meter check k told) _ (next, step) free.1 in
-    let pair : (let p : Check × Option Step = (check_with told.place check.last check.total check.is_ended false, None) in p) ≡ (next, step) =
+    let e : Entry = entry_in k reported in
+    let row : EntryRow = row_in k reported in
+    let free = no_fault (voided_fault meter check reported) _ (next, step) h in
+    let stood = no_fault (stood_fault meter check k reported) _ (next, step) free.1 in
+    let pair : (let p : Check × Option Step = (check_with reported.place check.last check.total check.is_ended false, None) in p) ≡ (next, step) =
     same_Ok _ _ stood.1 in
-    let read : is_reading k ≡ true = voided_read told.is_voided k v shape.voidable in
+    let read : is_reading k ≡ true = voided_read reported.is_voided k v shape.voidable in
     let was : VoidedFits meter.range check.last k e =
-    read_kind (λ k. VoidedFits meter.range check.last k (entry_in k told)) (was_reading meter check told free.0) k read in
+    read_kind (λ k. VoidedFits meter.range check.last k (entry_in k reported)) (was_reading meter check reported free.0) k read in
     let off : row.stands ≡ false = ap not v in
     let row_fits : RowFits meter rows row = record {
       place = omega (arith, shape.place);
       unended = shape.unended;
       entry = subst (λ b. MayCome meter es b k e) (sym off) was;
-      voided_after = λ _ on. was_accepted meter rows told k read (sym (cond-true _ _ _ on) ∙ stood.0);
+      voided_after = λ _ on. was_accepted meter rows reported k read (sym (cond-true _ _ _ on) ∙ stood.0);
     } in
     let is : entries_in (row ∷ rows) ≡ es = entries_struck row rows off in
     let more : is_closing k ≡ false = read_kind (λ k. is_closing k ≡ false) refl k read in
-    let scale : told.sf ≡ check.last.sf =
-    read_kind (λ k. is_off_scale check k told ≡ false → told.sf ≡ check.last.sf) (λ s. same_scale told.sf check.last.sf s) k read shape.scale in
+    let scale : reported.sf ≡ check.last.sf =
+    read_kind (λ k. is_off_scale check k reported ≡ false → reported.sf ≡ check.last.sf) (λ s. same_scale reported.sf check.last.sf s) k read shape.scale in
     record {
       row = row;
-      told_is = told_by k told (scale_after meter (row ∷ rows)) shape.kind_is shape.used
+      reported_is = reported_by k reported (scale_after meter (row ∷ rows)) shape.kind_is shape.used
           (scale ∙ sym (ap (λ (xs : List Entry). (last_after meter xs).sf) is));
       taken = record {
         fit = (row_fits, fit);
         check_is = sym (ap (λ (p : Check × Option Step). p.0) pair)
-            ∙ same_check told.place (length (row ∷ rows) + 1) check.last _ check.total _ check.is_ended _ false _
+            ∙ same_check reported.place (length (row ∷ rows) + 1) check.last _ check.total _ check.is_ended _ false _
             (omega (arith, shape.place)) (sym (ap (last_after meter) is)) (sym (ap (total_after meter) is))
             (sym (cond-false _ _ _ more)) (sym off);
       };
       step_is = sym (ap (λ (p : Check × Option Step). p.1) pair) ∙ sym (cond-false _ _ _ off);
     }
 
-passed_taken : (meter : Installed) (rows : List EntryRow) (told : TableRow) (next : Check) (step : Option Step) (shape : Result EntryKind RowFault)
-    → IsWellInstalled meter → AllFit meter rows → shape_of (check_after meter rows) told ≡ shape
-    → passed_by meter (check_after meter rows) told shape ≡ Ok (next, step) → IsTaken meter rows told next step
-passed_taken meter rows told next step (Err f) well fit is h = absurd (cc)
-passed_taken meter rows told next step (Ok k) well fit is h =
-    let shape = shaped (check_after meter rows) told k is in
-    elim (cases_Bool told.is_voided) [
-      | inl v ↦ voided_taken meter rows told k next step fit shape v (sym (cond-true _ _ _ v) ∙ h)
-      | inr stands ↦ stood_taken meter rows told k next step well fit shape stands (sym (cond-false _ _ _ stands) ∙ h)
+passed_taken : (meter : Installed) (rows : List EntryRow) (reported : TableRow) (next : Check) (step : Option Step) (shape : Result EntryKind RowFault)
+    → IsWellInstalled meter → AllFit meter rows → shape_of (check_after meter rows) reported ≡ shape
+    → passed_by meter (check_after meter rows) reported shape ≡ Ok (next, step) → IsTaken meter rows reported next step
+passed_taken meter rows reported next step (Err f) well fit is h = absurd (cc)
+passed_taken meter rows reported next step (Ok k) well fit is h =
+    let shape = shaped (check_after meter rows) reported k is in
+    elim (cases_Bool reported.is_voided) [
+      | inl v ↦ voided_taken meter rows reported k next step fit shape v (sym (cond-true _ _ _ v) ∙ h)
+      | inr stands ↦ stood_taken meter rows reported k next step well fit shape stands (sym (cond-false _ _ _ stands) ∙ h)
     ]
 
 pub passed_rows_fit : PassedRowsFit
-passed_rows_fit meter rows check told next step well taken h =
-    passed_taken meter rows told next step (shape_of (check_after meter rows) told) well taken.fit refl
-    (subst (λ (c : Check). passed meter c told ≡ Ok (next, step)) taken.check_is h)
+passed_rows_fit meter rows check reported next step well taken h =
+    passed_taken meter rows reported next step (shape_of (check_after meter rows) reported) well taken.fit refl
+    (subst (λ (c : Check). passed meter c reported ≡ Ok (next, step)) taken.check_is h)

@@ -36,11 +36,11 @@ kind_there kind.Closing = refl
 kind_there kind.Reset = refl
 kind_there kind.Rescale = refl
 
-pub shape_is : (check : Check) (told : TableRow) (k : EntryKind) → told.place ≡ check.place + 1 → kind_in told.kind ≡ Some k
-    → check.is_ended ≡ false → told.is_voided && not (is_reading k) ≡ false → has_unused k told ≡ false → is_off_scale check k told ≡ false
-    → shape_of check told ≡ Ok k
-shape_is check told k place kind unended voidable used scale =
-    cond-true _ _ _ (eq-eqb told.place (check.place + 1) place) ∙ ap (shape_by check told) kind ∙ cond-false _ _ _ unended
+pub shape_is : (check : Check) (reported : TableRow) (k : EntryKind) → reported.place ≡ check.place + 1 → kind_in reported.kind ≡ Some k
+    → check.is_ended ≡ false → reported.is_voided && not (is_reading k) ≡ false → has_unused k reported ≡ false → is_off_scale check k reported ≡ false
+    → shape_of check reported ≡ Ok k
+shape_is check reported k place kind unended voidable used scale =
+    cond-true _ _ _ (eq-eqb reported.place (check.place + 1) place) ∙ ap (shape_by check reported) kind ∙ cond-false _ _ _ unended
     ∙ cond-false _ _ _ voidable ∙ cond-false _ _ _ used ∙ cond-false _ _ _ scale
 
 differs : (a b : ℤ) → a ≡ b → not (int_eq a b) ≡ false
@@ -48,26 +48,26 @@ differs a b h = ap not ((Decides-int_eq a b).1 h)
 
 -- ---- valid rows and voided rows that the rules accept
 
-pub passes_standing : (meter : Installed) (check : Check) (told : TableRow) (k : EntryKind) (next : Last) (step : Step)
-    → shape_of check told ≡ Ok k → told.is_voided ≡ false → reading_fault meter check k told ≡ None
-    → entered meter.range check.total check.last (entry_in k told) ≡ Ok (next, step)
-    → IsOk (passed meter check told)
-passes_standing meter check told k next step shape stands none booked =
+pub passes_standing : (meter : Installed) (check : Check) (reported : TableRow) (k : EntryKind) (next : Last) (step : Step)
+    → shape_of check reported ≡ Ok k → reported.is_voided ≡ false → reading_fault meter check k reported ≡ None
+    → entered meter.range check.total check.last (entry_in k reported) ≡ Ok (next, step)
+    → IsOk (passed meter check reported)
+passes_standing meter check reported k next step shape stands none booked =
     subst IsOk (sym (
-    ap (passed_by meter check told) shape ∙ cond-false _ _ _ stands
-    ∙ ap (λ o. unless o (following check k told (entered meter.range check.total check.last (entry_in k told)))) none
-    ∙ ap (following check k told) booked
+    ap (passed_by meter check reported) shape ∙ cond-false _ _ _ stands
+    ∙ ap (λ o. unless o (following check k reported (entered meter.range check.total check.last (entry_in k reported)))) none
+    ∙ ap (following check k reported) booked
     )) refl
 
-pub passes_voided : (meter : Installed) (check : Check) (told : TableRow) (k : EntryKind)
-    → shape_of check told ≡ Ok k → told.is_voided ≡ true → voided_fault meter check told ≡ None
-    → stood_fault meter check k told ≡ None → IsOk (passed meter check told)
-passes_voided meter check told k shape v none stood =
-    let next : Check = record check { place = told.place; stands = false } in
+pub passes_voided : (meter : Installed) (check : Check) (reported : TableRow) (k : EntryKind)
+    → shape_of check reported ≡ Ok k → reported.is_voided ≡ true → voided_fault meter check reported ≡ None
+    → stood_fault meter check k reported ≡ None → IsOk (passed meter check reported)
+passes_voided meter check reported k shape v none stood =
+    let next : Check = record check { place = reported.place; stands = false } in
     let answer : Result (Check × Option Step) RowFault = Ok (next, None) in
     subst IsOk (sym (
-    ap (passed_by meter check told) shape ∙ cond-true _ _ _ v
-    ∙ ap (λ o. unless o (unless (stood_fault meter check k told) answer)) none ∙ ap (λ o. unless o answer) stood
+    ap (passed_by meter check reported) shape ∙ cond-true _ _ _ v
+    ∙ ap (λ o. unless o (unless (stood_fault meter check k reported) answer)) none ∙ ap (λ o. unless o answer) stood
     )) refl
 
 zero_not : (n : ℕ) → n ≢ 0 → (n == 0) ≡ false
@@ -79,25 +79,25 @@ not_le a b h = grind (arith, nat_tests)
 not_lt : (a b : ℕ) → b ≤ a → nat_lt a b ≡ false
 not_lt a b h = grind (arith, nat_tests)
 
-no_voided_fault : (meter : Installed) (check : Check) (told : TableRow) → WasReading meter.range check.last told.moment told.raw told.rolls
-    → voided_fault meter check told ≡ None
-no_voided_fault meter check told h =
-    cond-false _ _ _ (zero_not told.raw h.accumulated) ∙ cond-false _ _ _ (not_le meter.range told.raw h.below)
-    ∙ cond-false _ _ _ (not_le told.moment check.last.at h.later) ∙ cond-false _ _ _ (not_lt 1 told.rolls h.once)
+no_voided_fault : (meter : Installed) (check : Check) (reported : TableRow) → WasReading meter.range check.last reported.moment reported.raw reported.rolls
+    → voided_fault meter check reported ≡ None
+no_voided_fault meter check reported h =
+    cond-false _ _ _ (zero_not reported.raw h.accumulated) ∙ cond-false _ _ _ (not_le meter.range reported.raw h.below)
+    ∙ cond-false _ _ _ (not_le reported.moment check.last.at h.later) ∙ cond-false _ _ _ (not_lt 1 reported.rolls h.once)
 
 no_reading_fault : (rolls step : ℕ) → fault_by rolls (verdict.Accepted rolls step) ≡ None
 no_reading_fault rolls step = cond-true _ _ _ (eq-eqb rolls rolls refl)
 
 -- A voided reading directly after a valid row has no fault, because the rules for valid readings
 -- accept it.
-no_stood_fault : (meter : Installed) (rows : List EntryRow) (told : TableRow)
-    → (last_stands rows ≡ true → IsAcceptedAs meter (entries_in rows) told.moment told.raw told.rolls)
-    → stood_fault meter (check_after meter rows) kind.Reading told ≡ None
-no_stood_fault meter rows told h =
+no_stood_fault : (meter : Installed) (rows : List EntryRow) (reported : TableRow)
+    → (last_stands rows ≡ true → IsAcceptedAs meter (entries_in rows) reported.moment reported.raw reported.rolls)
+    → stood_fault meter (check_after meter rows) kind.Reading reported ≡ None
+no_stood_fault meter rows reported h =
     elim (cases_Bool (last_stands rows)) [
       | inl on ↦
-          let was : IsAcceptedAs meter (entries_in rows) told.moment told.raw told.rolls = h on in
-          cond-true _ _ _ on ∙ ap (fault_by told.rolls) was.accepted ∙ no_reading_fault told.rolls was.step
+          let was : IsAcceptedAs meter (entries_in rows) reported.moment reported.raw reported.rolls = h on in
+          cond-true _ _ _ on ∙ ap (fault_by reported.rolls) was.accepted ∙ no_reading_fault reported.rolls was.step
       | inr off ↦ cond-false _ _ _ off
     ]
 
@@ -107,45 +107,45 @@ abbrev row_with : (place : ℕ) → EntryKind → Entry → Bool → EntryRow
 row_with place k e stands = record { place = place; kind = k; entry = e; stands = stands }
 
 -- The table row of an entry row that follows a list of rows.
-abbrev told_after : Installed → List EntryRow → EntryRow → TableRow
-told_after meter rows row = table_row (scale_after meter (row ∷ rows)) row
+abbrev reported_after : Installed → List EntryRow → EntryRow → TableRow
+reported_after meter rows row = table_row (scale_after meter (row ∷ rows)) row
 
 passes : (meter : Installed) (rows : List EntryRow) (place : ℕ) (stands : Bool) (k : EntryKind) (e : Entry) → IsWellInstalled meter → AllFit meter rows
     → place ≡ length rows + 2 → is_ended rows ≡ false → MayCome meter (entries_in rows) stands k e
     → (stands ≡ false → last_stands rows ≡ true → EntryFits meter (entries_in rows) k e)
-    → IsOk (passed meter (check_after meter rows) (told_after meter rows (row_with place k e stands)))
+    → IsOk (passed meter (check_after meter rows) (reported_after meter rows (row_with place k e stands)))
 passes meter rows place true kind.Reading (entry.Step at raw rolls) well fit at_place unended h was =
     let check : Check = check_after meter rows in
     let l : Last = last_after meter (entries_in rows) in
-    let told : TableRow = told_after meter rows (row_with place kind.Reading (entry.Step at raw rolls) true) in
+    let reported : TableRow = reported_after meter rows (row_with place kind.Reading (entry.Step at raw rolls) true) in
     let under = last_under meter (entries_in rows) well.raw (fitting_account meter rows well fit).follow in
-    passes_standing meter check told kind.Reading _ _
-    (shape_is check told kind.Reading (omega (arith, at_place)) refl unended refl refl (differs l.sf l.sf refl))
+    passes_standing meter check reported kind.Reading _ _
+    (shape_is check reported kind.Reading (omega (arith, at_place)) refl unended refl refl (differs l.sf l.sf refl))
     refl (ap (fault_by rolls) h.accepted ∙ no_reading_fault rolls h.step)
     (accepted_is_entered meter.range (terms_of meter check) l (reading_at l at raw) rolls h.step under h.accepted)
 passes meter rows place true kind.Manual (entry.Step at raw rolls) well fit at_place unended h was =
     let check : Check = check_after meter rows in
     let l : Last = last_after meter (entries_in rows) in
-    let told : TableRow = told_after meter rows (row_with place kind.Manual (entry.Step at raw rolls) true) in
-    passes_standing meter check told kind.Manual h.next h.step
-    (shape_is check told kind.Manual (omega (arith, at_place)) refl unended refl refl (differs l.sf l.sf refl)) refl refl h.entered
+    let reported : TableRow = reported_after meter rows (row_with place kind.Manual (entry.Step at raw rolls) true) in
+    passes_standing meter check reported kind.Manual h.next h.step
+    (shape_is check reported kind.Manual (omega (arith, at_place)) refl unended refl refl (differs l.sf l.sf refl)) refl refl h.entered
 passes meter rows place true kind.Closing (entry.Step at raw rolls) well fit at_place unended h was =
     let check : Check = check_after meter rows in
     let l : Last = last_after meter (entries_in rows) in
-    let told : TableRow = told_after meter rows (row_with place kind.Closing (entry.Step at raw rolls) true) in
-    passes_standing meter check told kind.Closing h.next h.step
-    (shape_is check told kind.Closing (omega (arith, at_place)) refl unended refl refl (differs l.sf l.sf refl)) refl refl h.entered
+    let reported : TableRow = reported_after meter rows (row_with place kind.Closing (entry.Step at raw rolls) true) in
+    passes_standing meter check reported kind.Closing h.next h.step
+    (shape_is check reported kind.Closing (omega (arith, at_place)) refl unended refl refl (differs l.sf l.sf refl)) refl refl h.entered
 passes meter rows place true kind.Reset (entry.Change at before new sf) well fit at_place unended h was =
     let check : Check = check_after meter rows in
     let l : Last = last_after meter (entries_in rows) in
-    let told : TableRow = told_after meter rows (row_with place kind.Reset (entry.Change at before new sf) true) in
-    passes_standing meter check told kind.Reset h.0.next h.0.step
-    (shape_is check told kind.Reset (omega (arith, at_place)) refl unended refl refl (differs sf l.sf h.1)) refl refl h.0.entered
+    let reported : TableRow = reported_after meter rows (row_with place kind.Reset (entry.Change at before new sf) true) in
+    passes_standing meter check reported kind.Reset h.0.next h.0.step
+    (shape_is check reported kind.Reset (omega (arith, at_place)) refl unended refl refl (differs sf l.sf h.1)) refl refl h.0.entered
 passes meter rows place true kind.Rescale (entry.Change at before new sf) well fit at_place unended h was =
     let check : Check = check_after meter rows in
-    let told : TableRow = told_after meter rows (row_with place kind.Rescale (entry.Change at before new sf) true) in
-    passes_standing meter check told kind.Rescale h.next h.step
-    (shape_is check told kind.Rescale (omega (arith, at_place)) refl unended refl refl refl) refl refl h.entered
+    let reported : TableRow = reported_after meter rows (row_with place kind.Rescale (entry.Change at before new sf) true) in
+    passes_standing meter check reported kind.Rescale h.next h.step
+    (shape_is check reported kind.Rescale (omega (arith, at_place)) refl unended refl refl refl) refl refl h.entered
 passes meter rows place true kind.Reading (entry.Change at before new sf) well fit at_place unended h was = absurd h
 passes meter rows place true kind.Manual (entry.Change at before new sf) well fit at_place unended h was = absurd h
 passes meter rows place true kind.Closing (entry.Change at before new sf) well fit at_place unended h was = absurd h
@@ -154,10 +154,10 @@ passes meter rows place true kind.Rescale (entry.Step at raw rolls) well fit at_
 passes meter rows place false kind.Reading (entry.Step at raw rolls) well fit at_place unended h was =
     let check : Check = check_after meter rows in
     let l : Last = last_after meter (entries_in rows) in
-    let told : TableRow = told_after meter rows (row_with place kind.Reading (entry.Step at raw rolls) false) in
-    passes_voided meter check told kind.Reading
-    (shape_is check told kind.Reading (omega (arith, at_place)) refl unended refl refl (differs l.sf l.sf refl)) refl
-    (no_voided_fault meter check told h) (no_stood_fault meter rows told (λ on. was refl on))
+    let reported : TableRow = reported_after meter rows (row_with place kind.Reading (entry.Step at raw rolls) false) in
+    passes_voided meter check reported kind.Reading
+    (shape_is check reported kind.Reading (omega (arith, at_place)) refl unended refl refl (differs l.sf l.sf refl)) refl
+    (no_voided_fault meter check reported h) (no_stood_fault meter rows reported (λ on. was refl on))
 passes meter rows place false kind.Reading (entry.Change at before new sf) well fit at_place unended h was = absurd h
 passes meter rows place false kind.Manual e well fit at_place unended h was = absurd h
 passes meter rows place false kind.Closing e well fit at_place unended h was = absurd h
@@ -166,6 +166,6 @@ passes meter rows place false kind.Rescale e well fit at_place unended h was = a
 
 pub fitting_rows_pass : FittingRowsPass
 fitting_rows_pass meter rows check row well taken fits =
-    subst (λ (c : Check). IsOk (passed meter c (told_after meter rows row))) (sym taken.check_is)
+    subst (λ (c : Check). IsOk (passed meter c (reported_after meter rows row))) (sym taken.check_is)
     (passes meter rows row.place row.stands row.kind row.entry well taken.fit fits.place fits.unended fits.entry
     fits.voided_after)

@@ -7,7 +7,7 @@ use Rattle.energy_core.specs.declared.limits.TheConstants.{MAX_TOTAL}
 use Rattle.meter_journal.specs.declared.lines.Installed.{Installed}
 use Rattle.meter_journal.specs.Books.{IsWellInstalled}
 use Rattle.meter_journal.specs.Intervals.{with_shares}
-use Rattle.meter_audit.specs.CarriedTables.{moved_told, without_opening}
+use Rattle.meter_audit.specs.CarriedTables.{moved_reported, without_opening}
 use Rattle.meter_audit.specs.Fitting.{Tables, AreFine}
 use Rattle.meter_audit.specs.Laws.{AreLawful}
 
@@ -38,9 +38,9 @@ GoOn old (new ∷ later) =
 -- The joint report of an old and a new file. The entries of the new file, without its opening,
 -- follow the entries of the old file. The energies add up, and a quarter hour in both files has the
 -- energy of both.
-abbrev pub told_by_both : (old new : Tables) → Tables
-told_by_both old new = record {
-  entries = map (moved_told (length old.entries - 1)) (without_opening new.entries)
+abbrev pub reported_by_both : (old new : Tables) → Tables
+reported_by_both old new = record {
+  entries = map (moved_reported (length old.entries - 1)) (without_opening new.entries)
       ++ old.entries;
   intervals = with_shares old.intervals new.intervals;
   last = new.last;
@@ -51,7 +51,7 @@ told_by_both old new = record {
 -- The joint report about a meter of a file and of all later files.
 abbrev pub entry_from_all_rows : Tables → (later : List InFile) → Tables
 entry_from_all_rows old [] = old
-entry_from_all_rows old (new ∷ later) = entry_from_all_rows (told_by_both old new.tables) later
+entry_from_all_rows old (new ∷ later) = entry_from_all_rows (reported_by_both old new.tables) later
 
 -- Theorem: the joint report of several files is that of one lawful journal if the energy of all
 -- files stays within the limit of one meter.

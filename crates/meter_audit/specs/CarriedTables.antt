@@ -26,8 +26,8 @@ abbrev pub joined_rows : (old new : List EntryRow) → List EntryRow
 joined_rows old new = map (moved_row (length old)) new ++ old
 
 -- A table row of the new file, with its sequence number raised by `count` for the joined tables.
-abbrev pub moved_told : (count : ℕ) → TableRow → TableRow
-moved_told count told = record told { place = told.place + count }
+abbrev pub moved_reported : (count : ℕ) → TableRow → TableRow
+moved_reported count reported = record reported { place = reported.place + count }
 
 -- The table rows of a meter without the opening row, which is the last element of a list that
 -- begins with the latest row.
@@ -38,7 +38,7 @@ without_opening entries = take (length entries - 1) entries
 -- entries of the old file, and the energies add up. The last entry is the last entry of the new
 -- file. A quarter hour in both files has one row in the joined tables, with the energy of both.
 pub record AreOne (count : ℕ) (old new both : Tables) : Type 0 where
-  pub entries : both.entries ≡ map (moved_told count) (without_opening new.entries) ++ old.entries
+  pub entries : both.entries ≡ map (moved_reported count) (without_opening new.entries) ++ old.entries
   pub last : both.last ≡ new.last
   pub total : both.total ≡ old.total + new.total
   pub intervals : both.intervals ≡ with_shares old.intervals new.intervals

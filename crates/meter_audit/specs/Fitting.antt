@@ -63,10 +63,10 @@ AllFit meter (row ∷ rows) = RowFits meter rows row × AllFit meter rows
 
 -- The table rows after the opening row are the table rows of a list of entry rows that the rules
 -- accept. The latest row comes first.
-pub record AreTold (meter : Installed) (told : List TableRow) : Type 0 where
+pub record AreReported (meter : Installed) (reported : List TableRow) : Type 0 where
   pub rows : List EntryRow
   pub fit : AllFit meter rows
-  pub told_is : told ≡ later_rows meter rows
+  pub reported_is : reported ≡ later_rows meter rows
 
 -- The values in a meter's tables: the entry rows (the latest first), the interval rows, the last
 -- valid entry, the energy in mWh, and whether the meter was closed.

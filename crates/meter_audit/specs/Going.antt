@@ -11,7 +11,7 @@ use Rattle.meter_audit.specs.declared.faults.RowFault.{RowFault}
 use Rattle.meter_audit.specs.declared.progress.Progress.{Progress}
 use Rattle.meter_audit.specs.declared.rows.TableRow.{TableRow}
 use Rattle.meter_audit.specs.Rows.{opening_row, later_rows}
-use Rattle.meter_audit.specs.Fitting.{AreTold, Tables, AreFine}
+use Rattle.meter_audit.specs.Fitting.{AreReported, Tables, AreFine}
 use Rattle.meter_audit.specs.Passing.{IsSoundCheck, passed}
 use Rattle.meter_audit.specs.Laws.{HasTaken}
 
@@ -21,14 +21,14 @@ pub record IsSoundProgress (meter : Installed) (progress : Progress) : Type 0 wh
   pub check : IsSoundCheck meter progress.check
   pub within : energy_of progress.wanted.items ≤ progress.check.total
 
--- The check has passed the table rows `told`, which begin with the latest. They encode entry rows
--- that the rules accept. The compared and the pending interval rows together are all interval rows
--- of the entries.
-pub record HasGone (meter : Installed) (told : List TableRow) (done : List Share)
+-- The check has passed the table rows `reported`, which begin with the latest. They encode entry
+-- rows that the rules accept. The compared and the pending interval rows together are all interval
+-- rows of the entries.
+pub record HasGone (meter : Installed) (reported : List TableRow) (done : List Share)
     (progress : Progress) : Type 0 where
   pub rows : List EntryRow
   pub taken : HasTaken meter rows progress.check
-  pub told_is : told ≡ later_rows meter rows
+  pub reported_is : reported ≡ later_rows meter rows
   pub intervals : done ++ progress.wanted.items
       ≡ rows_of_steps (steps_after meter (entries_in rows))
   -- No interval row was removed as long as the list of pending rows is empty.
@@ -37,8 +37,8 @@ pub record HasGone (meter : Installed) (told : List TableRow) (done : List Share
 -- If no fault is reported, the check has passed the row. Otherwise the row is refused for the
 -- reported fault.
 abbrev pub GoesOver : Installed → Progress → TableRow → Progress → Option RowFault → Type 0
-GoesOver meter old row new None = (told : List TableRow) (done : List Share)
-    → HasGone meter told done old → HasGone meter (row ∷ told) done new
+GoesOver meter old row new None = (reported : List TableRow) (done : List Share)
+    → HasGone meter reported done old → HasGone meter (row ∷ reported) done new
 GoesOver meter old row new (Some fault) = passed meter old.check row ≡ Err fault
 
 -- The number of pending interval rows to which no later entry can add energy: all rows except the
@@ -49,9 +49,9 @@ settled_in rows = length rows - 1
 -- `drop_done` leaves the passed table rows unchanged. It removes the interval rows that are final,
 -- and they count as compared.
 abbrev pub DropsDone : (old new : Progress) → Type 0
-DropsDone old new = (meter : Installed) (told : List TableRow) (done : List Share)
-    → HasGone meter told done old
-    → HasGone meter told (done ++ take (settled_in old.wanted.items) old.wanted.items) new
+DropsDone old new = (meter : Installed) (reported : List TableRow) (done : List Share)
+    → HasGone meter reported done old
+    → HasGone meter reported (done ++ take (settled_in old.wanted.items) old.wanted.items) new
 
 -- The tables agree with the check: the compared and pending interval rows, the last valid entry,
 -- the energy, and whether the meter was closed.
@@ -64,15 +64,15 @@ pub record Agrees (tables : Tables) (done : List Share) (progress : Progress) : 
 -- Theorem: after all rows of a meter passed, the meter's tables are consistent if and only if they
 -- agree with the check.
 abbrev pub FinishedIsFine : Type 0
-FinishedIsFine = (meter : Installed) (told : List TableRow) (done : List Share)
-    (progress : Progress) (tables : Tables) → HasGone meter told done progress
-    → tables.entries ≡ told ++ opening_row meter.opening ∷ []
+FinishedIsFine = (meter : Installed) (reported : List TableRow) (done : List Share)
+    (progress : Progress) (tables : Tables) → HasGone meter reported done progress
+    → tables.entries ≡ reported ++ opening_row meter.opening ∷ []
     → AreFine meter tables ↔ Agrees tables done progress
 
 -- Theorem: after the check refuses a row, the rules accept no list of rows whose table rows include
 -- this row and the rows before it.
 abbrev pub RefusedIsNotFine : Type 0
-RefusedIsNotFine = (meter : Installed) (told newer : List TableRow) (done : List Share)
+RefusedIsNotFine = (meter : Installed) (reported newer : List TableRow) (done : List Share)
     (progress : Progress) (row : TableRow) (fault : RowFault) → IsWellInstalled meter
-    → HasGone meter told done progress → passed meter progress.check row ≡ Err fault
-    → AreTold meter (newer ++ row ∷ told) → ⊥
+    → HasGone meter reported done progress → passed meter progress.check row ≡ Err fault
+    → AreReported meter (newer ++ row ∷ reported) → ⊥

@@ -73,21 +73,21 @@ pub record HasTaken (meter : Installed) (rows : List EntryRow) (check : Check) :
   pub fit : AllFit meter rows
   pub check_is : check ≡ check_after meter rows
 
--- The table row `told` encodes a row that the rules accept after `rows`. `after` is the state of
--- the check after this row, and `step` is the step to the row's entry.
-pub record IsTaken (meter : Installed) (rows : List EntryRow) (told : TableRow) (after : Check)
+-- The table row `reported` encodes a row that the rules accept after `rows`. `after` is the state
+-- of the check after this row, and `step` is the step to the row's entry.
+pub record IsTaken (meter : Installed) (rows : List EntryRow) (reported : TableRow) (after : Check)
     (step : Option Step) : Type 0 where
   pub row : EntryRow
-  pub told_is : told ≡ table_row (scale_after meter (row ∷ rows)) row
+  pub reported_is : reported ≡ table_row (scale_after meter (row ∷ rows)) row
   pub taken : HasTaken meter (row ∷ rows) after
   pub step_is : step ≡ step_past meter.range (last_after meter (entries_in rows)) row
 
 -- Theorem: a table row that passes the check encodes an entry row that the rules accept.
 abbrev pub PassedRowsFit : Type 0
-PassedRowsFit = (meter : Installed) (rows : List EntryRow) (check : Check) (told : TableRow)
+PassedRowsFit = (meter : Installed) (rows : List EntryRow) (check : Check) (reported : TableRow)
     (after : Check) (step : Option Step) → IsWellInstalled meter → HasTaken meter rows check
-    → passed meter check told ≡ Ok (after, step)
-    → IsTaken meter rows told after step
+    → passed meter check reported ≡ Ok (after, step)
+    → IsTaken meter rows reported after step
 
 -- Theorem: the table row of an entry row that the rules accept passes the check.
 abbrev pub FittingRowsPass : Type 0
@@ -97,23 +97,23 @@ FittingRowsPass = (meter : Installed) (rows : List EntryRow) (check : Check) (ro
 
 -- Theorem: two different lists of entry rows that the rules accept never have the same table rows.
 -- The entry rows can therefore be read back from the table.
-abbrev pub RowsAreToldApart : Type 0
-RowsAreToldApart = (meter : Installed) (rows others : List EntryRow) → AllFit meter rows
+abbrev pub RowsAreReportedApart : Type 0
+RowsAreReportedApart = (meter : Installed) (rows others : List EntryRow) → AllFit meter rows
     → AllFit meter others → later_rows meter rows ≡ later_rows meter others → rows ≡ others
 
 -- The check has passed a list of table rows, which begins with the latest. They encode entry rows
 -- that the rules accept, and `check` is the state of the check after them.
-pub record HasPassed (meter : Installed) (told : List TableRow) (check : Check) : Type 0 where
+pub record HasPassed (meter : Installed) (reported : List TableRow) (check : Check) : Type 0 where
   pub rows : List EntryRow
   pub taken : HasTaken meter rows check
-  pub told_is : told ≡ later_rows meter rows
+  pub reported_is : reported ≡ later_rows meter rows
 
 -- The check passed the table rows before the index `at.index`, and refused the row at this index
 -- for `at.fault`.
-pub record IsFirstRefused (meter : Installed) (told : List TableRow) (at : RefusedRow) :
+pub record IsFirstRefused (meter : Installed) (reported : List TableRow) (at : RefusedRow) :
     Type 0 where
   pub check : Check
-  pub before : HasPassed meter (reverse (take at.index told)) check
+  pub before : HasPassed meter (reverse (take at.index reported)) check
   pub row : TableRow
-  pub there : slice_get told at.index ≡ Some row
+  pub there : slice_get reported at.index ≡ Some row
   pub refused : passed meter check row ≡ Err at.fault

@@ -3,7 +3,7 @@
 //! empty.
 ghost use Rattle.meter_audit.specs.Laws.{RowsOfJournalsFit, FittingRowsStandAlone};
 ghost use Rattle.meter_audit.specs.Laws.{FineTablesAreLawful, LawfulTablesAreFine};
-ghost use Rattle.meter_audit.specs.Laws.{PassedRowsFit, FittingRowsPass, RowsAreToldApart};
+ghost use Rattle.meter_audit.specs.Laws.{PassedRowsFit, FittingRowsPass, RowsAreReportedApart};
 ghost use Rattle.meter_audit.specs.Going.{FinishedIsFine, RefusedIsNotFine};
 
 use meter_journal::interval_rows_add_up;
@@ -45,7 +45,7 @@ pub fn fitting_rows_pass()
 
 /// Theorem: two different lists of entry rows that the rules accept never have the same table rows.
 pub fn rows_are_distinct()
-    ensures { RowsAreToldApart }
+    ensures { RowsAreReportedApart }
 {}
 
 /// Theorem: after all rows of a meter passed, the meter's tables are consistent if and only if they

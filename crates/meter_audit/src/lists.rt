@@ -1,6 +1,6 @@
 //! Checks all entry rows of a meter at once.
 ghost use Rattle.std.specs.Prelude.{◌<◌, ◌^◌, All, reverse, IfOk, IfErr};
-ghost use Rattle.meter_audit.specs.Fitting.{AreTold};
+ghost use Rattle.meter_audit.specs.Fitting.{AreReported};
 ghost use Rattle.meter_audit.specs.Passing.{MayBeChecked};
 ghost use Rattle.meter_audit.specs.Laws.{HasPassed, IsFirstRefused};
 
@@ -23,7 +23,7 @@ pub fn check_rows(meter: &Installed, rows: &[TableRow]) -> Result<Check, Refused
     requires meter { MayBeChecked meter.now }
     requires places { All (λ row. row.place < 2 ^ 63) rows.now }
     ensures fine { IfOk result (HasPassed meter.now (reverse rows.now)) }
-    ensures refused { IfErr result (λ _. AreTold meter.now (reverse rows.now) → ⊥) }
+    ensures refused { IfErr result (λ _. AreReported meter.now (reverse rows.now) → ⊥) }
     ensures first { IfErr result (IsFirstRefused meter.now rows.now) }
 {
     passed_rows_fit();

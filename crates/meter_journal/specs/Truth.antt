@@ -6,7 +6,7 @@ use Rattle.energy_core.specs.declared.entries.Entry.{Entry}
 use Rattle.energy_core.specs.declared.entries.Entry.TheVariants as entry
 use Rattle.energy_core.specs.declared.verdicts.Reading.{Reading}
 use Rattle.energy_core.specs.declared.limits.TheConstants.{INTERVAL_SECONDS}
-use Rattle.energy_core.specs.TrueRun.{Item, shown, told, newest, advance, true_steps, IsTrueRun, IsReadOftenEnough}
+use Rattle.energy_core.specs.TrueRun.{Item, shown, reported, newest, advance, true_steps, IsTrueRun, IsReadOftenEnough}
 use Rattle.meter_journal.specs.declared.lines.Installed.{Installed}
 use Rattle.meter_journal.specs.Books.{total_in, steps_in, interval_rows}
 use Rattle.meter_journal.specs.Intervals.{energy_before}
@@ -50,7 +50,7 @@ pub record ShowsTrueRun (meter : Installed) (lines : Journal) (first : Item) (it
     Type 0 where
   pub readings_alone : AreReadings lines
   pub opened : meter.opening ≡ shown meter.range meter.opening.sf first
-  pub readings : latest_readings meter.opening lines ≡ map (told meter.range meter.opening.sf) items
+  pub readings : latest_readings meter.opening lines ≡ map (reported meter.range meter.opening.sf) items
   pub true_run : IsTrueRun meter.ceiling meter.opening.sf first items
   pub often : IsReadOftenEnough meter.range meter.ceiling meter.opening.sf first items
 

@@ -35,11 +35,11 @@ static TIMEOUTS: [(u64, &[Line]); 4] = [
         &[
             Line {
                 event: Event::Tick { moment: 100 },
-                told: &[],
+                reported: &[],
             },
             Line {
                 event: Event::Tick { moment: 101 },
-                told: &[(1, Outcome::Silent)],
+                reported: &[(1, Outcome::Silent)],
             },
         ],
     ),
@@ -51,11 +51,11 @@ static TIMEOUTS: [(u64, &[Line]); 4] = [
                     moment: 100,
                     bytes: &GOOD,
                 },
-                told: &[(1, Outcome::Answered)],
+                reported: &[(1, Outcome::Answered)],
             },
             Line {
                 event: Event::Tick { moment: 101 },
-                told: &[],
+                reported: &[],
             },
         ],
     ),
@@ -64,11 +64,11 @@ static TIMEOUTS: [(u64, &[Line]); 4] = [
         &[
             Line {
                 event: Event::Tick { moment: 159 },
-                told: &[],
+                reported: &[],
             },
             Line {
                 event: Event::Tick { moment: 160 },
-                told: &[(1, Outcome::Silent)],
+                reported: &[(1, Outcome::Silent)],
             },
         ],
     ),
@@ -80,11 +80,11 @@ static TIMEOUTS: [(u64, &[Line]); 4] = [
                     moment: 159,
                     bytes: &GOOD,
                 },
-                told: &[(1, Outcome::Answered)],
+                reported: &[(1, Outcome::Answered)],
             },
             Line {
                 event: Event::Tick { moment: 160 },
-                told: &[],
+                reported: &[],
             },
         ],
     ),

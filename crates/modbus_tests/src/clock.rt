@@ -11,14 +11,14 @@ static AFTERWARDS: [Line; 2] = [
             moment: 99,
             fault: StartFault::ClockBack,
         },
-        told: &[],
+        reported: &[],
     },
     Line {
         event: Event::Piece {
             moment: 100,
             bytes: &GOOD,
         },
-        told: &[(1, Outcome::Answered)],
+        reported: &[(1, Outcome::Answered)],
     },
 ];
 

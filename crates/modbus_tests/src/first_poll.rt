@@ -30,7 +30,7 @@ static REPLIES: [[Line; 2]; 4] = [
                 moment: 104,
                 bytes: &GOOD,
             },
-            told: &[(1, Outcome::Answered)],
+            reported: &[(1, Outcome::Answered)],
         },
         // A second response with the same identifier belongs to no poll.
         Line {
@@ -38,7 +38,7 @@ static REPLIES: [[Line; 2]; 4] = [
                 moment: 104,
                 bytes: &GOOD,
             },
-            told: &[],
+            reported: &[],
         },
     ],
     // A response that arrives at the poll's deadline.
@@ -48,11 +48,11 @@ static REPLIES: [[Line; 2]; 4] = [
                 moment: 105,
                 bytes: &GOOD,
             },
-            told: &[(1, Outcome::Silent)],
+            reported: &[(1, Outcome::Silent)],
         },
         Line {
             event: Event::Tick { moment: 106 },
-            told: &[],
+            reported: &[],
         },
     ],
     // Two copies of one response in one chunk of the stream.
@@ -65,14 +65,14 @@ static REPLIES: [[Line; 2]; 4] = [
                     20, 80, 0, 0,
                 ],
             },
-            told: &[(1, Outcome::Answered)],
+            reported: &[(1, Outcome::Answered)],
         },
         Line {
             event: Event::Piece {
                 moment: 104,
                 bytes: &GOOD,
             },
-            told: &[],
+            reported: &[],
         },
     ],
     // A response with the transaction identifier 9, which belongs to no poll. The first poll is
@@ -83,14 +83,14 @@ static REPLIES: [[Line; 2]; 4] = [
                 moment: 104,
                 bytes: &[0, 9, 0, 0, 0, 9, 1, 3, 6, 0, 0, 20, 80, 0, 0],
             },
-            told: &[],
+            reported: &[],
         },
         Line {
             event: Event::Piece {
                 moment: 104,
                 bytes: &GOOD,
             },
-            told: &[(1, Outcome::Answered)],
+            reported: &[(1, Outcome::Answered)],
         },
     ],
 ];
@@ -101,42 +101,42 @@ static OTHER_FRAMES: [[Line; 1]; 6] = [
             moment: 104,
             bytes: &[0, 0, 0, 0, 0, 3, 1, 0x83, 6],
         },
-        told: &[(1, Outcome::Exception(6))],
+        reported: &[(1, Outcome::Exception(6))],
     }],
     [Line {
         event: Event::Piece {
             moment: 104,
             bytes: &[0, 0, 0, 0, 0, 3, 2, 0x83, 6],
         },
-        told: &[(1, Outcome::Malformed(Malformation::WrongUnit))],
+        reported: &[(1, Outcome::Malformed(Malformation::WrongUnit))],
     }],
     [Line {
         event: Event::Piece {
             moment: 104,
             bytes: &[0, 0, 0, 0, 0, 3, 1, 0x84, 2],
         },
-        told: &[(1, Outcome::Malformed(Malformation::WrongFunction))],
+        reported: &[(1, Outcome::Malformed(Malformation::WrongFunction))],
     }],
     [Line {
         event: Event::Piece {
             moment: 104,
             bytes: &[0, 0, 0, 0, 0, 4, 1, 0x83, 2, 0],
         },
-        told: &[(1, Outcome::Malformed(Malformation::WrongLength))],
+        reported: &[(1, Outcome::Malformed(Malformation::WrongLength))],
     }],
     [Line {
         event: Event::Piece {
             moment: 104,
             bytes: &[0, 0, 0, 0, 0, 7, 1, 3, 4, 0, 0, 0, 0],
         },
-        told: &[(1, Outcome::Malformed(Malformation::WrongByteCount))],
+        reported: &[(1, Outcome::Malformed(Malformation::WrongByteCount))],
     }],
     [Line {
         event: Event::Piece {
             moment: 104,
             bytes: &[0, 0, 0, 0, 0, 1],
         },
-        told: &[(1, Outcome::Lost(LostCause::Garbled))],
+        reported: &[(1, Outcome::Lost(LostCause::Garbled))],
     }],
 ];
 
@@ -152,8 +152,8 @@ pub fn play_at_windows(rt: &impl Abort, alloc: Global, lines: &[Line]) {
 /// Feeds the response byte by byte, and asserts that only the last byte completes the poll.
 fn feed_bytes(rt: &impl Abort, alloc: Global, session: &mut Session) {
     for (i, byte) in GOOD.iter().enumerate() {
-        let told = feed(rt, alloc, session, 104, &[*byte]);
-        assert!(rt; told.len() == usize::from(i == 14), "byte {i}");
+        let reported = feed(rt, alloc, session, 104, &[*byte]);
+        assert!(rt; reported.len() == usize::from(i == 14), "byte {i}");
     }
 }
 

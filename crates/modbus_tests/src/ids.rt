@@ -16,22 +16,22 @@ static FIRST: Asked = Asked {
 static BUSY: [Line; 4] = [
     Line {
         event: Event::Ready { id: 0, count: 0 },
-        told: &[],
+        reported: &[],
     },
     Line {
         event: Event::Refused {
             moment: 1001,
             fault: StartFault::IdBusy,
         },
-        told: &[],
+        reported: &[],
     },
     Line {
         event: Event::Tick { moment: 1060 },
-        told: &[(0, Outcome::Silent)],
+        reported: &[(0, Outcome::Silent)],
     },
     Line {
         event: Event::Ready { id: 0, count: 2 },
-        told: &[],
+        reported: &[],
     },
 ];
 
@@ -47,9 +47,9 @@ fn ask(rt: &impl Abort, alloc: Global, session: &mut Session, poll: u16) {
     };
     start(rt, session, &asked);
     let reply = [high, low, 0, 0, 0, 5, 1, 3, 2, 0, 7];
-    let told = feed(rt, alloc, session, 1001, &reply);
+    let reported = feed(rt, alloc, session, 1001, &reply);
     let answered = [(u64::from(poll), Outcome::Answered)];
-    assert!(rt; told.as_slice() == answered.as_slice());
+    assert!(rt; reported.as_slice() == answered.as_slice());
 }
 
 /// The transaction identifier of a pending poll is not used for another poll.

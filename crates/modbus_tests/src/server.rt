@@ -180,10 +180,10 @@ fn is_served(rt: &impl Abort, alloc: Global, case: &Case) -> bool {
     let mut link = MemoryLink::new(case.input, &mut output, case.piece.max(1), case.fails);
     let mut server = Server::new();
     let served = server.serve(&mut link, &mut bank, case.turns);
-    let is_told = served == case.served && link.given() == case.given;
+    let is_reported = served == case.served && link.given() == case.given;
     let counts = (link.takes(), link.failures());
     let is_over = is_over(&mut server, &mut link, &mut bank);
-    is_told && counts == (case.takes, case.failures) && is_over == served.is_err()
+    is_reported && counts == (case.takes, case.failures) && is_over == served.is_err()
 }
 
 /// A server serves a stream in chunks, up to the stream's end or a fault.

@@ -8,7 +8,7 @@ const FOUR_BYTES: Line = Line {
         moment: 104,
         bytes: &[0, 0, 0, 0],
     },
-    told: &[],
+    reported: &[],
 };
 
 const NO_START: Line = Line {
@@ -16,12 +16,12 @@ const NO_START: Line = Line {
         moment: 105,
         fault: StartFault::Closed,
     },
-    told: &[],
+    reported: &[],
 };
 
 const NO_ROOM: Line = Line {
     event: Event::Ready { id: 1, count: 0 },
-    told: &[],
+    reported: &[],
 };
 
 static ENDS: [[Line; 4]; 3] = [
@@ -32,7 +32,7 @@ static ENDS: [[Line; 4]; 3] = [
                 moment: 104,
                 closing: Closing::Gone,
             },
-            told: &[(1, Outcome::Lost(LostCause::Gone))],
+            reported: &[(1, Outcome::Lost(LostCause::Gone))],
         },
         NO_START,
         NO_ROOM,
@@ -44,7 +44,7 @@ static ENDS: [[Line; 4]; 3] = [
                 moment: 104,
                 closing: Closing::Failed,
             },
-            told: &[(1, Outcome::Lost(LostCause::Failed))],
+            reported: &[(1, Outcome::Lost(LostCause::Failed))],
         },
         NO_START,
         NO_ROOM,
@@ -56,7 +56,7 @@ static ENDS: [[Line; 4]; 3] = [
                 moment: 105,
                 closing: Closing::Gone,
             },
-            told: &[(1, Outcome::Silent)],
+            reported: &[(1, Outcome::Silent)],
         },
         NO_START,
         NO_ROOM,

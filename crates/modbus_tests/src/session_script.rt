@@ -11,12 +11,12 @@ const LATEST: u64 = 4_102_444_800;
 pub const GOOD: [u8; 15] = [0, 0, 0, 0, 0, 9, 1, 3, 6, 0, 0, 20, 80, 0, 0];
 
 /// The number of a poll, and the outcome of the poll.
-pub type Told = (u64, Outcome);
+pub type Reported = (u64, Outcome);
 
 /// A session event, and the outcomes that the session must report for it.
 pub struct Line {
     pub event: Event,
-    pub told: &'static [Told],
+    pub reported: &'static [Reported],
 }
 
 pub enum Event {
@@ -41,12 +41,12 @@ pub struct Asked {
 /// Plays the events in order, and asserts the outcomes that the session reports for each event.
 pub fn play(rt: &impl Abort, alloc: Global, session: &mut Session, lines: &[Line]) {
     for (i, line) in lines.iter().enumerate() {
-        let told = bring(rt, alloc, session, &line.event);
-        assert!(rt; told.as_slice() == line.told, "line {i}");
+        let reported = bring(rt, alloc, session, &line.event);
+        assert!(rt; reported.as_slice() == line.reported, "line {i}");
     }
 }
 
-fn bring(rt: &impl Abort, alloc: Global, session: &mut Session, event: &Event) -> Vec<Told> {
+fn bring(rt: &impl Abort, alloc: Global, session: &mut Session, event: &Event) -> Vec<Reported> {
     match event {
         Event::Start(asked) => start(rt, session, asked),
         Event::Refused { moment, fault } => refuse(rt, session, *moment, *fault),
@@ -105,17 +105,17 @@ pub fn feed(
     session: &mut Session,
     moment: u64,
     piece: &[u8],
-) -> Vec<Told> {
+) -> Vec<Reported> {
     assert!(rt; !session.settling());
     assert!(rt; moment <= LATEST);
-    let mut told = Vec::new(alloc);
+    let mut reported = Vec::new(alloc);
     let mut at = 0;
     'turns: loop {
         let turn = session.next(moment, &piece[at..]).expect(rt, "no turn");
         at += turn.taken;
         match turn.settled {
-            None => return told,
-            Some(settled) => told
+            None => return reported,
+            Some(settled) => reported
                 .push((settled.poll, settled.outcome))
                 .expect(rt, "no memory"),
         }
@@ -123,14 +123,14 @@ pub fn feed(
 }
 
 /// Feeds a timer event to the session, and returns the polls that time out.
-fn tick(rt: &impl Abort, alloc: Global, session: &mut Session, moment: u64) -> Vec<Told> {
+fn tick(rt: &impl Abort, alloc: Global, session: &mut Session, moment: u64) -> Vec<Reported> {
     assert!(rt; !session.settling());
     assert!(rt; moment <= LATEST);
-    let mut told = Vec::new(alloc);
+    let mut reported = Vec::new(alloc);
     'turns: loop {
         match session.tick(moment).expect(rt, "no tick") {
-            None => return told,
-            Some(settled) => told
+            None => return reported,
+            Some(settled) => reported
                 .push((settled.poll, settled.outcome))
                 .expect(rt, "no memory"),
         }
@@ -144,14 +144,14 @@ fn close(
     session: &mut Session,
     moment: u64,
     closing: Closing,
-) -> Vec<Told> {
+) -> Vec<Reported> {
     assert!(rt; !session.settling());
     assert!(rt; moment <= LATEST);
-    let mut told = Vec::new(alloc);
+    let mut reported = Vec::new(alloc);
     'turns: loop {
         match session.close(moment, closing).expect(rt, "not closed") {
-            None => return told,
-            Some(settled) => told
+            None => return reported,
+            Some(settled) => reported
                 .push((settled.poll, settled.outcome))
                 .expect(rt, "no memory"),
         }

@@ -11,11 +11,11 @@ static ONE_AFTER_ANOTHER: [Line; 7] = [
             count: 3,
             frame: [0, 0, 0, 0, 0, 6, 1, 3, 0x9c, 0x9e, 0, 3],
         }),
-        told: &[],
+        reported: &[],
     },
     Line {
         event: Event::Tick { moment: 1903 },
-        told: &[(1, Outcome::Silent)],
+        reported: &[(1, Outcome::Silent)],
     },
     // A response that arrives after its poll timed out.
     Line {
@@ -23,7 +23,7 @@ static ONE_AFTER_ANOTHER: [Line; 7] = [
             moment: 1903,
             bytes: &GOOD,
         },
-        told: &[],
+        reported: &[],
     },
     Line {
         event: Event::Start(Asked {
@@ -33,28 +33,28 @@ static ONE_AFTER_ANOTHER: [Line; 7] = [
             count: 3,
             frame: [0, 1, 0, 0, 0, 6, 1, 3, 0x9c, 0x9e, 0, 3],
         }),
-        told: &[],
+        reported: &[],
     },
     Line {
         event: Event::Refused {
             moment: 1903,
             fault: StartFault::WindowFull,
         },
-        told: &[],
+        reported: &[],
     },
     Line {
         event: Event::Close {
             moment: 1905,
             closing: Closing::Gone,
         },
-        told: &[(2, Outcome::Lost(LostCause::Gone))],
+        reported: &[(2, Outcome::Lost(LostCause::Gone))],
     },
     Line {
         event: Event::Refused {
             moment: 1905,
             fault: StartFault::Closed,
         },
-        told: &[],
+        reported: &[],
     },
 ];
 
@@ -62,7 +62,7 @@ static ONE_AFTER_ANOTHER: [Line; 7] = [
 static TWO_STARTS: [Line; 6] = [
     Line {
         event: Event::Ready { id: 0, count: 2 },
-        told: &[],
+        reported: &[],
     },
     Line {
         event: Event::Start(Asked {
@@ -72,11 +72,11 @@ static TWO_STARTS: [Line; 6] = [
             count: 1,
             frame: [0, 0, 0, 0, 0, 6, 1, 3, 0, 0, 0, 1],
         }),
-        told: &[],
+        reported: &[],
     },
     Line {
         event: Event::Ready { id: 1, count: 1 },
-        told: &[],
+        reported: &[],
     },
     Line {
         event: Event::Start(Asked {
@@ -86,18 +86,18 @@ static TWO_STARTS: [Line; 6] = [
             count: 1,
             frame: [0, 1, 0, 0, 0, 6, 1, 3, 0, 1, 0, 1],
         }),
-        told: &[],
+        reported: &[],
     },
     Line {
         event: Event::Ready { id: 2, count: 0 },
-        told: &[],
+        reported: &[],
     },
     Line {
         event: Event::Refused {
             moment: 1000,
             fault: StartFault::WindowFull,
         },
-        told: &[],
+        reported: &[],
     },
 ];
 
@@ -108,12 +108,12 @@ static SECOND_FIRST: [Line; 1] = [Line {
             0, 1, 0, 0, 0, 5, 1, 3, 2, 0, 7, 0, 0, 0, 0, 0, 5, 1, 3, 2, 0, 9,
         ],
     },
-    told: &[(2, Outcome::Answered), (1, Outcome::Answered)],
+    reported: &[(2, Outcome::Answered), (1, Outcome::Answered)],
 }];
 
 static BOTH_SILENT: [Line; 1] = [Line {
     event: Event::Tick { moment: 1005 },
-    told: &[(1, Outcome::Silent), (2, Outcome::Silent)],
+    reported: &[(1, Outcome::Silent), (2, Outcome::Silent)],
 }];
 
 static THREE_ENDS: [Line; 7] = [
@@ -125,7 +125,7 @@ static THREE_ENDS: [Line; 7] = [
             count: 1,
             frame: [0, 0, 0, 0, 0, 6, 1, 3, 0, 0, 0, 1],
         }),
-        told: &[],
+        reported: &[],
     },
     Line {
         event: Event::Start(Asked {
@@ -135,7 +135,7 @@ static THREE_ENDS: [Line; 7] = [
             count: 1,
             frame: [0, 1, 0, 0, 0, 6, 1, 3, 0, 0, 0, 1],
         }),
-        told: &[],
+        reported: &[],
     },
     Line {
         event: Event::Start(Asked {
@@ -145,7 +145,7 @@ static THREE_ENDS: [Line; 7] = [
             count: 1,
             frame: [0, 2, 0, 0, 0, 6, 1, 3, 0, 0, 0, 1],
         }),
-        told: &[],
+        reported: &[],
     },
     // The second poll's response, followed by a frame with an invalid length field, at the first
     // poll's deadline.
@@ -154,7 +154,7 @@ static THREE_ENDS: [Line; 7] = [
             moment: 1005,
             bytes: &[0, 1, 0, 0, 0, 5, 1, 3, 2, 0, 7, 0, 0, 0, 0, 0, 0],
         },
-        told: &[
+        reported: &[
             (1, Outcome::Silent),
             (2, Outcome::Answered),
             (3, Outcome::Lost(LostCause::Garbled)),
@@ -165,7 +165,7 @@ static THREE_ENDS: [Line; 7] = [
             moment: 1005,
             fault: StartFault::Closed,
         },
-        told: &[],
+        reported: &[],
     },
     // Bytes received after an invalid length field are discarded.
     Line {
@@ -173,14 +173,14 @@ static THREE_ENDS: [Line; 7] = [
             moment: 1006,
             bytes: &GOOD,
         },
-        told: &[],
+        reported: &[],
     },
     Line {
         event: Event::Close {
             moment: 1006,
             closing: Closing::Gone,
         },
-        told: &[],
+        reported: &[],
     },
 ];
 
@@ -207,8 +207,8 @@ fn two_polls_are_silent_in_the_order_of_their_starts(rt: HostRuntime) {
     play(&rt, rt.alloc(), &mut session, &BOTH_SILENT)
 }
 
-/// One event first completes the polls that timed out, then the polls with a response, and last the
-/// lost polls.
+/// If one event completes several polls, those that timed out come first, then those with a
+/// response, and last those that were lost with their connection.
 #[test]
 fn silence_comes_before_frames_and_these_before_loss(rt: HostRuntime) {
     let mut session = Session::new(5, 3);

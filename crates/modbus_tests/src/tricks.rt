@@ -43,9 +43,9 @@ fn is_served(rt: &impl Abort, alloc: Global, case: &Case) -> bool {
     let mut link = MemoryLink::new(case.input, &mut output, case.piece.max(1), None);
     let mut server = Server::tricked(case.tricks);
     let served = server.serve(&mut link, &mut bank, 48);
-    let is_told = served == Ok(case.served) && link.given() == case.given;
+    let is_reported = served == Ok(case.served) && link.given() == case.given;
     let register = bank.get(Kind::Holding, 0);
-    is_told && link.takes() == case.takes && register == Some(case.register)
+    is_reported && link.takes() == case.takes && register == Some(case.register)
 }
 
 // Injected faults, and the bytes that the server writes for a write and a read in one chunk.
@@ -255,8 +255,9 @@ fn is_over(server: &mut Server<'_>, link: &mut MemoryLink<'_>, bank: &mut Bank) 
         answered: 0,
         ended: true,
     };
-    let is_told = server.turn(link, bank) == Ok(nothing) && server.serve(link, bank, 0) == Ok(0);
-    is_told && (link.given().len(), link.takes()) == before
+    let is_reported = server.turn(link, bank) == Ok(nothing)
+        && server.serve(link, bank, 0) == Ok(0);
+    is_reported && (link.given().len(), link.takes()) == before
 }
 
 /// A server reads nothing more after a response was cut off.

@@ -1,5 +1,5 @@
 pub mod Words
-pub mod Told
+pub mod Reported
 pub mod Overlays
 pub mod ReadRegisters
 pub mod Growing

@@ -23,7 +23,7 @@ use Rattle.office_rules.specs.Lawful.{AreLawful}
 use Rattle.office_rules.specs.Meters.{opened, installed, journal_of, rows_of, installation_of, meter_of, place_in, entry_at}
 use Rattle.office_rules.proofs.Journals.{IsInstalled, well, installed_fits}
 use Rattle.office_rules.proofs.Stepping.{installed_so}
-use Rattle.office_books.specs.Near.{with_energy, IsWithinWhole, TellsNear}
+use Rattle.office_books.specs.Near.{with_energy, IsWithinWhole, ReportsNear}
 
 module _ (range : ℕ) (opening : Last) where
   abbrev energy : List Entry → ℕ
@@ -78,16 +78,16 @@ module _ (kept : JournalsAreKept) (places : PlacesWereKept) (facts : List Fact) 
   within_whole meter place = λ whole p is at. by_opening meter place (opening_of facts meter) whole p refl is at
 
 -- The result of a lookup of an entry is correct if its meter is installed.
-pub tells_near : (facts : List Fact) (meter : List ℕ) (place : ℕ) (whole : Installation) (found : Option EntryContext) → Some whole ≡ meter_of facts meter → found ≡ entry_at facts meter place
-    → IsWithinWhole facts meter place → TellsNear facts meter place (option_map (with_energy whole.total) found)
-tells_near facts meter place whole found is at within = record {
+pub reports_near : (facts : List Fact) (meter : List ℕ) (place : ℕ) (whole : Installation) (found : Option EntryContext) → Some whole ≡ meter_of facts meter → found ≡ entry_at facts meter place
+    → IsWithinWhole facts meter place → ReportsNear facts meter place (option_map (with_energy whole.total) found)
+reports_near facts meter place whole found is at within = record {
   near = ap (option_map (with_energy whole.total)) at ∙ ap (option_and_then (λ (w : Installation). option_map (with_energy w.total) (entry_at facts meter place))) is;
   within = within;
 }
 
 -- A lookup of an entry finds nothing if its meter is not installed.
-pub tells_none : (facts : List Fact) (meter : List ℕ) (place : ℕ) → None ≡ meter_of facts meter → IsWithinWhole facts meter place → TellsNear facts meter place None
-tells_none facts meter place is within = record {
+pub reports_none : (facts : List Fact) (meter : List ℕ) (place : ℕ) → None ≡ meter_of facts meter → IsWithinWhole facts meter place → ReportsNear facts meter place None
+reports_none facts meter place is within = record {
   near = ap (option_and_then (λ (w : Installation). option_map (with_energy w.total) (entry_at facts meter place))) is;
   within = within;
 }

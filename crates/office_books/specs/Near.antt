@@ -31,7 +31,7 @@ IsWithinWhole facts meter place = (whole : Installation) (found : EntryContext)
 
 -- The guarantees of the lookup of an entry: it returns the entry with the meter's present total
 -- energy, which is at least the energy before the entry.
-pub record TellsNear (facts : List Fact) (meter : List ℕ) (place : ℕ) (found : Option EntryContext) :
+pub record ReportsNear (facts : List Fact) (meter : List ℕ) (place : ℕ) (found : Option EntryContext) :
     Type 0 where
   pub near : found ≡ entry_near facts meter place
   pub within : IsWithinWhole facts meter place

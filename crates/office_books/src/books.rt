@@ -51,7 +51,7 @@ pub trait Books: Drop {
     ghost use Rattle.office_rules.specs.Intervals.{rows_of_meter, rows_of_register};
     ghost use Rattle.office_books.specs.Entries.{entries_from, installations_of};
     ghost use Rattle.office_books.specs.Holds.{holds_of, holds_within};
-    ghost use Rattle.office_books.specs.Near.{TellsNear};
+    ghost use Rattle.office_books.specs.Near.{ReportsNear};
     ghost use Rattle.office_books.specs.Ledgers as ledgers;
     ghost use Rattle.office_books.specs.Ledgers.{Ledger, Finds, OnlyReads};
     ghost use Rattle.office_books.specs.Sound.{ReadsInstallation, ReadsPlace};
@@ -167,7 +167,7 @@ pub trait Books: Drop {
     /// before the entry.
     fn entry_near(&mut self, meter: &Name, place: u64) -> Result<Option<EntryContext>, BooksFault>
         ensures found { Finds (ledger self.old) (ledger self.new) result
-            (λ known row. TellsNear known meter.now place row) }
+            (λ known row. ReportsNear known meter.now place row) }
         ensures reads { ReadsPlace (ledger self.old) (ledger self.new) result };
 
     /// Returns at most `most` entries of a meter from sequence number `from` on, in order, voided

@@ -16,8 +16,8 @@ use Rattle.office_core.specs.declared.office.Office.{Office}
 use Rattle.office_core.specs.Failing.{Counts, IsNotForWantOfDay, is_failure, stops}
 use Rattle.office_core.specs.Leaving.{BooksStand, Leaves, LeftByEvent}
 use Rattle.office_core.specs.Standing.{After, Stands, books_in, is_stopped}
-use Rattle.office_core.specs.Taking.{IsAnswer, IsTold, IsQuiet, LeavesEvent, SettlesNothing, Ends, failures_of}
-use Rattle.office_core.specs.EventRun.{Answered, in_turn, history_after, IsAnswered, AreAnswered, TellsOfLast, StopsInTurn, CountInTurn, LeftInTurn, LeftByRun}
+use Rattle.office_core.specs.Taking.{IsAnswer, IsReported, IsQuiet, LeavesEvent, SettlesNothing, Ends, failures_of}
+use Rattle.office_core.specs.EventRun.{Answered, in_turn, history_after, IsAnswered, AreAnswered, ReportsOfLast, StopsInTurn, CountInTurn, LeftInTurn, LeftByRun}
 
 abbrev Events : Type 0
 Events = List (ℕ × Event)
@@ -73,12 +73,12 @@ run_push old between new past opened fed one so leaves = λ before may.
     let next = leaves run.0 run.2 in
     (next.0, (run.1.0, run.1.1, left_push (Opened opened ∷ past) run.1.0 run.0 next.0 fed one run.1.2 next.1), next.2)
 
-told_push : {B : Type 0} (past : History) (fed : List Answered) (one : Answered) (office : Office B)
-    → IsTold (history_after past fed) one.at one.event one.result office → TellsOfLast past (fed ++ one ∷ []) office
-told_push past [] one office told = told
-told_push past (f ∷ []) one office told = told
-told_push past (f ∷ next ∷ fed) one office told =
-    told_push (with_answer past f.at f.event f.result) (next ∷ fed) one office told
+reported_push : {B : Type 0} (past : History) (fed : List Answered) (one : Answered) (office : Office B)
+    → IsReported (history_after past fed) one.at one.event one.result office → ReportsOfLast past (fed ++ one ∷ []) office
+reported_push past [] one office reported = reported
+reported_push past (f ∷ []) one office reported = reported
+reported_push past (f ∷ next ∷ fed) one office reported =
+    reported_push (with_answer past f.at f.event f.result) (next ∷ fed) one office reported
 
 stops_push : (before between : Bool) (fed : List Answered) (one : Answered)
     → StopsInTurn before between fed → ((one.result ≡ Err refusal.Stopped) ↔ (between ≡ true))
@@ -106,8 +106,8 @@ pub record SoFar {B : Type 0} (ledger : B → Ledger) (books : B) (opened : ℕ)
       → AreAnswered (Opened opened ∷ past) (ledger books).failures (ledger (books_in office)).failures fed
   pub leaves : (past : History) → BooksStand (ledger books) past → (ledger (books_in office)).is_clean
       → Leaves (ledger books) (ledger (books_in office)) (LeftByRun past opened fed)
-  pub told : (past : History) → BooksStand (ledger books) past → (ledger (books_in office)).is_clean
-      → TellsOfLast (Opened opened ∷ past) fed office
+  pub reported : (past : History) → BooksStand (ledger books) past → (ledger (books_in office)).is_clean
+      → ReportsOfLast (Opened opened ∷ past) fed office
   pub stops : StopsInTurn false (is_stopped office) fed
   pub no_day : All HasItsDay fed
   pub counts : CountInTurn (ledger books).failures (ledger (books_in office)).failures fed
@@ -119,7 +119,7 @@ pub record Feeds {B : Type 0} (ledger : B → Ledger) (old new : Office B) (one 
   pub answers : After ledger old new (λ past. IsAnswer past one.at one.event (failures_of ledger old) (failures_of ledger new) one.result)
   pub stands : After ledger old new (λ past. Stands ledger (with_answer past one.at one.event one.result) new)
   pub leaves : After ledger old new (LeavesEvent ledger one.at one.event old new one.result)
-  pub told : After ledger old new (λ past. IsTold past one.at one.event one.result new)
+  pub reported : After ledger old new (λ past. IsReported past one.at one.event one.result new)
   pub quiet : (past : History) → Stands ledger past old → is_stopped old ≡ false → SettlesNothing past one.at one.event
       → IsQuiet old new one.result
   pub ends : Ends ledger old new one.event one.result
@@ -150,9 +150,9 @@ further ledger books opened fed old new one so feeds = record {
       let before = so.stands past stood (feeds.ends.clean clean) in
       run_push (ledger books) (ledger (books_in old)) (ledger (books_in new)) past opened fed one
       (so.leaves past stood (feeds.ends.clean clean)) (feeds.leaves (history_after (Opened opened ∷ past) fed) before clean);
-  told = λ past stood clean.
-      told_push (Opened opened ∷ past) fed one new
-      (feeds.told (history_after (Opened opened ∷ past) fed) (so.stands past stood (feeds.ends.clean clean)) clean);
+  reported = λ past stood clean.
+      reported_push (Opened opened ∷ past) fed one new
+      (feeds.reported (history_after (Opened opened ∷ past) fed) (so.stands past stood (feeds.ends.clean clean)) clean);
   stops = rw feeds.ends.stops (stops_push false (is_stopped old) fed one so.stops feeds.ends.stopped);
   no_day = no_day_push fed one so.no_day feeds.ends.no_day;
   counts = counts_push _ _ _ fed one so.counts feeds.ends.counts;

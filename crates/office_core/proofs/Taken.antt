@@ -87,14 +87,14 @@ pub failed_outside : (T takes_memory : Type 0) (before after : Failures) (why : 
     → IsOutside takes_memory before after (as_refusal why)
 failed_outside T takes_memory before after (Store Refused) is takes = is
 failed_outside T takes_memory before after (Store Damaged) is takes = is
-failed_outside T takes_memory before after Memory (inl told) takes = inl told
+failed_outside T takes_memory before after Memory (inl reported) takes = inl reported
 failed_outside T takes_memory before after Memory (inr same) takes = inr (takes, same)
 
 -- If a failure report is correct, then it stays correct if the office may need memory outside the
 -- store in more cases.
 pub outside_more : (few many : Type 0) (before after : Failures) (why : Refusal) → (few → many) → IsOutside few before after why → IsOutside many before after why
 outside_more few many before after (refusal.Store cause) more is = is
-outside_more few many before after refusal.Memory more (inl told) = inl told
+outside_more few many before after refusal.Memory more (inl reported) = inl reported
 outside_more few many before after refusal.Memory more (inr own) = inr (more own.0, own.1)
 outside_more few many before after refusal.Stopped more is = is
 outside_more few many before after why more is = absurd is
@@ -171,7 +171,7 @@ taken ledger past at e old new x given may accepted clean moves is latest slots 
     let follows : with_answer past at e (Ok given) ≡ Fed at e ∷ past =
     ap (λ a. with_answer past at e (Ok a)) is
     ∙ by_answer (λ a. with_answer past at e (Ok a) ≡ Fed at e ∷ past) (λ n m k. refl) (λ k. refl) refl (slots_of past) (facts_of past) at e in
-    let told : notes_after past at e (Ok given) ≡ notes_of (next_poll (facts_of past)) at e (slots_of past) (facts_of past) =
+    let reported : notes_after past at e (Ok given) ≡ notes_of (next_poll (facts_of past)) at e (slots_of past) (facts_of past) =
     ap (λ a. notes_after past at e (Ok a)) is
     ∙ by_answer (λ a. notes_after past at e (Ok a) ≡ notes_of (next_poll (facts_of past)) at e (slots_of past) (facts_of past)) (λ n m k. refl) (λ k. refl) refl (slots_of past) (facts_of past) at e in
     let sent : outgoing_after past at e (Ok given) ≡ outgoing_of (next_poll (facts_of past)) at e (slots_of past) (facts_of past) =
@@ -186,7 +186,7 @@ taken ledger past at e old new x given may accepted clean moves is latest slots 
           (moved_on (ledger old.books) (ledger new.books) (Fed at e) past x moves (one_more_past past at e may.books.is_past accepted may.planned) clean may.books);
       leaves = subst Left (sym is) (by_answer Left (λ n m k. left) (λ k. left) left (slots_of past) (facts_of past) at e);
       goes = λ on. subst (λ h. Goes h new) (sym follows) (record { latest = latest; slots = slots });
-      told = record { notes = notes ∙ sym told; outgoing = outgoing ∙ sym sent };
+      reported = record { notes = notes ∙ sym reported; outgoing = outgoing ∙ sym sent };
     }
 
 -- If a call of the store fails, then the office reports the failure correctly.
@@ -204,5 +204,5 @@ not_taken {T = T} ledger past at e old new fault why may accepted clean moves is
           event_failed (ledger old.books) (ledger new.books) past at e fault
           (failed_left (ledger old.books) (ledger new.books) (Fed at e) past fault moves (one_more_past past at e may.books.is_past accepted may.planned) clean may.books);
       goes = goes;
-      told = record { notes = notes ∙ may.notes; outgoing = outgoing ∙ may.outgoing };
+      reported = record { notes = notes ∙ may.notes; outgoing = outgoing ∙ may.outgoing };
     })

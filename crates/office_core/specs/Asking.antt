@@ -139,24 +139,24 @@ ListsDays old new register span result =
 
 -- True if the office's answer to a query for one row agrees with the records of all accepted
 -- events.
-abbrev pub TellsRow : {B T : Type 0} → (B → Ledger) → (old new : Office B) → Result T Refusal
+abbrev pub ReportsRow : {B T : Type 0} → (B → Ledger) → (old new : Office B) → Result T Refusal
     → (List Fact → Option T) → Type 0
-TellsRow ledger old new result row = After ledger old new (λ past.
+ReportsRow ledger old new result row = After ledger old new (λ past.
     IsRowFound (row (facts_of past)) (failures_of ledger old) (failures_of ledger new) result)
 
 -- True if the rows of a query to the office agree with the records of all accepted events.
-abbrev pub TellsRows : {B S T : Type 0} → (S → T → S → Type 0) → (B → Ledger)
+abbrev pub ReportsRows : {B S T : Type 0} → (S → T → S → Type 0) → (B → Ledger)
     → (old new : Office B) → (from to : S) → Result (Unit {0}) Refusal
     → (List Fact → Option (List T)) → Type 0
-TellsRows takes ledger old new from to result rows = After ledger old new (λ past.
+ReportsRows takes ledger old new from to result rows = After ledger old new (λ past.
     HandsRows takes (rows (facts_of past))
     (failures_of ledger old) (failures_of ledger new) from to result)
 
 -- True if the days of a query to the office agree with the records of all accepted events.
-abbrev pub TellsDays : {B S : Type 0} → (S → DayTotal → S → Type 0) → (B → Ledger)
+abbrev pub ReportsDays : {B S : Type 0} → (S → DayTotal → S → Type 0) → (B → Ledger)
     → (old new : Office B) → (from to : S) → Result (Unit {0}) Refusal
     → (register : Option (List ℕ)) → Type 0
-TellsDays takes ledger old new from to result register = After ledger old new (λ past.
+ReportsDays takes ledger old new from to result register = After ledger old new (λ past.
     HandsDays takes (ledger (books_in old)).zone (facts_of past) register
     (failures_of ledger old) (failures_of ledger new) from to result)
 

@@ -100,10 +100,10 @@ ListsDaysWithin old new register range result =
     (IsOutside (Unit {0}) old.failures new.failures)
 
 -- True if the days of a query for a range agree with the records of all accepted events.
-abbrev pub TellsDaysWithin : {B S : Type 0} → (S → DayTotal → S → Type 0) → (B → Ledger)
+abbrev pub ReportsDaysWithin : {B S : Type 0} → (S → DayTotal → S → Type 0) → (B → Ledger)
     → (old new : Office B) → (before after : S) → Result (Unit {0}) Refusal
     → (register : Option (List ℕ)) → DayRange → Type 0
-TellsDaysWithin takes ledger old new before after result register range =
+ReportsDaysWithin takes ledger old new before after result register range =
     After ledger old new (λ past.
     HandsDaysWithin takes (ledger (books_in old)).zone (facts_of past) register range
     (failures_of ledger old) (failures_of ledger new) before after result)

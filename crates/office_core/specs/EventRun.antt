@@ -19,7 +19,7 @@ use Rattle.office_core.specs.Headline.{HeadlineHolds}
 use Rattle.office_core.specs.Reopening.{HandsBackUnopened}
 use Rattle.office_core.specs.Leaving.{BooksStand, Leaves, LeftByEvent, LeftOnceDone}
 use Rattle.office_core.specs.Standing.{Stands, books_in, notes_in, outgoing_in, is_stopped}
-use Rattle.office_core.specs.Taking.{IsAnswer, IsTold, SettlesNothing}
+use Rattle.office_core.specs.Taking.{IsAnswer, IsReported, SettlesNothing}
 
 -- An event with its timestamp and its answer.
 pub record Answered : Type 0 where
@@ -64,11 +64,11 @@ AreAnswered past before after (fed ∷ later) =
 
 -- True if the office has the notifications and bytes of the last event, or none if no event was
 -- processed.
-abbrev pub TellsOfLast : {B : Type 0} → History → List Answered → Office B → Type 0
-TellsOfLast past [] office = (notes_in office ≡ []) × (outgoing_in office ≡ [])
-TellsOfLast past (fed ∷ []) office = IsTold past fed.at fed.event fed.result office
-TellsOfLast past (fed ∷ next ∷ later) office =
-    TellsOfLast (with_answer past fed.at fed.event fed.result) (next ∷ later) office
+abbrev pub ReportsOfLast : {B : Type 0} → History → List Answered → Office B → Type 0
+ReportsOfLast past [] office = (notes_in office ≡ []) × (outgoing_in office ≡ [])
+ReportsOfLast past (fed ∷ []) office = IsReported past fed.at fed.event fed.result office
+ReportsOfLast past (fed ∷ next ∷ later) office =
+    ReportsOfLast (with_answer past fed.at fed.event fed.result) (next ∷ later) office
 
 -- True if the office refused exactly the events after its stop as stopped. If an event that may end
 -- polls fails, the office stops.
@@ -111,7 +111,7 @@ Ran ledger books result says = (past : History) → BooksStand (ledger books) pa
 pub record StandsAfter {B : Type 0} (ledger : B → Ledger)
     (begun : History) (events : List (ℕ × Event)) (run : Run B) : Type 0 where
   pub office : Stands ledger (history_after begun (events_of events run)) run.office
-  pub told : TellsOfLast begun (events_of events run) run.office
+  pub reported : ReportsOfLast begun (events_of events run) run.office
 
 -- True if a run of events that does not start returns the store with the reason. Either memory for
 -- the answers ran out and the store is unchanged, or the opening was refused or failed.

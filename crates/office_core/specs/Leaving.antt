@@ -38,8 +38,9 @@ pub record BooksStand (ledger : Ledger) (past : History) : Type 0 where
   pub holds : ledger.holds (facts_of past)
   pub leaves : StopLeaves ledger past
 
--- In the definitions below, a crash during a call may leave each of the lists of records `before`.
--- A crash after the call may leave each of the lists `after`.
+-- Each list of records is one state of the file that a reader may find after a crash. In the
+-- definitions below, `before` has the states that a crash during a call may leave, and `after`
+-- those that a crash after the call may leave.
 
 -- The effect of an accepted event or opening on the records that a crash may leave. A crash leaves
 -- exactly the records with this event. If the event added no record, a crash may leave the same

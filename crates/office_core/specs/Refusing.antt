@@ -5,4 +5,4 @@ pub mod Entries
 pub mod Rounds
 pub mod Spots
 pub mod Kept
-pub mod Telling
+pub mod Reporting

@@ -55,9 +55,9 @@ SiteIn old new result = (known : List Fact) → old.holds known → new.is_clean
     → IsSite known old.failures new.failures result
 
 -- True if the rows agree with the records of all accepted events.
-abbrev pub TellsSite : {B : Type 0} → (B → Ledger) → (old new : Office B)
+abbrev pub ReportsSite : {B : Type 0} → (B → Ledger) → (old new : Office B)
     → Result (Vec SiteRow Global) Refusal → Type 0
-TellsSite ledger old new result = After ledger old new (λ past.
+ReportsSite ledger old new result = After ledger old new (λ past.
     IsSite (facts_of past) (failures_of ledger old) (failures_of ledger new) result)
 
 -- True if exactly the expected rows are appended on `Ok`. The premise is that no wrong result of

@@ -45,7 +45,7 @@ LeavesEvent ledger at e old new result past =
 
 -- True if the office has the notifications (outcomes and readings) and the frames of this event,
 -- and no others.
-pub record IsTold {B : Type 0} (past : History) (at : ℕ) (e : Event)
+pub record IsReported {B : Type 0} (past : History) (at : ℕ) (e : Event)
     (result : Result Answer Refusal) (office : Office B) : Type 0 where
   pub notes : notes_in office ≡ notes_after past at e result
   pub outgoing : outgoing_in office ≡ outgoing_after past at e result
@@ -95,7 +95,7 @@ pub record Takes {B : Type 0} (ledger : B → Ledger) (past : History) (at : ℕ
   pub books : BooksStand (ledger (books_in new)) (with_answer past at e result)
   pub leaves : LeavesEvent ledger at e old new result past
   pub goes : stops e result ≡ false → Goes (with_answer past at e result) new
-  pub told : IsTold past at e result new
+  pub reported : IsReported past at e result new
 
 -- True if the office processed the event correctly for every history before the event. The premise
 -- is that no wrong result of the store went undetected.

@@ -12,8 +12,8 @@ ghost use Rattle.office_booking.specs.Sessions.Places.{AsksOnSlot};
 ghost use Rattle.office_booking.specs.Sessions.Ranges.{AsksInRange};
 ghost use Rattle.office_books.specs.Repeats.{repeat_of};
 ghost use Rattle.office_core.specs.Asking.{OnlyAsks, TakesRows, intervals_of};
-ghost use Rattle.office_core.specs.Asking.{TellsRow, TellsDays, TellsRows};
-ghost use Rattle.office_core.specs.DayRange.{TellsDaysWithin};
+ghost use Rattle.office_core.specs.Asking.{ReportsRow, ReportsDays, ReportsRows};
+ghost use Rattle.office_core.specs.DayRange.{ReportsDaysWithin};
 ghost use Rattle.office_core.specs.Events as events;
 ghost use Rattle.office_core.specs.Failing.{IsNotForWantOfDay};
 ghost use Rattle.office_core.specs.Leaving.{BooksStand};
@@ -21,10 +21,10 @@ ghost use Rattle.office_core.specs.Parts.{ListsAccepted, entries_within, holds_n
 ghost use Rattle.office_core.specs.Parts.{intervals_within, meters_named};
 ghost use Rattle.office_core.specs.Reopening.{HandsBackUnopened, LeavesOpening, Passed};
 ghost use Rattle.office_core.specs.Reopening.{asking_moment};
-ghost use Rattle.office_core.specs.Site.{TellsSite};
+ghost use Rattle.office_core.specs.Site.{ReportsSite};
 ghost use Rattle.office_core.specs.Standing.{After, IsFresh, Stands, StandsIfClean};
 ghost use Rattle.office_core.specs.Standing.{books_in, is_stopped, notes_in, outgoing_in};
-ghost use Rattle.office_core.specs.Taking.{AnswersEvent, Ends, IsQuiet, IsTold, LeavesEvent};
+ghost use Rattle.office_core.specs.Taking.{AnswersEvent, Ends, IsQuiet, IsReported, LeavesEvent};
 ghost use Rattle.office_core.specs.Taking.{MayTake, Passes, SettlesNothing};
 ghost use Rattle.office_core.specs.Taking.{TakesAccepted, TakesAny};
 
@@ -179,8 +179,8 @@ impl<B: Books> Office<B> {
             (λ past. Stands B.ledger (with_answer past moment event.now result) self.new) }
         ensures leaves { After B.ledger self.old self.new
             (LeavesEvent B.ledger moment event.now self.old self.new result) }
-        ensures told { After B.ledger self.old self.new
-            (λ past. IsTold past moment event.now result self.new) }
+        ensures reported { After B.ledger self.old self.new
+            (λ past. IsReported past moment event.now result self.new) }
         ensures quiet { (past : History) → Stands B.ledger past self.old
             → is_stopped self.old ≡ false → SettlesNothing past moment event.now
             → IsQuiet self.old self.new result }
@@ -199,7 +199,7 @@ impl<B: Books> Office<B> {
 
     /// Returns the device with the name. The name `None` is invalid, and no device has it.
     pub fn device(&mut self, name: &Option<Name>) -> Result<Device, Refusal>
-        ensures found { TellsRow B.ledger self.old self.new result
+        ensures found { ReportsRow B.ledger self.old self.new result
             (λ facts. option_and_then (device_of facts) name.now) }
         ensures asks { OnlyAsks B.ledger self.old self.new result }
         ensures no_day { IfErr result IsNotForWantOfDay }
@@ -213,7 +213,7 @@ impl<B: Books> Office<B> {
     /// Returns the accounting register with the name. The name `None` is invalid, and no register
     /// has it.
     pub fn register(&mut self, name: &Option<Name>) -> Result<Register, Refusal>
-        ensures found { TellsRow B.ledger self.old self.new result
+        ensures found { ReportsRow B.ledger self.old self.new result
             (λ facts. option_and_then (register_of facts) name.now) }
         ensures asks { OnlyAsks B.ledger self.old self.new result }
         ensures no_day { IfErr result IsNotForWantOfDay }
@@ -227,7 +227,7 @@ impl<B: Books> Office<B> {
     /// Returns the present installation of the meter with the name. The name `None` is invalid, and
     /// no meter has it.
     pub fn meter(&mut self, name: &Option<Name>) -> Result<Installation, Refusal>
-        ensures found { TellsRow B.ledger self.old self.new result
+        ensures found { ReportsRow B.ledger self.old self.new result
             (λ facts. option_and_then (meter_of facts) name.now) }
         ensures asks { OnlyAsks B.ledger self.old self.new result }
         ensures no_day { IfErr result IsNotForWantOfDay }
@@ -241,7 +241,7 @@ impl<B: Books> Office<B> {
     /// Returns the latest installation at an accounting register, open or closed. The name `None`
     /// is invalid, and no register has it.
     pub fn installation(&mut self, register: &Option<Name>) -> Result<Installation, Refusal>
-        ensures found { TellsRow B.ledger self.old self.new result
+        ensures found { ReportsRow B.ledger self.old self.new result
             (λ facts. option_and_then (installation_at facts) register.now) }
         ensures asks { OnlyAsks B.ledger self.old self.new result }
         ensures no_day { IfErr result IsNotForWantOfDay }
@@ -262,7 +262,7 @@ impl<B: Books> Office<B> {
         number: u64,
         request: &[u8],
     ) -> Result<Repeat, Refusal>
-        ensures found { TellsRow B.ledger self.old self.new result (λ facts.
+        ensures found { ReportsRow B.ledger self.old self.new result (λ facts.
             option_and_then (λ name. repeat_of facts name number request.now) caller.now) }
         ensures asks { OnlyAsks B.ledger self.old self.new result }
         ensures no_day { IfErr result IsNotForWantOfDay }
@@ -275,7 +275,7 @@ impl<B: Books> Office<B> {
 
     /// Returns the poll with this number, and its outcome if the poll has ended.
     pub fn poll(&mut self, number: u64) -> Result<PollRow, Refusal>
-        ensures found { TellsRow B.ledger self.old self.new result
+        ensures found { ReportsRow B.ledger self.old self.new result
             (λ facts. poll_row_of facts number) }
         ensures asks { OnlyAsks B.ledger self.old self.new result }
         ensures no_day { IfErr result IsNotForWantOfDay }
@@ -292,7 +292,7 @@ impl<B: Books> Office<B> {
         meter: &Option<Name>,
         sink: &mut K,
     ) -> Result<(), Refusal>
-        ensures rows { TellsRows K.takes B.ledger self.old self.new sink.old sink.new result
+        ensures rows { ReportsRows K.takes B.ledger self.old self.new sink.old sink.new result
             (λ facts. intervals_of facts meter.now) }
         ensures puts { TakesRows K.takes sink.old sink.new }
         ensures asks { OnlyAsks B.ledger self.old self.new result }
@@ -312,7 +312,7 @@ impl<B: Books> Office<B> {
         span: Span,
         sink: &mut K,
     ) -> Result<(), Refusal>
-        ensures rows { TellsRows K.takes B.ledger self.old self.new sink.old sink.new result
+        ensures rows { ReportsRows K.takes B.ledger self.old self.new sink.old sink.new result
             (λ facts. intervals_within facts meter.now span) }
         ensures puts { TakesRows K.takes sink.old sink.new }
         ensures asks { OnlyAsks B.ledger self.old self.new result }
@@ -332,7 +332,7 @@ impl<B: Books> Office<B> {
         span: Span,
         sink: &mut K,
     ) -> Result<(), Refusal>
-        ensures rows { TellsRows K.takes B.ledger self.old self.new sink.old sink.new result
+        ensures rows { ReportsRows K.takes B.ledger self.old self.new sink.old sink.new result
             (λ facts. holds_named facts meter.now span) }
         ensures puts { TakesRows K.takes sink.old sink.new }
         ensures asks { OnlyAsks B.ledger self.old self.new result }
@@ -387,7 +387,7 @@ impl<B: Books> Office<B> {
         register: &Option<Name>,
         sink: &mut K,
     ) -> Result<(), Refusal>
-        ensures days { TellsDays K.takes B.ledger self.old self.new sink.old sink.new result
+        ensures days { ReportsDays K.takes B.ledger self.old self.new sink.old sink.new result
             register.now }
         ensures puts { TakesRows K.takes sink.old sink.new }
         ensures asks { OnlyAsks B.ledger self.old self.new result }
@@ -410,7 +410,7 @@ impl<B: Books> Office<B> {
         range: DayRange,
         sink: &mut K,
     ) -> Result<(), Refusal>
-        ensures days { TellsDaysWithin K.takes B.ledger self.old self.new sink.old sink.new result
+        ensures days { ReportsDaysWithin K.takes B.ledger self.old self.new sink.old sink.new result
             register.now range }
         ensures puts { TakesRows K.takes sink.old sink.new }
         ensures asks { OnlyAsks B.ledger self.old self.new result }
@@ -427,7 +427,7 @@ impl<B: Books> Office<B> {
     ///
     /// The devices, and the registers of each device, are in the order in which they were added.
     pub fn site(&mut self) -> Result<Vec<SiteRow>, Refusal>
-        ensures found { TellsSite B.ledger self.old self.new result }
+        ensures found { ReportsSite B.ledger self.old self.new result }
         ensures asks { OnlyAsks B.ledger self.old self.new result }
         ensures no_day { IfErr result IsNotForWantOfDay }
     {

@@ -64,7 +64,7 @@ pub enum Refusal {
     NotLater,
     /// The time since the meter's last entry covers more than 3,000 quarter hours.
     SpanTooLong,
-    /// The time since the meter's last entry touches more than 3,000 quarter hours.
+    /// With this entry the total energy of the meter would pass its limit of 4 * 10^18 mWh.
     TotalFull,
     /// The meter at the accounting register is closed.
     Ended,

@@ -127,8 +127,8 @@ nil_take (suc n) = refl
 
 module _ {B : Type 0} (ledger : B → Ledger) (past : History) (at : ℕ) (read : List ℕ) (old new : Run B) where
   -- If the refusal is Stopped, then the program already refused all events before the call.
-  abbrev Told : Refusal → Type 0
-  Told why = why ≡ refusal.Stopped → is_stopped old ≡ true
+  abbrev Reported : Refusal → Type 0
+  Reported why = why ≡ refusal.Stopped → is_stopped old ≡ true
 
   abbrev Answers : Result (Unit {0}) Refusal → Type 0
   Answers answer = answer ≡ Err refusal.Stopped → is_stopped old ≡ true
@@ -170,16 +170,16 @@ module _ {B : Type 0} (ledger : B → Ledger) (past : History) (at : ℕ) (read 
       })
 
   -- If the store fails before the first row of a report, then the response reports that failure.
-  failed_served : (takes_memory : Type 0) (why : Refusal) (from out : Outgoing) (cut : Option Refusal) → IsOutside takes_memory (failures_of ledger old) (failures_of ledger new) why → Told why
+  failed_served : (takes_memory : Type 0) (why : Refusal) (from out : Outgoing) (cut : Option Refusal) → IsOutside takes_memory (failures_of ledger old) (failures_of ledger new) why → Reported why
       → StandsStill ledger past old new → sending.Puts from out (reply_bytes (refused why)) × (cut ≡ None) → Puts ledger past at read old new from out cut
-  failed_served takes_memory why from out cut outside told stands put =
+  failed_served takes_memory why from out cut outside reported stands put =
       subst (Puts ledger past at read old new from out) (sym put.1) (record {
         put = reply_bytes (refused why);
         serves = record {
           reply = reply_bytes (refused why);
           is_put = refl;
           later = past;
-          served = inr record { why = why; stopped = told; outside = outside_more takes_memory (Unit {0}) _ _ why (λ takes. tt) outside; tells = refl; unchanged = refl };
+          served = inr record { why = why; stopped = reported; outside = outside_more takes_memory (Unit {0}) _ _ why (λ takes. tt) outside; reports = refl; unchanged = refl };
           stands = stands.stands;
           leaves = inr (refl, stands.keeps);
         };
@@ -208,12 +208,12 @@ module _ {B : Type 0} (ledger : B → Ledger) (past : History) (at : ℕ) (read 
   -- If the store fails after some rows, the written bytes are the lines of these rows.
   after_rows : {T : Type 0} (line : T → List ℕ) (rows first : List T) (n : ℕ) (start lines : Report) (why : Refusal) (out : Outgoing) (cut : Option Refusal)
       → first ≡ take n rows → TakesAll (takes_lines line) start first lines → start.count ≡ 0 → EndsReport lines (Err why) out cut
-      → IsOutside ⊥ (failures_of ledger old) (failures_of ledger new) why → Told why → AsksNothing routes read
+      → IsOutside ⊥ (failures_of ledger old) (failures_of ledger new) why → Reported why → AsksNothing routes read
       → ((office : Office) → AnswersAt (ledger (books_in old)).zone past at office → IsReply office routes read (text_head ++ report_text line rows))
       → StandsStill ledger past old new → Puts ledger past at read old new start.out out cut
-  after_rows line rows [] n start lines why out cut is took none ends outside told nothing replies stands =
-      failed_served ⊥ why start.out out cut outside told stands (ended_refused start lines why out cut took none ends)
-  after_rows line rows (row ∷ rest) n start lines why out cut is took none ends outside told nothing replies stands =
+  after_rows line rows [] n start lines why out cut is took none ends outside reported nothing replies stands =
+      failed_served ⊥ why start.out out cut outside reported stands (ended_refused start lines why out cut took none ends)
+  after_rows line rows (row ∷ rest) n start lines why out cut is took none ends outside reported nothing replies stands =
       let first = row ∷ rest in
       let begun = first_put line start lines first none took in
       let some : 0 < lines.count = some_rows (length rest) lines.count (count_from start.count (length first) lines.count none begun.counts) in
@@ -222,29 +222,29 @@ module _ {B : Type 0} (ledger : B → Ledger) (past : History) (at : ℕ) (read 
 
   -- The response to a query for the rows of a meter is the report, a refusal, or a report that was
   -- cut off.
-  pub rows_told : {T : Type 0} (line : T → List ℕ) (rows : Option (List T)) (start lines : Report) (answer : Result (Unit {0}) Refusal) (out : Outgoing) (cut : Option Refusal)
+  pub rows_reported : {T : Type 0} (line : T → List ℕ) (rows : Option (List T)) (start lines : Report) (answer : Result (Unit {0}) Refusal) (out : Outgoing) (cut : Option Refusal)
       → HandsRows (takes_lines line) rows (failures_of ledger old) (failures_of ledger new) start lines answer → start.count ≡ 0 → EndsReport lines answer out cut
       → length (rows_in rows) ≤ most → AsksNothing routes read
       → ((office : Office) → AnswersAt (ledger (books_in old)).zone past at office → IsReply office routes read (reply_bytes (lines_reply (report_text line) (or_not_found rows))))
       → StandsStill ledger past old new → Answers answer → Puts ledger past at read old new start.out out cut
-  rows_told line None start lines (Ok x) out cut hands none ends few nothing replies stands told = elim hands.answer [
+  rows_reported line None start lines (Ok x) out cut hands none ends few nothing replies stands reported = elim hands.answer [
     | inl is ↦ absurd (not_found x is.0)
     | inr fails ↦ absurd fails
   ]
-  rows_told line (Some rows) start lines (Ok x) out cut hands none ends few nothing replies stands told = elim hands.answer [
+  rows_reported line (Some rows) start lines (Ok x) out cut hands none ends few nothing replies stands reported = elim hands.answer [
     | inl is ↦ whole_served (report_text line rows) start.out out cut is.1 nothing replies stands (ended_whole line rows start lines out cut hands.whole none few ends)
     | inr fails ↦ absurd fails
   ]
-  rows_told line None start lines (Err why) out cut hands none ends few nothing replies stands told =
+  rows_reported line None start lines (Err why) out cut hands none ends few nothing replies stands reported =
       let same : lines ≡ start = subst (λ rs. TakesAll (takes_lines line) start rs lines) (nil_take hands.begun.0) hands.begun.1 in
       let put = ended_refused start lines why out cut same none ends in
       elim hands.answer [
         | inl is ↦ unknown_served why start.out out cut is.1 nothing (λ office answers. subst (λ w. IsReply office routes read (reply_bytes (refused w))) (unknown why is.0) (replies office answers)) stands put
-        | inr fails ↦ failed_served ⊥ why start.out out cut fails (λ is. told (ap Err is)) stands put
+        | inr fails ↦ failed_served ⊥ why start.out out cut fails (λ is. reported (ap Err is)) stands put
       ]
-  rows_told line (Some rows) start lines (Err why) out cut hands none ends few nothing replies stands told = elim hands.answer [
+  rows_reported line (Some rows) start lines (Err why) out cut hands none ends few nothing replies stands reported = elim hands.answer [
     | inl is ↦ absurd (found_not why is.0)
-    | inr fails ↦ after_rows line rows (take hands.begun.0 rows) hands.begun.0 start lines why out cut refl hands.begun.1 none ends fails (λ is. told (ap Err is)) nothing replies stands
+    | inr fails ↦ after_rows line rows (take hands.begun.0 rows) hands.begun.0 start lines why out cut refl hands.begun.1 none ends fails (λ is. reported (ap Err is)) nothing replies stands
   ]
 
   -- If an accounting register exists, then the response to a query for its days is the complete
@@ -258,35 +258,35 @@ module _ {B : Type 0} (ledger : B → Ledger) (past : History) (at : ℕ) (read 
   days_whole name start lines x out cut hands none ends nothing replies stands found is (inr fails) = absurd fails
   days_whole name start lines x out cut hands none ends nothing replies stands None is (inl so) = absurd (not_found x so.0)
   days_whole name start lines x out cut hands none ends nothing replies stands (Some u) is (inl so) =
-      let told = hands.whole in
+      let reported = hands.whole in
       let known : IsRegister (facts_of past) name = λ lacks. there u (sym is ∙ ap is_there lacks) in
-      whole_served (report_text day_line told.days) start.out out cut so.1 nothing
-      (λ office answers. subst (λ a. IsReply office routes read (reply_bytes (lines_reply days_text a))) (answers.days.known name told.days known told.are) (replies office)) stands
-      (ended_whole day_line told.days start lines out cut told.took none (below told.few) ends)
+      whole_served (report_text day_line reported.days) start.out out cut so.1 nothing
+      (λ office answers. subst (λ a. IsReply office routes read (reply_bytes (lines_reply days_text a))) (answers.days.known name reported.days known reported.are) (replies office)) stands
+      (ended_whole day_line reported.days start lines out cut reported.took none (below reported.few) ends)
 
   days_refused : (name : Option (List ℕ)) (start lines : Report) (why : Refusal) (out : Outgoing) (cut : Option Refusal)
       → lines ≡ start → start.count ≡ 0 → EndsReport lines (Err why) out cut → AsksNothing routes read
       → ((office : Office) → IsReply office routes read (reply_bytes (lines_reply days_text (office.days name))))
-      → StandsStill ledger past old new → Told why → (found : Option Register) → option_and_then (register_of (facts_of past)) name ≡ found
+      → StandsStill ledger past old new → Reported why → (found : Option Register) → option_and_then (register_of (facts_of past)) name ≡ found
       → IsFound (is_there found ≡ Some tt) (is_there found) (failures_of ledger old) (failures_of ledger new) (Err why) → Puts ledger past at read old new start.out out cut
-  days_refused name start lines why out cut same none ends nothing replies stands told found is (inr fails) =
-      failed_served (is_there found ≡ Some tt) why start.out out cut fails told stands (ended_refused start lines why out cut same none ends)
-  days_refused name start lines why out cut same none ends nothing replies stands told (Some r) is (inl so) = absurd (found_not why so.0)
-  days_refused name start lines why out cut same none ends nothing replies stands told None is (inl so) =
+  days_refused name start lines why out cut same none ends nothing replies stands reported found is (inr fails) =
+      failed_served (is_there found ≡ Some tt) why start.out out cut fails reported stands (ended_refused start lines why out cut same none ends)
+  days_refused name start lines why out cut same none ends nothing replies stands reported (Some r) is (inl so) = absurd (found_not why so.0)
+  days_refused name start lines why out cut same none ends nothing replies stands reported None is (inl so) =
       unknown_served why start.out out cut so.1 nothing
       (λ office answers. subst (λ w. IsReply office routes read (reply_bytes (refused w))) (unknown why so.0)
       (subst (λ a. IsReply office routes read (reply_bytes (lines_reply days_text a))) (answers.days.unknown name is) (replies office))) stands
       (ended_refused start lines why out cut same none ends)
 
-  pub days_told : (name : Option (List ℕ)) (start lines : Report) (answer : Result (Unit {0}) Refusal) (out : Outgoing) (cut : Option Refusal)
+  pub days_reported : (name : Option (List ℕ)) (start lines : Report) (answer : Result (Unit {0}) Refusal) (out : Outgoing) (cut : Option Refusal)
       → HandsDays (takes_lines day_line) (ledger (books_in old)).zone (facts_of past) name (failures_of ledger old) (failures_of ledger new) start lines answer
       → start.count ≡ 0 → EndsReport lines answer out cut → AsksNothing routes read
       → ((office : Office) → IsReply office routes read (reply_bytes (lines_reply days_text (office.days name))))
       → StandsStill ledger past old new → Answers answer → Puts ledger past at read old new start.out out cut
-  days_told name start lines (Ok x) out cut hands none ends nothing replies stands told =
+  days_reported name start lines (Ok x) out cut hands none ends nothing replies stands reported =
       days_whole name start lines x out cut hands none ends nothing replies stands (is_there (option_and_then (register_of (facts_of past)) name)) refl hands.answer
-  days_told name start lines (Err why) out cut hands none ends nothing replies stands told =
-      days_refused name start lines why out cut hands.none none ends nothing replies stands (λ is. told (ap Err is)) (option_and_then (register_of (facts_of past)) name) refl hands.answer
+  days_reported name start lines (Err why) out cut hands none ends nothing replies stands reported =
+      days_refused name start lines why out cut hands.none none ends nothing replies stands (λ is. reported (ap Err is)) (option_and_then (register_of (facts_of past)) name) refl hands.answer
 
 zero_or_more : (n : ℕ) → (n ≡ 0) ⊎ (0 < n)
 zero_or_more zero = inl refl

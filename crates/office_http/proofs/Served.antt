@@ -21,7 +21,7 @@ use Rattle.http_answer.specs.Offices.{Office}
 use Rattle.http_answer.specs.Replies.{fault_said, refused, reply_bytes, row_reply}
 use Rattle.http_answer.specs.Whole.{IsReply}
 use Rattle.office_http.specs.Wants.Wanting.{AsksNothing, IsAskedFor, IsNoCommand}
-use Rattle.office_http.specs.Answering.{AnswersAt, told}
+use Rattle.office_http.specs.Answering.{AnswersAt, reported}
 use Rattle.office_http.specs.Serving.{Lasts, Serves}
 
 -- If the call executed nothing, then the store has the same records as before the call.
@@ -41,10 +41,10 @@ still ledger past old new answer asks stands = record { stands = asks.stands pas
 
 -- If the response to a request does not depend on the program's state, then the program executes
 -- nothing for that request.
-pub told_off : {B : Type 0} (ledger : B → Ledger) (past : History) (at : ℕ) (read : List ℕ) (old new : Run B) (text : List ℕ)
+pub reported_off : {B : Type 0} (ledger : B → Ledger) (past : History) (at : ℕ) (read : List ℕ) (old new : Run B) (text : List ℕ)
     → new ≡ old → AsksNothing routes read → ((office : Office) → IsReply office routes read text) → Stands ledger past old
     → Serves ledger past at read old new None text
-told_off ledger past at read old new text same nothing reply stands = record {
+reported_off ledger past at read old new text same nothing reply stands = record {
   reply = text;
   is_put = refl;
   later = past;
@@ -63,18 +63,18 @@ no_memory ledger past at read old new same stands = record {
   reply = reply_bytes (refused refusal.Memory);
   is_put = refl;
   later = past;
-  served = inr record { why = refusal.Memory; stopped = λ is. absurd (not_stopped is); outside = inr (tt, ap (failures_of ledger) same); tells = refl; unchanged = refl };
+  served = inr record { why = refusal.Memory; stopped = λ is. absurd (not_stopped is); outside = inr (tt, ap (failures_of ledger) same); reports = refl; unchanged = refl };
   stands = subst (Stands ledger past) (sym same) stands;
   leaves = inr (refl, keeps_same ledger old new same);
 }
 
 -- The response to a query for one object is that object or a refusal.
-pub row_told : {B T : Type 0} (ledger : B → Ledger) (past : History) (at : ℕ) (read : List ℕ) (old new : Run B) (text : T → List ℕ)
+pub row_reported : {B T : Type 0} (ledger : B → Ledger) (past : History) (at : ℕ) (read : List ℕ) (old new : Run B) (text : T → List ℕ)
     (found : Option T) (answer : Result T Refusal) → IsRowFound found (failures_of ledger old) (failures_of ledger new) answer
     → AsksNothing routes read → ((office : Office) → AnswersAt (ledger (books_in old)).zone past at office → IsReply office routes read (reply_bytes (row_reply text (or_not_found found))))
     → StandsStill ledger past old new → (answer ≡ Err refusal.Stopped → is_stopped old ≡ true)
     → Serves ledger past at read old new None (reply_bytes (row_reply text answer))
-row_told ledger past at read old new text found answer (inl is) nothing reply stands stopped = record {
+row_reported ledger past at read old new text found answer (inl is) nothing reply stands stopped = record {
   reply = reply_bytes (row_reply text answer);
   is_put = refl;
   later = past;
@@ -90,31 +90,31 @@ row_told ledger past at read old new text found answer (inl is) nothing reply st
   stands = stands.stands;
   leaves = inr (refl, stands.keeps);
 }
-row_told ledger past at read old new text found (Ok x) (inr fails) nothing reply stands stopped = absurd fails
-row_told ledger past at read old new text found (Err why) (inr fails) nothing reply stands stopped = record {
+row_reported ledger past at read old new text found (Ok x) (inr fails) nothing reply stands stopped = absurd fails
+row_reported ledger past at read old new text found (Err why) (inr fails) nothing reply stands stopped = record {
   reply = reply_bytes (refused why);
   is_put = refl;
   later = past;
-  served = inr record { why = why; stopped = λ is. stopped (ap Err is); outside = outside_more ⊥ (Unit {0}) _ _ why (λ none. tt) fails; tells = refl; unchanged = refl };
+  served = inr record { why = why; stopped = λ is. stopped (ap Err is); outside = outside_more ⊥ (Unit {0}) _ _ why (λ none. tt) fails; reports = refl; unchanged = refl };
   stands = stands.stands;
   leaves = inr (refl, stands.keeps);
 }
 
 -- The response to a command is the program's answer to that command.
-pub command_told : {B : Type 0} (ledger : B → Ledger) (past : History) (at : ℕ) (read : List ℕ) (old new : Run B) (asked : Asked)
+pub command_reported : {B : Type 0} (ledger : B → Ledger) (past : History) (at : ℕ) (read : List ℕ) (old new : Run B) (asked : Asked)
     (answer : Result Answer Refusal) → IsAskedFor routes read asked
     → IsAnswer past at (event.Asked asked) (failures_of ledger old) (failures_of ledger new) answer
     → Stands ledger (with_answer past at (event.Asked asked) answer) new
     → LeavesEvent ledger at (event.Asked asked) old new answer past → (answer ≡ Err refusal.Stopped → is_stopped old ≡ true)
-    → Serves ledger past at read old new None (reply_bytes (row_reply done_text (told answer)))
-command_told ledger past at read old new asked answer wanted (inl is) stands leaves stopped = record {
-  reply = reply_bytes (row_reply done_text (told answer));
+    → Serves ledger past at read old new None (reply_bytes (row_reply done_text (reported answer)))
+command_reported ledger past at read old new asked answer wanted (inl is) stands leaves stopped = record {
+  reply = reply_bytes (row_reply done_text (reported answer));
   is_put = refl;
   later = with_answer past at (event.Asked asked) answer;
   served = inl (
     record {
       replies = λ office answers.
-          subst (λ a. IsReply office routes read (reply_bytes (row_reply done_text a))) (answers.asked asked ∙ ap told (sym is.0)) (wanted.reply office);
+          subst (λ a. IsReply office routes read (reply_bytes (row_reply done_text a))) (answers.asked asked ∙ ap reported (sym is.0)) (wanted.reply office);
       asked = Some asked;
       asks = wanted.asks;
       accepts = ap (with_answer past at (event.Asked asked)) is.0;
@@ -124,12 +124,12 @@ command_told ledger past at read old new asked answer wanted (inl is) stands lea
   stands = stands;
   leaves = inl (record { asked = asked; asks = wanted.asks; answer = answer; accepts = refl; leaves = leaves });
 }
-command_told ledger past at read old new asked (Ok answer) wanted (inr fails) stands leaves stopped = absurd fails
-command_told ledger past at read old new asked (Err why) wanted (inr fails) stands leaves stopped = record {
+command_reported ledger past at read old new asked (Ok answer) wanted (inr fails) stands leaves stopped = absurd fails
+command_reported ledger past at read old new asked (Err why) wanted (inr fails) stands leaves stopped = record {
   reply = reply_bytes (refused why);
   is_put = refl;
   later = past;
-  served = inr record { why = why; stopped = λ is. stopped (ap Err is); outside = outside_more (IsAccepted past at (event.Asked asked)) (Unit {0}) _ _ why (λ accepted. tt) fails; tells = refl; unchanged = refl };
+  served = inr record { why = why; stopped = λ is. stopped (ap Err is); outside = outside_more (IsAccepted past at (event.Asked asked)) (Unit {0}) _ _ why (λ accepted. tt) fails; reports = refl; unchanged = refl };
   stands = stands;
   leaves = inl (record { asked = asked; asks = wanted.asks; answer = Err why; accepts = refl; leaves = leaves });
 }
@@ -151,8 +151,8 @@ pub lasts_same : {B : Type 0} (ledger : B → Ledger) (office : Run B) → Lasts
 lasts_same ledger office = record { stopped = refl; clean = λ x. x; zone = refl }
 
 -- The response to a request without a valid command reports the fault of its body.
-pub no_command_told : {B : Type 0} (ledger : B → Ledger) (past : History) (at : ℕ) (read : List ℕ) (office : Run B) (why : CommandFault)
+pub no_command_reported : {B : Type 0} (ledger : B → Ledger) (past : History) (at : ℕ) (read : List ℕ) (office : Run B) (why : CommandFault)
     → IsNoCommand routes read why → Stands ledger past office → Serves ledger past at read office office None (reply_bytes (fault_said why))
-no_command_told ledger past at read office why (inl memory) stands =
+no_command_reported ledger past at read office why (inl memory) stands =
     subst (λ w. Serves ledger past at read office office None (reply_bytes (fault_said w))) (sym memory) (no_memory ledger past at read office office refl stands)
-no_command_told ledger past at read office why (inr off) stands = told_off ledger past at read office office _ refl off.nothing off.reply stands
+no_command_reported ledger past at read office why (inr off) stands = reported_off ledger past at read office office _ refl off.nothing off.reply stands

@@ -28,9 +28,9 @@ or_damaged None = Err (refusal.Store store.Damaged)
 or_damaged (Some kind) = Ok kind
 
 -- The result of a command, converted from the program's answer.
-abbrev pub told : Result Answer Refusal → Result CommandKind Refusal
-told (Ok answer) = or_damaged (kind_answered answer)
-told (Err why) = Err why
+abbrev pub reported : Result Answer Refusal → Result CommandKind Refusal
+reported (Ok answer) = or_damaged (kind_answered answer)
+reported (Err why) = Err why
 
 -- The store has an accounting register with this name. A missing name matches no register.
 abbrev pub IsRegister : List Fact → (name : Option (List ℕ)) → Type 0
@@ -54,4 +54,4 @@ pub record AnswersAt (zone : Zone) (past : History) (at : ℕ) (office : Office)
   pub intervals : (name : Option (List ℕ))
       → office.intervals name ≡ or_not_found (intervals_of (facts_of past) name)
   pub days : AnswersDays zone (facts_of past) office.days
-  pub asked : (asked : Asked) → office.asked asked ≡ told (decision_of past at (event.Asked asked))
+  pub asked : (asked : Asked) → office.asked asked ≡ reported (decision_of past at (event.Asked asked))

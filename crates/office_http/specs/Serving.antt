@@ -55,7 +55,7 @@ pub record IsUnavailable (past : History) (had_stopped : Bool) (before after : F
   pub why : Refusal
   pub stopped : why ≡ refusal.Stopped → had_stopped ≡ true
   pub outside : IsOutside (Unit {0}) before after why
-  pub tells : reply ≡ reply_bytes (refused why)
+  pub reports : reply ≡ reply_bytes (refused why)
   pub unchanged : later ≡ past
 
 -- The response to the bytes in `read`, given the counts of failures before and after the call. If

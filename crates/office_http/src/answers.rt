@@ -22,7 +22,7 @@ use office_rules::facts_are_lawful;
 // Converts the program's answer to a command into the command's kind. The answer `Noted` belongs to
 // no command, so it is reported as a damaged store.
 fn command_result(answer: Result<Answer, Refusal>) -> Result<CommandKind, Refusal>
-    ensures { result ≡ answering.told answer }
+    ensures { result ≡ answering.reported answer }
 {
     match kind_answered(answer?) {
         Some(kind) => Ok(kind),

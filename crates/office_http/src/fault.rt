@@ -42,7 +42,7 @@ impl From<TakeFault> for HandleFault {
     ghost use Rattle.std.specs.Prelude.{◌≡◌};
     ghost use Rattle.office_http.specs.Exchange.{as_fault};
 
-    ghost from_gives = { λ fault told. told ≡ as_fault fault };
+    ghost from_gives = { λ fault reported. reported ≡ as_fault fault };
 
     fn from(fault: TakeFault) -> HandleFault {
         match fault {

@@ -11,19 +11,19 @@ use Rattle.office_core.specs.declared.office.Office.{Office}
 use Rattle.office_program.specs.Texts.AskedOffice.{OpensToAsk}
 use Rattle.office_program.specs.Texts.OpenedOffice.{Opens}
 use Rattle.office_program.specs.Texts.Reports.{Asks, ReportPrints}
-use Rattle.office_program.specs.Texts.EndTexts.{TellsEnd}
-use Rattle.office_program.specs.Report.{TellsReport}
+use Rattle.office_program.specs.Texts.EndTexts.{ReportsEnd}
+use Rattle.office_program.specs.Report.{ReportsReport}
 use Rattle.energy_report.specs.declared.form.ReportForm.{ReportForm}
-use Rattle.office_program.specs.RangedReport.{TellsRange}
+use Rattle.office_program.specs.RangedReport.{AnswersRange}
 use Rattle.office_program.specs.Texts.RangedReports.{RangePrints}
 use Rattle.energy_report.specs.declared.form.StatementForm.{StatementForm}
 use Rattle.interval_core.specs.declared.zone.Zone.{Zone}
-use Rattle.office_program.specs.Statement.{TellsStatement}
+use Rattle.office_program.specs.Statement.{ReportsStatement}
 use Rattle.office_program.specs.Texts.Statements.{StatementPrints}
-use Rattle.office_program.specs.HttpPort.{Port, ServesPort, TellsServing}
+use Rattle.office_program.specs.HttpPort.{Port, ServesPort, ReportsServing}
 use Rattle.office_program.specs.declared.http_port.ServeEnd.{ServeEnd}
 use Rattle.office_program.specs.declared.http_port.ServeEnd.TheVariants.{Served, Unopened, NoPort, Broken}
-use Rattle.office_program.specs.PortRound.{PollsPort, TellsPolling}
+use Rattle.office_program.specs.PortRound.{PollsPort, ReportsPolling}
 use Rattle.office_program.specs.declared.port_round.PollEnd.{PollEnd}
 use Rattle.office_program.specs.declared.port_round.PollEnd.TheVariants as polling
 
@@ -33,22 +33,22 @@ kept : {B : Type 0} (ledger : B → Ledger) (left : Office B) (back : B) → bac
     → (ledger (books_in left)).is_clean
 kept {B = B} ledger left back is clean = let P : B → Type 0 = λ b. (ledger b).is_clean in subst P is clean
 
-pub reported : {B W : Type 0} (ledger : B → Ledger) (contents : W → Option (List ℕ)) (past : History) (register : List ℕ)
+pub as_reported : {B W : Type 0} (ledger : B → Ledger) (contents : W → Option (List ℕ)) (past : History) (register : List ℕ)
     (name : Option (List ℕ)) (moments later : Option (List ℕ)) (books back : B) (opened left : Office B) (before silent : W)
     (holds : Option (List ℕ)) (status : ExitStatus)
     → name ≡ named register
     → ((ledger (books_in opened)).is_clean → OpensToAsk ledger past moments later opened)
     → silent ≡ before
-    → After ledger opened left (λ following. TellsEnd (ReportPrints (ledger (books_in opened)).zone following name
+    → After ledger opened left (λ following. ReportsEnd (ReportPrints (ledger (books_in opened)).zone following name
     (failures_of ledger opened) (failures_of ledger left)) status (contents silent) holds)
     → Asks ledger opened left → back ≡ books_in left → (ledger back).is_clean
-    → TellsReport ledger past register moments later books back (contents before) holds status
-reported {W = W} ledger contents past register name moments later books back opened left before silent holds status names opens same prints asks is clean =
+    → ReportsReport ledger past register moments later books back (contents before) holds status
+as_reported {W = W} ledger contents past register name moments later books back opened left before silent holds status names opens same prints asks is clean =
     let whole = kept ledger left back is clean in
     let following = opens (asks.only.clean whole) in
-    let P : W → Type 0 = λ w. TellsEnd (ReportPrints (ledger (books_in opened)).zone (Opened (asking_moment past following.told) ∷ past) name
+    let P : W → Type 0 = λ w. ReportsEnd (ReportPrints (ledger (books_in opened)).zone (Opened (asking_moment past following.reported) ∷ past) name
     (failures_of ledger opened) (failures_of ledger left)) status (contents w) holds in
-    let Q : Option (List ℕ) → Type 0 = λ n. TellsEnd (ReportPrints (ledger (books_in opened)).zone (Opened (asking_moment past following.told) ∷ past) n
+    let Q : Option (List ℕ) → Type 0 = λ n. ReportsEnd (ReportPrints (ledger (books_in opened)).zone (Opened (asking_moment past following.reported) ∷ past) n
     (failures_of ledger opened) (failures_of ledger left)) status (contents before) holds in
     inr (record {
       opened = opened;
@@ -67,16 +67,16 @@ pub range_reported : {B W : Type 0} (ledger : B → Ledger) (contents : W → Op
     → name ≡ named register
     → ((ledger (books_in opened)).is_clean → OpensToAsk ledger past moments later opened)
     → silent ≡ before
-    → After ledger opened left (λ following. TellsEnd (RangePrints (ledger (books_in opened)).zone following name form
+    → After ledger opened left (λ following. ReportsEnd (RangePrints (ledger (books_in opened)).zone following name form
     (failures_of ledger opened) (failures_of ledger left)) status (contents silent) holds)
     → Asks ledger opened left → back ≡ books_in left → (ledger back).is_clean
-    → TellsRange ledger past register form moments later books back (contents before) holds status
+    → AnswersRange ledger past register form moments later books back (contents before) holds status
 range_reported {W = W} ledger contents past register name form moments later books back opened left before silent holds status names opens same prints asks is clean =
     let whole = kept ledger left back is clean in
     let following = opens (asks.only.clean whole) in
-    let P : W → Type 0 = λ w. TellsEnd (RangePrints (ledger (books_in opened)).zone (Opened (asking_moment past following.told) ∷ past) name form
+    let P : W → Type 0 = λ w. ReportsEnd (RangePrints (ledger (books_in opened)).zone (Opened (asking_moment past following.reported) ∷ past) name form
     (failures_of ledger opened) (failures_of ledger left)) status (contents w) holds in
-    let Q : Option (List ℕ) → Type 0 = λ n. TellsEnd (RangePrints (ledger (books_in opened)).zone (Opened (asking_moment past following.told) ∷ past) n form
+    let Q : Option (List ℕ) → Type 0 = λ n. ReportsEnd (RangePrints (ledger (books_in opened)).zone (Opened (asking_moment past following.reported) ∷ past) n form
     (failures_of ledger opened) (failures_of ledger left)) status (contents before) holds in
     inr (record {
       opened = opened;
@@ -95,18 +95,18 @@ pub stated : {B W : Type 0} (ledger : B → Ledger) (contents : W → Option (Li
     → name ≡ named register → zone ≡ (ledger books).zone
     → ((ledger (books_in opened)).is_clean → OpensToAsk ledger past moments later opened)
     → silent ≡ before
-    → After ledger opened left (λ following. TellsEnd (StatementPrints zone following name form
+    → After ledger opened left (λ following. ReportsEnd (StatementPrints zone following name form
     (failures_of ledger opened) (failures_of ledger left)) status (contents silent) holds)
     → Asks ledger opened left → back ≡ books_in left → (ledger back).is_clean
-    → TellsStatement ledger past register form moments later books back (contents before) holds status
+    → ReportsStatement ledger past register form moments later books back (contents before) holds status
 stated {W = W} ledger contents past register name form zone moments later books back opened left before silent holds status names clocks opens same prints asks is clean =
     let whole = kept ledger left back is clean in
     let following = opens (asks.only.clean whole) in
-    let P : W → Type 0 = λ w. TellsEnd (StatementPrints zone (Opened (asking_moment past following.told) ∷ past) name form
+    let P : W → Type 0 = λ w. ReportsEnd (StatementPrints zone (Opened (asking_moment past following.reported) ∷ past) name form
     (failures_of ledger opened) (failures_of ledger left)) status (contents w) holds in
-    let Q : Option (List ℕ) → Type 0 = λ n. TellsEnd (StatementPrints zone (Opened (asking_moment past following.told) ∷ past) n form
+    let Q : Option (List ℕ) → Type 0 = λ n. ReportsEnd (StatementPrints zone (Opened (asking_moment past following.reported) ∷ past) n form
     (failures_of ledger opened) (failures_of ledger left)) status (contents before) holds in
-    let R : Zone → Type 0 = λ z. TellsEnd (StatementPrints z (Opened (asking_moment past following.told) ∷ past) (named register) form
+    let R : Zone → Type 0 = λ z. ReportsEnd (StatementPrints z (Opened (asking_moment past following.reported) ∷ past) (named register) form
     (failures_of ledger opened) (failures_of ledger left)) status (contents before) holds in
     inr (record {
       opened = opened;
@@ -125,7 +125,7 @@ pub served : {B : Type 0} (ledger : B → Ledger) (past : History) (at : Port) (
     → ((ledger (books_in left)).is_clean → (ledger (books_in opened)).is_clean)
     → After ledger opened left (λ following. ServesPort at then later ledger following opened left end)
     → holds ≡ had → back ≡ books_in left → (ledger back).is_clean
-    → TellsServing ledger past at moments later books back had holds end
+    → ReportsServing ledger past at moments later books back had holds end
 served ledger past at moments then later books back opened left had holds Served opens lasts serves silent is clean =
     let whole = kept ledger left back is clean in
     let following = opens (lasts whole) in
@@ -171,7 +171,7 @@ pub polled : {B W : Type 0} (ledger : B → Ledger) (contents : W → Option (Li
     → ((ledger (books_in left)).is_clean → (ledger (books_in opened)).is_clean)
     → After ledger opened left (λ following. PollsPort ledger device later (contents silent) holds end following then opened left)
     → back ≡ books_in left → (ledger back).is_clean
-    → TellsPolling ledger past device moments later books back (contents before) holds end
+    → ReportsPolling ledger past device moments later books back (contents before) holds end
 polled {W = W} ledger contents past device moments then later books back opened left before silent holds (polling.Polled done) opens same lasts polls is clean =
     let whole = kept ledger left back is clean in
     let following = opens (lasts whole) in

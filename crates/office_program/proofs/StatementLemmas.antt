@@ -37,7 +37,7 @@ use Rattle.office_books.specs.Spans.{is_within, rows_within}
 use Rattle.office_books.specs.Entries.{entries_at, first_from, installations_of}
 use Rattle.office_books.specs.Ledgers.{Ledger}
 use Rattle.office_books.specs.Rows.{TakesAll}
-use Rattle.office_core.specs.Asking.{IsFound, OnlyAsks, TellsRows, intervals_of, is_there, rows_in}
+use Rattle.office_core.specs.Asking.{IsFound, OnlyAsks, ReportsRows, intervals_of, is_there, rows_in}
 use Rattle.office_core.specs.Failing.{IsOutside}
 use Rattle.office_core.specs.Parts.{IsListed, ListsAccepted, entries_within, holds_named, intervals_within, meters_named}
 use Rattle.office_core.specs.Standing.{After}
@@ -55,9 +55,9 @@ use Rattle.energy_report.specs.HeldSinks.{CountsReading, HasCountedNone}
 use Rattle.energy_report.specs.Statements.{energy_within, tally_of, was_installed}
 use Rattle.energy_report.proofs.EnergyLemmas.{added_up}
 use Rattle.energy_report.proofs.HeldLemmas.{counted_all}
-use Rattle.office_program.specs.Texts.EndTexts.{IsTold}
+use Rattle.office_program.specs.Texts.EndTexts.{IsReported}
 use Rattle.office_program.specs.Texts.Reports.{Asks}
-use Rattle.office_program.specs.Texts.Statements.{AnswersOf, AreRecorded, States, energy_in, held_in, statement_in, statement_of, statements_in, statements_of, tally_in, told_of}
+use Rattle.office_program.specs.Texts.Statements.{AnswersOf, AreRecorded, States, energy_in, held_in, statement_in, statement_of, statements_in, statements_of, tally_in, reported_of}
 use Rattle.office_books.proofs.Pieces.{last_piece, one_piece_more, piece_at}
 use Rattle.office_core.specs.Several.{Keeps}
 use Rattle.office_core.proofs.SeveralAsked.{found_ok, found_so, now_as, refused_as, refused_on}
@@ -127,20 +127,20 @@ module _ {B : Type 0} (ledger : B → Ledger) (zone : Zone) (range : DayRange) w
       → Keeps ledger a b → IsTallied a b meter n tally → OnlyAsks ledger b d (Ok v)
       → ListsAccepted ledger b d (Ok v) (λ facts. entries_within facts meter (n + 1) 65536)
       → Takes tally more v.items → IsTallied a d meter (n + 65536) more
-  tally_more a b d meter n tally more v kept told asks lists took = λ past stands clean opening is.
+  tally_more a b d meter n tally more v kept reported asks lists took = λ past stands clean opening is.
       let facts = facts_of past in
       let es = entries_at facts (Some opening) in
       let known = subst (λ o. IsListed (option_map (from_place facts n) o) (failures_of ledger b) (failures_of ledger d) (Ok v)) is
       (lists past (kept.stands past stands) clean) in
       let items : v.items ≡ take 65536 (drop n es) = sym (some_same (from_place facts n opening) v.items known.0) ∙ piece_at facts opening n 65536 in
-      took (take n es) (told past stands (asks.clean clean) opening is)
+      took (take n es) (reported past stands (asks.clean clean) opening is)
       ∙ ap (tally_of zone range) (ap (λ (piece : List MeterEntry). take n es ++ piece) items ∙ one_piece_more n 65536 es)
 
-  pub tally_told : (a b d : Office B) (meter : Option (List ℕ)) (n : ℕ) (tally more : EntryTally) (v : Vec MeterEntry Global)
+  pub tally_reported : (a b d : Office B) (meter : Option (List ℕ)) (n : ℕ) (tally more : EntryTally) (v : Vec MeterEntry Global)
       → Keeps ledger a b → IsTallied a b meter n tally → OnlyAsks ledger b d (Ok v)
       → ListsAccepted ledger b d (Ok v) (λ facts. entries_within facts meter (n + 1) 65536)
       → Takes tally more v.items → length v.items < 65536 → AnswersOf ledger a d (Ok more) (λ facts. tally_in zone range facts meter)
-  tally_told a b d meter n tally more v kept told asks lists took few = λ past stands clean.
+  tally_reported a b d meter n tally more v kept reported asks lists took few = λ past stands clean.
       let facts = facts_of past in
       let known = lists past (kept.stands past stands) clean in
       let found = mapped (from_place facts n) (option_and_then (opening_of facts) meter) v.items known.0 in
@@ -149,7 +149,7 @@ module _ {B : Type 0} (ledger : B → Ledger) (zone : Zone) (range : DayRange) w
       let items : v.items ≡ take 65536 (drop n es) = sym found.2 ∙ piece_at facts opening n 65536 in
       let last : length (take 65536 (drop n es)) < 65536 = subst (λ (piece : List MeterEntry). length piece < 65536) items few in
       let all : more ≡ tally_of zone range es =
-      took (take n es) (told past stands (asks.clean clean) opening found.1)
+      took (take n es) (reported past stands (asks.clean clean) opening found.1)
       ∙ ap (tally_of zone range) (ap (λ (piece : List MeterEntry). take n es ++ piece) items ∙ last_piece n 65536 es last) in
       found_so (Unit {0}) (tally_in zone range facts meter) (failures_of ledger a) (failures_of ledger d) more
       (ap (option_map (λ (o : Opening). tally_of zone range (entries_at facts (Some o)))) found.1 ∙ ap Some (sym all)) (known.1 ∙ kept.failures)
@@ -189,10 +189,10 @@ module _ {B : Type 0} (ledger : B → Ledger) (zone : Zone) (range : DayRange) w
   no_rows span None is = refl
   no_rows span (Some rows) is = absurd (cc is)
 
-  pub energy_told : (a d : Office B) (meter : Option (List ℕ)) (span : Span) (from to : EnergyWithin) (mwh : ℕ) → IsAround span → IsFresh zone range from
-      → mwh ≡ to.mwh → TellsRows AddsShare ledger a d from to (Ok tt) (λ facts. intervals_within facts meter span)
+  pub energy_reported : (a d : Office B) (meter : Option (List ℕ)) (span : Span) (from to : EnergyWithin) (mwh : ℕ) → IsAround span → IsFresh zone range from
+      → mwh ≡ to.mwh → ReportsRows AddsShare ledger a d from to (Ok tt) (λ facts. intervals_within facts meter span)
       → AnswersOf ledger a d (Ok mwh) (λ facts. energy_in zone range facts meter)
-  energy_told a d meter span from to mwh around fresh is rows = λ past stands clean.
+  energy_reported a d meter span from to mwh around fresh is rows = λ past stands clean.
       let facts = facts_of past in
       let hands = rows past stands clean in
       let there = found_ok ⊥ (is_there (intervals_within facts meter span)) (failures_of ledger a) (failures_of ledger d) tt hands.answer in
@@ -200,7 +200,7 @@ module _ {B : Type 0} (ledger : B → Ledger) (zone : Zone) (range : DayRange) w
       (energy_of_rows span around (intervals_of facts meter) from to fresh there.0 hands.whole ∙ ap Some (sym is)) there.1
 
   pub energy_refused : (a d : Office B) (meter : Option (List ℕ)) (span : Span) (from to : EnergyWithin) (why : Refusal)
-      → TellsRows AddsShare ledger a d from to (Err why) (λ facts. intervals_within facts meter span)
+      → ReportsRows AddsShare ledger a d from to (Err why) (λ facts. intervals_within facts meter span)
       → AnswersOf {T = ℕ} ledger a d (Err why) (λ facts. energy_in zone range facts meter)
   energy_refused a d meter span from to why rows = λ past stands clean.
       let facts = facts_of past in
@@ -233,10 +233,10 @@ module _ {B : Type 0} (ledger : B → Ledger) (zone : Zone) (range : DayRange) w
   no_holds facts None is = refl
   no_holds facts (Some name) is = nothing (holds_if facts name) (held_if facts name) (opening_of facts name) is
 
-  pub held_told : (a d : Office B) (meter : Option (List ℕ)) (from to : RejectedWithin) (held : RejectedCounts) → HasCountedNone zone range from
-      → held ≡ to.counts → TellsRows CountsReading ledger a d from to (Ok tt) (λ facts. holds_named facts meter span.All)
+  pub held_reported : (a d : Office B) (meter : Option (List ℕ)) (from to : RejectedWithin) (held : RejectedCounts) → HasCountedNone zone range from
+      → held ≡ to.counts → ReportsRows CountsReading ledger a d from to (Ok tt) (λ facts. holds_named facts meter span.All)
       → AnswersOf ledger a d (Ok held) (λ facts. held_in zone range facts meter)
-  held_told a d meter from to held fresh is rows = λ past stands clean.
+  held_reported a d meter from to held fresh is rows = λ past stands clean.
       let facts = facts_of past in
       let hands = rows past stands clean in
       let there = found_ok ⊥ (is_there (holds_named facts meter span.All)) (failures_of ledger a) (failures_of ledger d) tt hands.answer in
@@ -244,7 +244,7 @@ module _ {B : Type 0} (ledger : B → Ledger) (zone : Zone) (range : DayRange) w
       (held_of_holds facts meter from to fresh there.0 hands.whole ∙ ap Some (sym is)) there.1
 
   pub holds_refused : (a d : Office B) (meter : Option (List ℕ)) (from to : RejectedWithin) (why : Refusal)
-      → TellsRows CountsReading ledger a d from to (Err why) (λ facts. holds_named facts meter span.All)
+      → ReportsRows CountsReading ledger a d from to (Err why) (λ facts. holds_named facts meter span.All)
       → AnswersOf {T = RejectedCounts} ledger a d (Err why) (λ facts. held_in zone range facts meter)
   holds_refused a d meter from to why rows = λ past stands clean.
       let facts = facts_of past in
@@ -255,15 +255,15 @@ module _ {B : Type 0} (ledger : B → Ledger) (zone : Zone) (range : DayRange) w
   -- ---- The statement of one meter
 
   abbrev by_opening : List Fact → (meter : List ℕ) → Opening → MeterStatement
-  by_opening facts meter opening = told_of zone range facts meter (Some opening)
+  by_opening facts meter opening = reported_of zone range facts meter (Some opening)
 
-  all_told : (facts : List Fact) (meter : List ℕ) (o : Option Opening) (tally : EntryTally) (mwh : ℕ) (held : RejectedCounts)
+  all_reported : (facts : List Fact) (meter : List ℕ) (o : Option Opening) (tally : EntryTally) (mwh : ℕ) (held : RejectedCounts)
       → option_map (λ x. tally_of zone range (entries_at facts (Some x))) o ≡ Some tally
       → option_map (energy_within zone range) (option_map (rows_of_opening facts) o) ≡ Some mwh
       → option_map (held_if facts meter) o ≡ Some held
       → option_map (by_opening facts meter) o ≡ Some (record { meter = meter; entries = tally; mwh = mwh; held = held })
-  all_told facts meter None tally mwh held first second third = absurd (cc first)
-  all_told facts meter (Some x) tally mwh held first second third =
+  all_reported facts meter None tally mwh held first second third = absurd (cc first)
+  all_reported facts meter (Some x) tally mwh held first second third =
       let t : tally_of zone range (entries_at facts (Some x)) ≡ tally = some_same _ _ first in
       let e : energy_within zone range (rows_of_opening facts x) ≡ mwh = some_same _ _ second in
       let h : held_within zone range (holds_of facts meter) ≡ held = some_same _ _ third in
@@ -272,23 +272,23 @@ module _ {B : Type 0} (ledger : B → Ledger) (zone : Zone) (range : DayRange) w
       ∙ ap (λ n. Some (made tally n (held_within zone range (holds_of facts meter)))) e
       ∙ ap (λ y. Some (made tally mwh y)) h
 
-  pub statement_told : (a b d e : Office B) (meter : List ℕ) (tally : EntryTally) (mwh : ℕ) (held : RejectedCounts)
+  pub statement_reported : (a b d e : Office B) (meter : List ℕ) (tally : EntryTally) (mwh : ℕ) (held : RejectedCounts)
       → OnlyAsks ledger a b (Ok tally) → OnlyAsks ledger b d (Ok mwh) → OnlyAsks ledger d e (Ok held)
       → AnswersOf ledger a b (Ok tally) (λ facts. tally_in zone range facts (Some meter))
       → AnswersOf ledger b d (Ok mwh) (λ facts. energy_in zone range facts (Some meter))
       → AnswersOf ledger d e (Ok held) (λ facts. held_in zone range facts (Some meter))
       → AnswersOf ledger a e (Ok (record { meter = meter; entries = tally; mwh = mwh; held = held })) (λ facts. statement_in zone range facts meter)
-  statement_told a b d e meter tally mwh held first second third told energy counts = λ past stands clean.
+  statement_reported a b d e meter tally mwh held first second third reported energy counts = λ past stands clean.
       let facts = facts_of past in
       let later = first.stands past stands in
       let t = found_ok (Unit {0}) (tally_in zone range facts (Some meter)) (failures_of ledger a) (failures_of ledger b) tally
-      (told past stands (second.clean (third.clean clean))) in
+      (reported past stands (second.clean (third.clean clean))) in
       let n = found_ok (Unit {0}) (energy_in zone range facts (Some meter)) (failures_of ledger b) (failures_of ledger d) mwh
       (energy past later (third.clean clean)) in
       let h = found_ok (Unit {0}) (held_in zone range facts (Some meter)) (failures_of ledger d) (failures_of ledger e) held
       (counts past (second.stands past later) clean) in
       found_so (Unit {0}) (statement_in zone range facts meter) (failures_of ledger a) (failures_of ledger e) _
-      (all_told facts meter (opening_of facts meter) tally mwh held t.0 n.0 h.0) (h.1 ∙ n.1 ∙ t.1)
+      (all_reported facts meter (opening_of facts meter) tally mwh held t.0 n.0 h.0) (h.1 ∙ n.1 ∙ t.1)
 
   gone : {Y Z : Type 0} (f : Opening → Y) (g : Opening → Z) (o : Option Opening) → option_map f o ≡ None → option_map g o ≡ None
   gone f g None is = refl
@@ -302,31 +302,31 @@ module _ {B : Type 0} (ledger : B → Ledger) (zone : Zone) (range : DayRange) w
   pub entries_refused : (a b : Office B) (meter : List ℕ) (why : Refusal)
       → AnswersOf {T = EntryTally} ledger a b (Err why) (λ facts. tally_in zone range facts (Some meter))
       → AnswersOf {T = MeterStatement} ledger a b (Err why) (λ facts. statement_in zone range facts meter)
-  entries_refused a b meter why told = λ past stands clean.
+  entries_refused a b meter why reported = λ past stands clean.
       let facts = facts_of past in
       refused_on (Unit {0}) (Unit {0}) (tally_in zone range facts (Some meter)) (statement_in zone range facts meter)
       (failures_of ledger a) (failures_of ledger a) (failures_of ledger b) why (λ u. u)
       (gone (λ (x : Opening). tally_of zone range (entries_at facts (Some x))) (by_opening facts meter) (opening_of facts meter)) refl
-      (told past stands clean)
+      (reported past stands clean)
 
   pub rows_refused : (a b d : Office B) (meter : List ℕ) (why : Refusal) → Keeps ledger a b
       → AnswersOf {T = ℕ} ledger b d (Err why) (λ facts. energy_in zone range facts (Some meter))
       → AnswersOf {T = MeterStatement} ledger a d (Err why) (λ facts. statement_in zone range facts meter)
-  rows_refused a b d meter why kept told = λ past stands clean.
+  rows_refused a b d meter why kept reported = λ past stands clean.
       let facts = facts_of past in
       refused_on (Unit {0}) (Unit {0}) (energy_in zone range facts (Some meter)) (statement_in zone range facts meter)
       (failures_of ledger a) (failures_of ledger b) (failures_of ledger d) why (λ u. u)
-      (gone_rows facts (by_opening facts meter) (opening_of facts meter)) kept.failures (told past (kept.stands past stands) clean)
+      (gone_rows facts (by_opening facts meter) (opening_of facts meter)) kept.failures (reported past (kept.stands past stands) clean)
 
   pub held_refused : (a b d : Office B) (meter : List ℕ) (why : Refusal) → Keeps ledger a b
       → AnswersOf {T = RejectedCounts} ledger b d (Err why) (λ facts. held_in zone range facts (Some meter))
       → AnswersOf {T = MeterStatement} ledger a d (Err why) (λ facts. statement_in zone range facts meter)
-  held_refused a b d meter why kept told = λ past stands clean.
+  held_refused a b d meter why kept reported = λ past stands clean.
       let facts = facts_of past in
       refused_on (Unit {0}) (Unit {0}) (held_in zone range facts (Some meter)) (statement_in zone range facts meter)
       (failures_of ledger a) (failures_of ledger b) (failures_of ledger d) why (λ u. u)
       (gone (held_if facts meter) (by_opening facts meter) (opening_of facts meter)) kept.failures
-      (told past (kept.stands past stands) clean)
+      (reported past (kept.stands past stands) clean)
 
   -- ---- The statements of the meters at a register, one by one
 
@@ -339,17 +339,17 @@ module _ {B : Type 0} (ledger : B → Ledger) (zone : Zone) (range : DayRange) w
       )
 
   by_name : (facts : List Fact) (meter : List ℕ) (o : Option Opening) (s : MeterStatement) → option_map (by_opening facts meter) o ≡ Some s
-      → told_of zone range facts meter o ≡ s
+      → reported_of zone range facts meter o ≡ s
   by_name facts meter None s is = absurd (cc is)
   by_name facts meter (Some x) s is = some_same _ _ is
 
   pub one_stated : (a b : Office B) (row : Installation) (before after : List MeterStatement) (s : MeterStatement) → was_installed zone range row ≡ true
       → after ≡ before ++ s ∷ [] → AnswersOf ledger a b (Ok s) (λ facts. statement_in zone range facts row.opening.meter)
       → States ledger zone range (row ∷ []) a b before after (Ok tt)
-  one_stated a b row before after s there put told = λ past stands clean recorded.
+  one_stated a b row before after s there put reported = λ past stands clean recorded.
       let facts = facts_of past in
       let meter = row.opening.meter in
-      let found = found_ok (Unit {0}) (statement_in zone range facts meter) (failures_of ledger a) (failures_of ledger b) s (told past stands clean) in (
+      let found = found_ok (Unit {0}) (statement_in zone range facts meter) (failures_of ledger a) (failures_of ledger b) s (reported past stands clean) in (
         put ∙ ap (λ (x : MeterStatement). before ++ x ∷ []) (sym (by_name facts meter (opening_of facts meter) s found.0))
             ∙ ap (λ (rows : List Installation). before ++ map (λ r. statement_of zone range facts r.opening.meter) rows) (sym (cond-true _ _ _ there)),
         found.1,
@@ -358,10 +358,10 @@ module _ {B : Type 0} (ledger : B → Ledger) (zone : Zone) (range : DayRange) w
   pub no_room : (a b : Office B) (row : Installation) (before after : List MeterStatement) (s : MeterStatement)
       → AnswersOf ledger a b (Ok s) (λ facts. statement_in zone range facts row.opening.meter)
       → States ledger zone range (row ∷ []) a b before after (Err refusal.Memory)
-  no_room a b row before after s told = λ past stands clean recorded.
+  no_room a b row before after s reported = λ past stands clean recorded.
       let facts = facts_of past in
       let found = found_ok (Unit {0}) (statement_in zone range facts row.opening.meter) (failures_of ledger a) (failures_of ledger b) s
-      (told past stands clean) in
+      (reported past stands clean) in
       inr (tt, found.1)
 
   outside : {T : Type 0} (f : Opening → T) (o : Option Opening) (before after : Failures) (why : Refusal) → is_some o ≡ true
@@ -373,10 +373,10 @@ module _ {B : Type 0} (ledger : B → Ledger) (zone : Zone) (range : DayRange) w
   pub one_refused : (a b : Office B) (row : Installation) (before after : List MeterStatement) (why : Refusal)
       → AnswersOf {T = MeterStatement} ledger a b (Err why) (λ facts. statement_in zone range facts row.opening.meter)
       → States ledger zone range (row ∷ []) a b before after (Err why)
-  one_refused a b row before after why told = λ past stands clean recorded.
+  one_refused a b row before after why reported = λ past stands clean recorded.
       let facts = facts_of past in
       outside (by_opening facts row.opening.meter) (opening_of facts row.opening.meter) (failures_of ledger a) (failures_of ledger b) why
-      (All-head (λ (r : Installation). is_some (opening_of facts r.opening.meter) ≡ true) row [] recorded) (told past stands clean)
+      (All-head (λ (r : Installation). is_some (opening_of facts r.opening.meter) ≡ true) row [] recorded) (reported past stands clean)
 
   stated_both : (facts : List Fact) (xs ys : List Installation)
       → statements_of zone range facts (xs ++ ys) ≡ statements_of zone range facts xs ++ statements_of zone range facts ys
@@ -399,10 +399,10 @@ module _ {B : Type 0} (ledger : B → Ledger) (zone : Zone) (range : DayRange) w
       → i < length rows → row ≡ get_or rows i row → take (i + 1) rows ≡ take i rows ++ row ∷ []
       → Keeps ledger a b → Keeps ledger b d → AreStated a b rows before mid i → States ledger zone range (row ∷ []) b d mid after (Ok tt)
       → AreStated a d rows before after (i + 1)
-  more_stated a b d rows i row before mid after lt is next kept went told more = λ past stands clean recorded.
+  more_stated a b d rows i row before mid after lt is next kept went reported more = λ past stands clean recorded.
       let facts = facts_of past in
       let one = more past (kept.stands past stands) clean (recorded_at facts rows i row lt is recorded) in
-      one.0 ∙ ap (λ (front : List MeterStatement). front ++ statements_of zone range facts (row ∷ [])) (told past stands (went.clean clean) recorded)
+      one.0 ∙ ap (λ (front : List MeterStatement). front ++ statements_of zone range facts (row ∷ [])) (reported past stands (went.clean clean) recorded)
       ∙ append_assoc before (statements_of zone range facts (take i rows)) (statements_of zone range facts (row ∷ []))
       ∙ ap (λ (back : List MeterStatement). before ++ back) (sym (ap (statements_of zone range facts) next ∙ stated_both facts (take i rows) (row ∷ [])))
 
@@ -415,8 +415,8 @@ module _ {B : Type 0} (ledger : B → Ledger) (zone : Zone) (range : DayRange) w
 
   pub all_stated : (a b : Office B) (rows : List Installation) (i : ℕ) (before after : List MeterStatement) → take i rows ≡ rows
       → Keeps ledger a b → AreStated a b rows before after i → States ledger zone range rows a b before after (Ok tt)
-  all_stated a b rows i before after is kept told = λ past stands clean recorded.
-      (told past stands clean recorded ∙ ap (λ (those : List Installation). before ++ statements_of zone range (facts_of past) those) is, kept.failures)
+  all_stated a b rows i before after is kept reported = λ past stands clean recorded.
+      (reported past stands clean recorded ∙ ap (λ (those : List Installation). before ++ statements_of zone range (facts_of past) those) is, kept.failures)
 
   -- ---- Installed meters are in the store's records
 
@@ -458,12 +458,12 @@ module _ {B : Type 0} (ledger : B → Ledger) (zone : Zone) (range : DayRange) w
 
   -- ---- The statements of all meters at a register
 
-  pub statements_told : (a b d : Office B) (register : Option (List ℕ)) (v : Vec Installation Global) (listed : List Installation) (rows : List MeterStatement)
+  pub statements_reported : (a b d : Office B) (register : Option (List ℕ)) (v : Vec Installation Global) (listed : List Installation) (rows : List MeterStatement)
       → listed ≡ v.items → OnlyAsks ledger a b (Ok v) → Keeps ledger b d
       → ListsAccepted ledger a b (Ok v) (λ facts. meters_named facts register)
       → States ledger zone range listed b d [] rows (Ok tt)
       → AnswersOf ledger a d (Ok rows) (λ facts. statements_in zone range facts register)
-  statements_told a b d register v listed rows same asks kept lists states = λ past stands clean.
+  statements_reported a b d register v listed rows same asks kept lists states = λ past stands clean.
       let facts = facts_of past in
       let known = lists past stands (kept.clean clean) in
       let is : meters_named facts register ≡ Some listed = known.0 ∙ ap Some (sym same) in
@@ -500,7 +500,7 @@ module _ {B : Type 0} (ledger : B → Ledger) (zone : Zone) (range : DayRange) w
 -- If the write of a statement succeeded, then the statement was printed completely. If the write
 -- failed, then the statement was printed in part.
 pub written_so : {E : Type 0} (written : Result (Unit {0}) E) (text : List ℕ) (meant status : ExitStatus) (old new : Option (List ℕ))
-    → status ≡ cond (is_ok written) meant Failed → GotText written text old new → IsTold text meant status old new
+    → status ≡ cond (is_ok written) meant Failed → GotText written text old new → IsReported text meant status old new
 written_so (Ok done) text meant status old new ends got = inl (ends, got)
 written_so (Err error) text meant status old new ends got = inr (ends, got)
 

@@ -1,3 +1,3 @@
 pub mod Written
-pub mod Told
+pub mod Reported
 pub mod Ranged

@@ -5,7 +5,7 @@ use Rattle.office_books.specs.Ledgers.{Ledger}
 use Rattle.office_core.specs.Leaving.{BooksStand}
 use Rattle.office_core.specs.declared.office.Office.{Office}
 use Rattle.office_http.specs.Connections.Connections.{ServesUpTo}
-use Rattle.office_program.specs.Texts.OpenedOffice.{TellsUnopened}
+use Rattle.office_program.specs.Texts.OpenedOffice.{ReportsUnopened}
 use Rattle.office_program.specs.Opened.{WithOffice}
 use Rattle.office_program.specs.declared.http_port.ServeEnd.{ServeEnd}
 use Rattle.office_program.specs.declared.http_port.ServeEnd.TheVariants.{Served, Unopened, NoPort, Broken}
@@ -40,12 +40,12 @@ pub record Serves {B : Type 0} (ledger : B → Ledger) (at : Port)
 
 -- True if the office was opened and served HTTP on the port. If the opening was refused, only the
 -- refusal was printed.
-abbrev pub TellsServing : {B : Type 0} → (B → Ledger) → (past : History) → Port
+abbrev pub ReportsServing : {B : Type 0} → (B → Ledger) → (past : History) → Port
     → (moments later : Option (List ℕ)) → (books back : B) → (had holds : Option (List ℕ))
     → ServeEnd → Type 0
-TellsServing ledger past at moments later books back had holds (Unopened status) =
-    TellsUnopened past moments later (ledger books) (ledger back) status had holds
-TellsServing ledger past at moments later books back had holds end =
+ReportsServing ledger past at moments later books back had holds (Unopened status) =
+    ReportsUnopened past moments later (ledger books) (ledger back) status had holds
+ReportsServing ledger past at moments later books back had holds end =
     WithOffice ledger past moments back (Serves ledger at later had holds end)
 
 -- The state before or after a command: the store, the clock as far as it is known, and the printed
@@ -59,11 +59,11 @@ pub record Scene (B : Type 0) : Type 0 where
 abbrev pub scene : {B : Type 0} → B → (moments written : Option (List ℕ)) → Scene B
 scene books moments written = record { books = books; moments = moments; written = written }
 
--- True if `TellsServing` holds for every history that the store records at the start. No wrong
+-- True if `ReportsServing` holds for every history that the store records at the start. No wrong
 -- result of the store may be used until the end.
 abbrev pub ServesBooks : {B : Type 0} → (B → Ledger) → Port → ServeEnd → (old new : Scene B)
     → Type 0
 ServesBooks ledger at end old new =
     (past : History) → BooksStand (ledger old.books) past → (ledger new.books).is_clean
-    → TellsServing ledger past at old.moments new.moments old.books new.books
+    → ReportsServing ledger past at old.moments new.moments old.books new.books
     old.written new.written end

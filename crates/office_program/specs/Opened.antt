@@ -31,7 +31,7 @@ pub record WithAsked {B : Type 0} (ledger : B → Ledger) (past : History)
   pub opened : Office B
   pub opens : OpensToAsk ledger past moments later opened
   pub left : Office B
-  pub does : Does (Opened (asking_moment past opens.told) ∷ past) opened left
+  pub does : Does (Opened (asking_moment past opens.reported) ∷ past) opened left
   pub handed : back ≡ books_in left
 
 -- True if `Holds` is true of every history that the store records at the start. No wrong result of

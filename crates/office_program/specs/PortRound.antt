@@ -12,7 +12,7 @@ use Rattle.office_core.specs.Taking.{failures_of}
 use Rattle.office_core.specs.declared.office.Office.{Office}
 use Rattle.office_rounds.specs.Rounds.{Wire, round_state, passage}
 use Rattle.office_rounds.specs.declared.fault.RoundFault.{RoundFault}
-use Rattle.office_program.specs.Texts.OpenedOffice.{TellsUnopened}
+use Rattle.office_program.specs.Texts.OpenedOffice.{ReportsUnopened}
 use Rattle.office_program.specs.Texts.Rounds.{PollsRound}
 use Rattle.office_program.specs.Opened.{OverStanding, WithOffice}
 use Rattle.office_program.specs.declared.port_round.PollEnd.{PollEnd}
@@ -56,18 +56,18 @@ PollsPortOf b c w device old new before after had holds end =
 
 -- True if the office was opened and the device was polled. If the opening was refused, only the
 -- refusal was printed.
-abbrev pub TellsPolling : {B : Type 0} → (B → Ledger) → (past : History) → (device : List ℕ)
+abbrev pub ReportsPolling : {B : Type 0} → (B → Ledger) → (past : History) → (device : List ℕ)
     → (moments later : Option (List ℕ)) → (books back : B) → (had holds : Option (List ℕ))
     → PollEnd → Type 0
-TellsPolling ledger past device moments later books back had holds (Unopened status) =
-    TellsUnopened past moments later (ledger books) (ledger back) status had holds
-TellsPolling ledger past device moments later books back had holds end =
+ReportsPolling ledger past device moments later books back had holds (Unopened status) =
+    ReportsUnopened past moments later (ledger books) (ledger back) status had holds
+ReportsPolling ledger past device moments later books back had holds end =
     WithOffice ledger past moments back (PollsPort ledger device later had holds end)
 
--- True if `TellsPolling` holds for every history that the store records, with the clock and the
+-- True if `ReportsPolling` holds for every history that the store records, with the clock and the
 -- writer before and after the command.
 abbrev pub PollsOver : {B C W : Type 0} → stores.Ghosts B → clocks.Ghosts C → writers.Ghosts W
     → (device : List ℕ) → (books back : B) → (before after : C) → (had holds : W) → PollEnd → Type 0
 PollsOver b c w device books back before after had holds end =
-    OverStanding b.ledger books back (λ past. TellsPolling b.ledger past device (c.moments before)
+    OverStanding b.ledger books back (λ past. ReportsPolling b.ledger past device (c.moments before)
     (c.moments after) books back (w.contents had) (w.contents holds) end)

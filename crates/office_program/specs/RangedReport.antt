@@ -12,9 +12,9 @@ use Rattle.office_books.specs.declared.books.Books as stores
 use Rattle.office_core.specs.Standing.{Stands, books_in}
 use Rattle.office_core.specs.Taking.{failures_of}
 use Rattle.office_core.specs.declared.office.Office.{Office}
-use Rattle.office_program.specs.Texts.AskedOffice.{TellsUnasked}
+use Rattle.office_program.specs.Texts.AskedOffice.{ReportsUnasked}
 use Rattle.office_program.specs.Texts.RangedReports.{RangePrints}
-use Rattle.office_program.specs.Texts.EndTexts.{TellsEnd}
+use Rattle.office_program.specs.Texts.EndTexts.{ReportsEnd}
 use Rattle.office_program.specs.Opened.{OverStanding, WithAsked}
 
 -- True if the register's days in the range were printed in the requested form, or the reason for a
@@ -22,25 +22,25 @@ use Rattle.office_program.specs.Opened.{OverStanding, WithAsked}
 pub record ReportsRange {B : Type 0} (ledger : B → Ledger) (register : Option (List ℕ))
     (form : ReportForm) (had holds : Option (List ℕ)) (status : ExitStatus) (following : History)
     (opened left : Office B) : Type 0 where
-  pub prints : TellsEnd (RangePrints (ledger (books_in opened)).zone following register form
+  pub prints : ReportsEnd (RangePrints (ledger (books_in opened)).zone following register form
       (failures_of ledger opened) (failures_of ledger left)) status had holds
   pub stands : Stands ledger following left
 
 -- True if the office was opened for queries and the report was printed. If the opening was refused,
 -- only the refusal was printed.
-abbrev pub TellsRange : {B : Type 0} → (B → Ledger) → (past : History) → (register : List ℕ)
+abbrev pub AnswersRange : {B : Type 0} → (B → Ledger) → (past : History) → (register : List ℕ)
     → ReportForm → (moments later : Option (List ℕ)) → (books back : B)
     → (had holds : Option (List ℕ)) → ExitStatus → Type 0
-TellsRange ledger past register form moments later books back had holds status =
-    TellsUnasked past moments later (ledger books) (ledger back) status had holds
+AnswersRange ledger past register form moments later books back had holds status =
+    ReportsUnasked past moments later (ledger books) (ledger back) status had holds
     ⊎ WithAsked ledger past moments later back
     (ReportsRange ledger (named register) form had holds status)
 
--- True if `TellsRange` holds for every history that the store records, with the clock and the
+-- True if `AnswersRange` holds for every history that the store records, with the clock and the
 -- writer before and after the command.
 abbrev pub RangeOver : {B C W : Type 0} → stores.Ghosts B → clocks.Ghosts C → writers.Ghosts W
     → (register : List ℕ) → ReportForm → (books back : B) → (before after : C) → (had holds : W)
     → ExitStatus → Type 0
 RangeOver b c w register form books back before after had holds end =
-    OverStanding b.ledger books back (λ past. TellsRange b.ledger past register form
+    OverStanding b.ledger books back (λ past. AnswersRange b.ledger past register form
     (c.moments before) (c.moments after) books back (w.contents had) (w.contents holds) end)

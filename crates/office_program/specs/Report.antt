@@ -11,33 +11,33 @@ use Rattle.office_books.specs.declared.books.Books as stores
 use Rattle.office_core.specs.Standing.{Stands, books_in}
 use Rattle.office_core.specs.Taking.{failures_of}
 use Rattle.office_core.specs.declared.office.Office.{Office}
-use Rattle.office_program.specs.Texts.AskedOffice.{TellsUnasked}
+use Rattle.office_program.specs.Texts.AskedOffice.{ReportsUnasked}
 use Rattle.office_program.specs.Texts.Reports.{ReportPrints}
-use Rattle.office_program.specs.Texts.EndTexts.{TellsEnd}
+use Rattle.office_program.specs.Texts.EndTexts.{ReportsEnd}
 use Rattle.office_program.specs.Opened.{OverStanding, WithAsked}
 
 -- True if all days of the register were printed, or the reason for a refusal was printed. The
 -- office was only queried.
 pub record Reports {B : Type 0} (ledger : B → Ledger) (register had holds : Option (List ℕ))
     (status : ExitStatus) (following : History) (opened left : Office B) : Type 0 where
-  pub prints : TellsEnd (ReportPrints (ledger (books_in opened)).zone following register
+  pub prints : ReportsEnd (ReportPrints (ledger (books_in opened)).zone following register
       (failures_of ledger opened) (failures_of ledger left)) status had holds
   pub stands : Stands ledger following left
 
 -- True if the office was opened for queries and the report was printed. If the opening was refused,
 -- only the refusal was printed.
-abbrev pub TellsReport : {B : Type 0} → (B → Ledger) → (past : History) → (register : List ℕ)
+abbrev pub ReportsReport : {B : Type 0} → (B → Ledger) → (past : History) → (register : List ℕ)
     → (moments later : Option (List ℕ)) → (books back : B) → (had holds : Option (List ℕ))
     → ExitStatus → Type 0
-TellsReport ledger past register moments later books back had holds status =
-    TellsUnasked past moments later (ledger books) (ledger back) status had holds
+ReportsReport ledger past register moments later books back had holds status =
+    ReportsUnasked past moments later (ledger books) (ledger back) status had holds
     ⊎ WithAsked ledger past moments later back (Reports ledger (named register) had holds status)
 
--- True if `TellsReport` holds for every history that the store records, with the clock and the
+-- True if `ReportsReport` holds for every history that the store records, with the clock and the
 -- writer before and after the command.
 abbrev pub ReportsOver : {B C W : Type 0} → stores.Ghosts B → clocks.Ghosts C → writers.Ghosts W
     → (register : List ℕ) → (books back : B) → (before after : C) → (had holds : W) → ExitStatus
     → Type 0
 ReportsOver b c w register books back before after had holds end =
-    OverStanding b.ledger books back (λ past. TellsReport b.ledger past register (c.moments before)
+    OverStanding b.ledger books back (λ past. ReportsReport b.ledger past register (c.moments before)
     (c.moments after) books back (w.contents had) (w.contents holds) end)

@@ -13,8 +13,8 @@ use Rattle.office_books.specs.declared.books.Books as stores
 use Rattle.office_core.specs.Standing.{Stands}
 use Rattle.office_core.specs.Taking.{failures_of}
 use Rattle.office_core.specs.declared.office.Office.{Office}
-use Rattle.office_program.specs.Texts.AskedOffice.{TellsUnasked}
-use Rattle.office_program.specs.Texts.EndTexts.{TellsEnd}
+use Rattle.office_program.specs.Texts.AskedOffice.{ReportsUnasked}
+use Rattle.office_program.specs.Texts.EndTexts.{ReportsEnd}
 use Rattle.office_program.specs.Texts.Statements.{StatementPrints}
 use Rattle.office_program.specs.Opened.{OverStanding, WithAsked}
 
@@ -23,25 +23,25 @@ use Rattle.office_program.specs.Opened.{OverStanding, WithAsked}
 pub record StatesMeters {B : Type 0} (ledger : B → Ledger) (zone : Zone)
     (register : Option (List ℕ)) (form : StatementForm) (had holds : Option (List ℕ))
     (status : ExitStatus) (following : History) (opened left : Office B) : Type 0 where
-  pub prints : TellsEnd (StatementPrints zone following register form
+  pub prints : ReportsEnd (StatementPrints zone following register form
       (failures_of ledger opened) (failures_of ledger left)) status had holds
   pub stands : Stands ledger following left
 
 -- True if the office was opened for queries and the statements were printed, in the time zone of
 -- the store. If the opening was refused, only the refusal was printed.
-abbrev pub TellsStatement : {B : Type 0} → (B → Ledger) → (past : History) → (register : List ℕ)
+abbrev pub ReportsStatement : {B : Type 0} → (B → Ledger) → (past : History) → (register : List ℕ)
     → StatementForm → (moments later : Option (List ℕ)) → (books back : B)
     → (had holds : Option (List ℕ)) → ExitStatus → Type 0
-TellsStatement ledger past register form moments later books back had holds status =
-    TellsUnasked past moments later (ledger books) (ledger back) status had holds
+ReportsStatement ledger past register form moments later books back had holds status =
+    ReportsUnasked past moments later (ledger books) (ledger back) status had holds
     ⊎ WithAsked ledger past moments later back
     (StatesMeters ledger (ledger books).zone (named register) form had holds status)
 
--- True if `TellsStatement` holds for every history that the store records, with the clock and the
+-- True if `ReportsStatement` holds for every history that the store records, with the clock and the
 -- writer before and after the command.
 abbrev pub StatementOver : {B C W : Type 0} → stores.Ghosts B → clocks.Ghosts C → writers.Ghosts W
     → (register : List ℕ) → StatementForm → (books back : B) → (before after : C) → (had holds : W)
     → ExitStatus → Type 0
 StatementOver b c w register form books back before after had holds end =
-    OverStanding b.ledger books back (λ past. TellsStatement b.ledger past register form
+    OverStanding b.ledger books back (λ past. ReportsStatement b.ledger past register form
     (c.moments before) (c.moments after) books back (w.contents had) (w.contents holds) end)

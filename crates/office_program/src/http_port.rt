@@ -75,7 +75,7 @@ pub fn serve_books<R: Net + std::rt::Clock, B: Books, C: Clock, W: Write>(
     clock: &mut C,
     output: &mut W,
 ) -> CommandEnd<B, ServeEnd>
-    ensures tells { ServesBooks B.ledger (port (texts names.now) connections) result.end
+    ensures reports { ServesBooks B.ledger (port (texts names.now) connections) result.end
         (scene books (C.moments clock.old) (W.contents output.old))
         (scene result.books (C.moments clock.new) (W.contents output.new)) }
     ensures lasts { Lasts (B.ledger books) (B.ledger result.books) }

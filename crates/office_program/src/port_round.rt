@@ -78,7 +78,7 @@ pub fn poll_books<R: Net, B: Books, C: Clock, W: Write>(
     clock: &mut C,
     output: &mut W,
 ) -> CommandEnd<B, PollEnd>
-    ensures tells { PollsOver B.Books C.Clock W.Write device.now books result.books
+    ensures reports { PollsOver B.Books C.Clock W.Write device.now books result.books
         clock.old clock.new output.old output.new result.end }
     ensures lasts { Lasts (B.ledger books) (B.ledger result.books) }
 {

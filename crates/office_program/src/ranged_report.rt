@@ -29,7 +29,7 @@ pub fn report_range_books<B: Books, C: Clock, W: Write>(
     clock: &mut C,
     output: &mut W,
 ) -> CommandEnd<B, ExitStatus>
-    ensures tells { RangeOver B.Books C.Clock W.Write register.now form.now books result.books
+    ensures reports { RangeOver B.Books C.Clock W.Write register.now form.now books result.books
         clock.old clock.new output.old output.new result.end }
     ensures lasts { Lasts (B.ledger books) (B.ledger result.books) }
 {

@@ -26,7 +26,7 @@ pub fn report_books<B: Books, C: Clock, W: Write>(
     clock: &mut C,
     output: &mut W,
 ) -> CommandEnd<B, ExitStatus>
-    ensures tells { ReportsOver B.Books C.Clock W.Write register.now books result.books
+    ensures reports { ReportsOver B.Books C.Clock W.Write register.now books result.books
         clock.old clock.new output.old output.new result.end }
     ensures lasts { Lasts (B.ledger books) (B.ledger result.books) }
 {

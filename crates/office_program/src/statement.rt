@@ -27,7 +27,7 @@ pub fn statement_books<B: Books, C: Clock, W: Write>(
     clock: &mut C,
     output: &mut W,
 ) -> CommandEnd<B, ExitStatus>
-    ensures tells { StatementOver B.Books C.Clock W.Write register.now form.now books result.books
+    ensures reports { StatementOver B.Books C.Clock W.Write register.now form.now books result.books
         clock.old clock.new output.old output.new result.end }
     ensures lasts { Lasts (B.ledger books) (B.ledger result.books) }
 {

@@ -101,23 +101,23 @@ absent_by history at given c why slot (Some before) is on_time within found refu
 gone_or_absent : (history : History) (at : ℕ) (given : Option (List ℕ)) (c : Closing) (refused : Option Refusal) (reply : Result Answer Refusal)
     → refusal_of history at (event.Gone given c) ≡ refused → nat_lt at (latest_of history) ≡ false → nat_lt moment_limit at ≡ false
     → reply ≡ unless_refused answer.Noted refused → NoneWaits given (with_answer history at (event.Gone given c) reply)
-gone_or_absent history at given c None reply is on_time within told =
-    rw told (none_waits given (Fed at (event.Gone given c) ∷ history) (left_slots (next_poll (facts_of history)) at [] given c (slots_of history)))
-gone_or_absent history at given c (Some why) reply is on_time within told =
-    rw told (none_waits given history (λ slot found. absent_by history at given c why slot slot.present refl on_time within found is))
+gone_or_absent history at given c None reply is on_time within reported =
+    rw reported (none_waits given (Fed at (event.Gone given c) ∷ history) (left_slots (next_poll (facts_of history)) at [] given c (slots_of history)))
+gone_or_absent history at given c (Some why) reply is on_time within reported =
+    rw reported (none_waits given history (λ slot found. absent_by history at given c why slot slot.present refl on_time within found is))
 
 -- After a timely event that a device is gone, none of the device's polls is pending, unless the
 -- store or memory failed.
 pub gone : (history : History) (at : ℕ) (given : Option (List ℕ)) (c : Closing) (before after : Failures) (reply : Result Answer Refusal)
     → nat_lt at (latest_of history) ≡ false → nat_lt moment_limit at ≡ false → IsAnswer history at (event.Gone given c) before after reply
     → NoneWaits given (with_answer history at (event.Gone given c) reply) ⊎ FailsOutside (IsAccepted history at (event.Gone given c)) before after reply
-gone history at given c before after reply on_time within (inl told) =
-    inl (gone_or_absent history at given c (refusal_of history at (event.Gone given c)) reply refl on_time within told.0)
+gone history at given c before after reply on_time within (inl reported) =
+    inl (gone_or_absent history at given c (refusal_of history at (event.Gone given c)) reply refl on_time within reported.0)
 gone history at given c before after reply on_time within (inr fails) = inr fails
 
 -- If the event that a device is gone is accepted, then none of the device's polls is pending.
-pub gone_accepted : (history : History) (at : ℕ) (given : Option (List ℕ)) (c : Closing) (before after : Failures) (told : Answer)
-    → with_answer history at (event.Gone given c) (Ok told) ≡ Fed at (event.Gone given c) ∷ history
-    → NoneWaits given (with_answer history at (event.Gone given c) (Ok told))
-gone_accepted history at given c before after told is =
+pub gone_accepted : (history : History) (at : ℕ) (given : Option (List ℕ)) (c : Closing) (before after : Failures) (reported : Answer)
+    → with_answer history at (event.Gone given c) (Ok reported) ≡ Fed at (event.Gone given c) ∷ history
+    → NoneWaits given (with_answer history at (event.Gone given c) (Ok reported))
+gone_accepted history at given c before after reported is =
     rw is (none_waits given (Fed at (event.Gone given c) ∷ history) (left_slots (next_poll (facts_of history)) at [] given c (slots_of history)))

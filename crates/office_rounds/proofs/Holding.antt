@@ -50,11 +50,11 @@ use Rattle.office_rounds.specs.declared.device_rounds.stage.Stage.TheVariants.{O
 use Rattle.office_rounds.proofs.Beyond.{none_beyond, once_ended}
 use Rattle.office_rounds.proofs.Goings.{fed_one}
 use Rattle.office_rounds.proofs.Nexts.{start_next}
-use Rattle.office_rounds.proofs.Numbers.{all_pass, counts_from, fewer_open, from_both, left_open, length_from, told_from}
+use Rattle.office_rounds.proofs.Numbers.{all_pass, counts_from, fewer_open, from_both, left_open, length_from, reported_from}
 use Rattle.office_rounds.proofs.OnSession.{after_start, few_open, few_wait, found_after, on_connection, on_piece, on_tick, started_on}
 use Rattle.office_rounds.proofs.Starts.{can_be_started, ends_kept, few_sent, narrow_found, polls_more, reads_left, sends_fit, sent_from, some_sent}
 use Rattle.office_rounds.proofs.Timely.{connected_noted}
-use Rattle.office_rounds.proofs.Told.{ends_settled, told, waits_told}
+use Rattle.office_rounds.proofs.Reported.{ends_settled, reported, waits_reported}
 
 -- The theorems on accepted events and on sessions that the proof on polling rounds uses.
 pub record Laws : Type 0 where
@@ -154,11 +154,11 @@ quiet_note first (note.Held meter raw cause) h = refl
 
 -- If no outcome is reported past the round's last poll, then the reported outcomes from its first
 -- poll on belong to its started polls.
-ends_told : (first : Option ℕ) (number started : ℕ) (notes : List Note) → IsFirst first number started
-    → ((n : ℕ) → number + started ≤ n → told n notes ≡ 0) → count_by (is_ending first) notes ≡ told_from number started notes
-ends_told None number started notes is beyond =
-    sym (length-filter (is_ending None) notes) ∙ none_ends notes ∙ sym (ap (λ n. told_from number n notes) is)
-ends_told (Some first) number started notes is beyond =
+ends_reported : (first : Option ℕ) (number started : ℕ) (notes : List Note) → IsFirst first number started
+    → ((n : ℕ) → number + started ≤ n → reported n notes ≡ 0) → count_by (is_ending first) notes ≡ reported_from number started notes
+ends_reported None number started notes is beyond =
+    sym (length-filter (is_ending None) notes) ∙ none_ends notes ∙ sym (ap (λ n. reported_from number n notes) is)
+ends_reported (Some first) number started notes is beyond =
     sym (length-filter (is_ending (Some first)) notes)
     ∙ ap (λ n. length (filter (is_ending (Some n)) notes)) is
     ∙ counts_from number started (is_ending (Some number)) notes (λ p o. refl) (λ one h. quiet_note number one h) beyond
@@ -173,20 +173,20 @@ pub record Settles (history : History) (at : ℕ) (e : Event) : Type 0 where
   pub following : (next : Next) → next_by e next ≡ next
 
 record IsSettledBy (number started before : ℕ) (history : History) (at : ℕ) (e : Event) : Type 0 where
-  beyond : (n : ℕ) → number + started ≤ n → told n (notes_after history at e (Ok answer.Noted)) ≡ 0
+  beyond : (n : ℕ) → number + started ≤ n → reported n (notes_after history at e (Ok answer.Noted)) ≡ 0
   polls : next_poll (facts_of (Fed at e ∷ history)) ≡ next_poll (facts_of history)
   left : filter (waits (notes_after history at e (Ok answer.Noted))) (filter (is_open (facts_of history)) (from_on number started))
       ≡ filter (is_open (facts_of (Fed at e ∷ history))) (from_on number started)
   fewer : before
       ≡ length (filter (is_open (facts_of (Fed at e ∷ history))) (from_on number started))
-      + told_from number started (notes_after history at e (Ok answer.Noted))
+      + reported_from number started (notes_after history at e (Ok answer.Noted))
 
 ends_more : (history : History) (at : ℕ) (e : Event) → Settles history at e → (n : ℕ)
-    → length (ends_of (facts_of (Fed at e ∷ history)) n) ≡ told n (notes_after history at e (Ok answer.Noted)) + length (ends_of (facts_of history) n)
+    → length (ends_of (facts_of (Fed at e ∷ history)) n) ≡ reported n (notes_after history at e (Ok answer.Noted)) + length (ends_of (facts_of history) n)
 ends_more history at e settles n =
     ap (λ (fs : List Fact). length (ends_of fs n)) settles.facts
     ∙ ends_settled n (next_poll (facts_of history)) at e (slots_of history) (facts_of history)
-    ∙ ap (λ ns. told n ns + length (ends_of (facts_of history) n)) (sym settles.notes)
+    ∙ ap (λ ns. reported n ns + length (ends_of (facts_of history) n)) (sym settles.notes)
 
 is_settled_by : (laws : Laws) (number started : ℕ) (history : History) (at : ℕ) (e : Event) → AreAccepted (Fed at e ∷ history) → Settles history at e
     → number + started ≡ next_poll (facts_of history)
@@ -205,7 +205,7 @@ is_settled_by laws number started history at e accepted settles last =
           let none = none_beyond after (laws.fit (Fed at e ∷ history) accepted) once.numbered n (omega (arith, same, past, last)) in
           omega (arith, here, none);
       polls = ap (λ n. n + 1) same;
-      left = left_open (λ n. length (ends_of (facts_of history) n)) (λ n. length (ends_of after n)) (waits notes) notes more (λ n. waits_told notes n) (from_on number started);
+      left = left_open (λ n. length (ends_of (facts_of history) n)) (λ n. length (ends_of after n)) (waits notes) notes more (λ n. waits_reported notes n) (from_on number started);
       fewer = fewer_open (λ n. length (ends_of (facts_of history) n)) (λ n. length (ends_of after n)) notes more (once_ended (Fed at e ∷ history) once) number started;
     }
 
@@ -225,7 +225,7 @@ settled_round laws device past fed at e polls started planned sum way accepted s
     let by = is_settled_by laws way.number s history at e accepted settles way.last in
     let left_is : left ≡ filter (is_open (facts_of (Fed at e ∷ history))) (from_on way.number s) =
     ap (filter (waits notes)) way.polls ∙ by.left in
-    let endings : endings_of past fed one ≡ told_from way.number s notes = ends_told (first_poll fed) way.number s notes way.first by.beyond in
+    let endings : endings_of past fed one ≡ reported_from way.number s notes = ends_reported (first_poll fed) way.number s notes way.first by.beyond in
     let count : length polls ≡ length left + endings_of past fed one =
     (let had = ap length way.polls in let has = ap length left_is in let more = by.fewer in omega (arith, had, has, more, endings)) in
     let more_ended : polls_ended past (one ∷ fed) + length left ≡ s = (let so = way.ended in omega (arith, so, count)) in
@@ -267,9 +267,9 @@ all_wait : (polls : List ℕ) → filter (waits []) polls ≡ polls
 all_wait [] = refl
 all_wait (poll ∷ polls) = ap (λ ps. poll ∷ ps) (all_wait polls)
 
-given_by : (refused : Option Refusal) (told given : Answer) → Ok given ≡ unless_refused told refused → given ≡ told
-given_by None told given h = cc
-given_by (Some why) told given h = absurd (cc)
+given_by : (refused : Option Refusal) (reported given : Answer) → Ok given ≡ unless_refused reported refused → given ≡ reported
+given_by None reported given h = cc
+given_by (Some why) reported given h = absurd (cc)
 
 -- If a device is connected, then the device has a slot in the office.
 slot_there : (o : Option Slot) → is_none o ≡ false → (slot : Slot) × (o ≡ Some slot)
@@ -434,7 +434,7 @@ start_given : (history : History) (at : ℕ) (device : Option (List ℕ)) (from 
     → IsAnswer history at (start_from device from) before after (Ok given)
     → let c = command.StartRound (record { device = device; from = from }) in
     given ≡ answer.Started (next_poll (facts_of history)) (sent_count (slots_of history) (facts_of history) at c) (reads_in_all (facts_of history) c)
-start_given history at device from before after given (inl told) = given_by (refusal_of history at (start_from device from)) _ given told.0
+start_given history at device from before after given (inl reported) = given_by (refusal_of history at (start_from device from)) _ given reported.0
 start_given history at device from before after given (inr fails) = absurd fails
 
 started_round : (laws : Laws) (device : Option (List ℕ)) (past : History) (fed : List Answered) (at : ℕ) (before after : Failures) (given : Answer) (polls : List ℕ)
@@ -444,27 +444,27 @@ started_round : (laws : Laws) (device : Option (List ℕ)) (past : History) (fed
     → Holds device past (fed_one at (start_from device started) (Ok given) ∷ fed)
     (round_after (start_from device started) given (notes_after (history_with past fed) at (start_from device started) (Ok given))
     (round_at device Starting polls started planned sum))
-started_round laws device past fed at before after given polls started planned sum way told is_past =
+started_round laws device past fed at before after given polls started planned sum way reported is_past =
     let history = history_with past fed in
     let P : Answer → Type 0 = λ a.
     Holds device past (fed_one at (start_from device started) (Ok a) ∷ fed)
     (round_after (start_from device started) a (notes_after history at (start_from device started) (Ok a)) (round_at device Starting polls started planned sum)) in
-    subst P (sym (start_given history at device started before after given told))
+    subst P (sym (start_given history at device started before after given reported))
     (started_as laws device past fed at polls started planned sum way is_past.accepted
     (record { accepted = is_past.accepted.1; planned = is_past.planned.1 }))
 
 -- If an event from the link is accepted, then its answer is `Noted`.
 pub noted_by : (history : History) (at : ℕ) (device : Option (List ℕ)) (e : Event) (before after : Failures) (given : Answer) → IsTaken device e
     → IsAnswer history at e before after (Ok given) → given ≡ answer.Noted
-noted_by history at device (event.Connected d) before after given taken told = absurd taken
-noted_by history at device (event.Bytes d piece) before after given taken (inl told) = given_by (refusal_of history at (event.Bytes d piece)) answer.Noted given told.0
+noted_by history at device (event.Connected d) before after given taken reported = absurd taken
+noted_by history at device (event.Bytes d piece) before after given taken (inl reported) = given_by (refusal_of history at (event.Bytes d piece)) answer.Noted given reported.0
 noted_by history at device (event.Bytes d piece) before after given taken (inr fails) = absurd fails
-noted_by history at device event.Tick before after given taken (inl told) = given_by (refusal_of history at event.Tick) answer.Noted given told.0
+noted_by history at device event.Tick before after given taken (inl reported) = given_by (refusal_of history at event.Tick) answer.Noted given reported.0
 noted_by history at device event.Tick before after given taken (inr fails) = absurd fails
-noted_by history at device (event.Gone d cause) before after given taken (inl told) = given_by (refusal_of history at (event.Gone d cause)) answer.Noted given told.0
+noted_by history at device (event.Gone d cause) before after given taken (inl reported) = given_by (refusal_of history at (event.Gone d cause)) answer.Noted given reported.0
 noted_by history at device (event.Gone d cause) before after given taken (inr fails) = absurd fails
-noted_by history at device (event.Command c) before after given taken told = absurd taken
-noted_by history at device (event.Asked asked) before after given taken told = absurd taken
+noted_by history at device (event.Command c) before after given taken reported = absurd taken
+noted_by history at device (event.Asked asked) before after given taken reported = absurd taken
 
 -- The state of a polling round after an event that the office accepted with the answer `given`.
 abbrev HoldsAfter : (device : Option (List ℕ)) → History → List Answered → (at : ℕ) → Event → Round → Answer → Type 0
@@ -492,33 +492,33 @@ taken_round laws device past fed at (event.Asked asked) polls started planned su
 
 connected_given : (history : History) (at : ℕ) (device : Option (List ℕ)) (e : Event) (before after : Failures) (given : Answer) → e ≡ event.Connected device
     → IsAnswer history at e before after (Ok given) → given ≡ answer.Noted
-connected_given history at device e before after given is told =
-    connected_noted history at device before after given (subst (λ x. IsAnswer history at x before after (Ok given)) is told)
+connected_given history at device e before after given is reported =
+    connected_noted history at device before after given (subst (λ x. IsAnswer history at x before after (Ok given)) is reported)
 
 by_stage : (laws : Laws) (device : Option (List ℕ)) (past : History) (fed : List Answered) (at : ℕ) (e : Event) (before after : Failures) (given : Answer)
     (stage : Stage) (polls : List ℕ) (started planned : ℕ) (sum : Sum) → StandsAt stage device past fed (round_at device stage polls started planned sum)
     → Does device (next_at stage started) e → IsAnswer (history_with past fed) at e before after (Ok given)
     → IsPast (Fed at e ∷ history_with past fed) → HoldsAfter device past fed at e (round_at device stage polls started planned sum) given
-by_stage laws device past fed at e before after given Off polls started planned sum stands does told is_past = absurd does
-by_stage laws device past fed at e before after given Joining polls started planned sum stands does told is_past =
+by_stage laws device past fed at e before after given Off polls started planned sum stands does reported is_past = absurd does
+by_stage laws device past fed at e before after given Joining polls started planned sum stands does reported is_past =
     let P : Event → List Answered → Answer → Type 0 = λ x xs a. HoldsAfter device past xs at x (round_at device Joining polls started planned sum) a in
-    let noted : given ≡ answer.Noted = connected_given (history_with past fed) at device e before after given does told in
+    let noted : given ≡ answer.Noted = connected_given (history_with past fed) at device e before after given does reported in
     let accepted : AreAccepted (Fed at (event.Connected device) ∷ past) =
     subst (λ x. AreAccepted (Fed at x ∷ past)) does (subst (λ xs. AreAccepted (Fed at e ∷ history_with past xs)) stands.none is_past.accepted) in
     subst (λ x. P x fed given) (sym does)
     (subst (λ xs. P (event.Connected device) xs given) (sym stands.none)
     (subst (λ a. P (event.Connected device) [] a) (sym noted)
     (connected_round device past at polls started planned sum stands.polls stands.started stands.planned accepted)))
-by_stage laws device past fed at e before after given Starting polls started planned sum stands does told is_past =
+by_stage laws device past fed at e before after given Starting polls started planned sum stands does reported is_past =
     let history = history_with past fed in
     subst (λ x. HoldsAfter device past fed at x (round_at device Starting polls started planned sum) given) (sym does)
     (started_round laws device past fed at before after given polls started planned sum stands
-    (subst (λ x. IsAnswer history at x before after (Ok given)) does told) (subst (λ x. IsPast (Fed at x ∷ history)) does is_past))
-by_stage laws device past fed at e before after given Waiting polls started planned sum stands does told is_past =
+    (subst (λ x. IsAnswer history at x before after (Ok given)) does reported) (subst (λ x. IsPast (Fed at x ∷ history)) does is_past))
+by_stage laws device past fed at e before after given Waiting polls started planned sum stands does reported is_past =
     subst (HoldsAfter device past fed at e (round_at device Waiting polls started planned sum))
-    (sym (noted_by (history_with past fed) at device e before after given does told))
+    (sym (noted_by (history_with past fed) at device e before after given does reported))
     (taken_round laws device past fed at e polls started planned sum stands does is_past.accepted)
-by_stage laws device past fed at e before after given (Leaving cause) polls started planned sum stands does told is_past =
+by_stage laws device past fed at e before after given (Leaving cause) polls started planned sum stands does reported is_past =
     subst (λ x. HoldsAfter device past fed at x (round_at device (Leaving cause) polls started planned sum) given) (sym does)
     (record { device_is = refl; next = refl; stands = tt })
 
@@ -527,9 +527,9 @@ pub holds_on : (laws : Laws) (device : Option (List ℕ)) (past : History) (fed 
     (given : Answer) → Holds device past fed round → Does device (next_in past fed) e
     → IsAnswer (history_with past fed) at e before after (Ok given) → IsPast (Fed at e ∷ history_with past fed)
     → HoldsAfter device past fed at e round given
-holds_on laws device past fed round at e before after given holds does told is_past =
+holds_on laws device past fed round at e before after given holds does reported is_past =
     let P : Option (List ℕ) → Type 0 = λ d.
     StandsAt round.stage d past fed round → Does d (next_of round) e → HoldsAfter d past fed at e round given in
     subst P holds.device_is
-    (λ stands so. by_stage laws round.device past fed at e before after given round.stage round.polls.items round.started round.planned round.sum stands so told is_past)
+    (λ stands so. by_stage laws round.device past fed at e before after given round.stage round.polls.items round.started round.planned round.sum stands so reported is_past)
     holds.stands (subst (λ n. Does device n e) holds.next does)

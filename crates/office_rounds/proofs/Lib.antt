@@ -3,7 +3,7 @@ pub mod Absent
 pub mod Timely
 pub mod Wires
 pub mod Nexts
-pub mod Told
+pub mod Reported
 pub mod Numbers
 pub mod Beyond
 pub mod Starts

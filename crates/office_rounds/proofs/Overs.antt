@@ -53,10 +53,10 @@ of_this device given c Over h = absurd h
 
 gone_so : (device given : Option (List ℕ)) (c : Closing) (past : History) (at : ℕ) (e : Event) (reply : Result Answer Refusal) (before after : Failures)
     → e ≡ event.Gone given c → given ≡ device → IsOk reply → IsAnswer past at e before after reply → NoneWaits device (with_answer past at e reply)
-gone_so device given c past at e (Err why) before after is same ok told = absurd (cc)
-gone_so device given c past at e (Ok answer) before after is same ok told =
+gone_so device given c past at e (Err why) before after is same ok reported = absurd (cc)
+gone_so device given c past at e (Ok answer) before after is same ok reported =
     let P : Event → Type 0 = λ x. IsAnswer past at x before after (Ok answer) in
-    let mine = subst P is told in
+    let mine = subst P is reported in
     let Q : Event → Type 0 = λ x. NoneWaits device (with_answer past at x (Ok answer)) in
     let R : Option (List ℕ) → Type 0 = λ d. NoneWaits d (with_answer past at (event.Gone given c) (Ok answer)) in
     subst Q (sym is)
@@ -65,12 +65,12 @@ gone_so device given c past at e (Ok answer) before after is same ok told =
 -- After a polling round is over, none of its device's polls is pending.
 pub over_settled : (device : Option (List ℕ)) (past : History) (fed : List Answered) (before after : Failures) → next_in past fed ≡ Over
     → AreNext device past fed → AreAnswered past before after fed → NoneWaits device (history_with past fed)
-over_settled device past [] before after over next told = absurd (cc)
-over_settled device past (one ∷ earlier) before after over next told =
+over_settled device past [] before after over next reported = absurd (cc)
+over_settled device past (one ∷ earlier) before after over next reported =
     let gone = over_by one.event (endings_of past earlier one) (reads_started (one ∷ earlier)) (polls_ended past (one ∷ earlier)) (reads_planned (one ∷ earlier)) over in
     let P : Event → Type 0 = λ e. Does device (next_in past earlier) e in
-    gone_so device gone.given gone.cause (history_with past earlier) one.at one.event one.result told.0 after gone.is
-    (of_this device gone.given gone.cause (next_in past earlier) (subst P gone.is next.1)) next.2 told.2
+    gone_so device gone.given gone.cause (history_with past earlier) one.at one.event one.result reported.0 after gone.is
+    (of_this device gone.given gone.cause (next_in past earlier) (subst P gone.is next.1)) next.2 reported.2
 
 pub is_round : {B : Type 0} (ledger : B → Ledger) (device : Option (List ℕ)) (past : History) (begun now : RoundState) (from to : Wire) (office : Office B)
     (fed : List Answered) (round : Progress) → Going ledger device past begun now office fed round
@@ -94,7 +94,7 @@ pub is_broken_off : {B : Type 0} (ledger : B → Ledger) (device : Option (List 
     → Closes ledger device past begun now office earlier cause fault → IsBrokenOff ledger device past (passage begun now from to) office fault
 is_broken_off ledger device past begun was now from to before office earlier round cause fault broken wired closes = record {
   cause = cause;
-  told = closes.told;
+  reported = closes.reported;
   earlier = earlier;
   course = broken.course;
   gone = closes.gone;

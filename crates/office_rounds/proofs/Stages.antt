@@ -71,24 +71,24 @@ pub wired_sent : (past : History) (from mid to : Wire) (fed : List Answered) (on
     → Consumes from.remaining mid.remaining (pieces_after fed ++ piece_in e) → Appends from.given mid.given (frames_after past fed) → one.event ≡ e
     → frames ≡ outgoing_after (history_with past fed) one.at one.event one.result → Keeps mid.remaining to.remaining
     → Appends mid.given to.given frames → IsWired {X = Unit {0}} past from to (one ∷ fed) (Ok tt)
-wired_sent past from mid to fed one e frames taken had is told kept given = record {
+wired_sent past from mid to fed one e frames taken had is reported kept given = record {
   taken =
       let P : Event → Type 0 = λ x. Consumes from.remaining to.remaining (pieces_after fed ++ piece_in x) in
       subst P (sym is) (Consumes-kept from.remaining mid.remaining to.remaining (pieces_after fed ++ piece_in e) taken kept);
-  given = Appends-trans from.given mid.given to.given (frames_after past fed) _ had (subst (Appends mid.given to.given) told given);
+  given = Appends-trans from.given mid.given to.given (frames_after past fed) _ had (subst (Appends mid.given to.given) reported given);
 }
 
 pub wired_unsent : (past : History) (from mid to : Wire) (fed : List Answered) (one : Answered) (e : Event) (frames : List ℕ)
     → Consumes from.remaining mid.remaining (pieces_after fed ++ piece_in e) → Appends from.given mid.given (frames_after past fed) → one.event ≡ e
     → frames ≡ outgoing_after (history_with past fed) one.at one.event one.result → Keeps mid.remaining to.remaining
     → GotPart frames mid.given to.given → IsWired {X = Unit {0}} past from to (one ∷ fed) (Err Link)
-wired_unsent past from mid to fed one e frames taken had is told kept given = record {
+wired_unsent past from mid to fed one e frames taken had is reported kept given = record {
   taken =
       let P : Event → Type 0 = λ x. Consumes from.remaining to.remaining (pieces_after fed ++ piece_in x) in
       subst P (sym is) (Consumes-kept from.remaining mid.remaining to.remaining (pieces_after fed ++ piece_in e) taken kept);
   given =
       let P : List ℕ → Type 0 = λ x. GotPart x mid.given to.given in
-      part_more from.given mid.given to.given (frames_after past fed) _ had (subst P told given);
+      part_more from.given mid.given to.given (frames_after past fed) _ had (subst P reported given);
 }
 
 pub does_take : (device same : Option (List ℕ)) (next : Next) (e : Event) → next ≡ Take → same ≡ device → IsTaken same e → Does device next e
@@ -169,8 +169,8 @@ over_by Over (Leaving cause) started anew is = absurd (cc)
 
 pub over_as : (device : Option (List ℕ)) (past : History) (fed : List Answered) (round : Round) (now : Next) (over : Bool) → Holds device past fed round
     → next_in past fed ≡ settled now → (now ≡ Connect → ⊥) → over ≡ is_over round.stage → next_in past fed ≡ over_or_take over
-over_as device past fed round now over holds is anew told =
-    holds.next ∙ over_by now round.stage round.started anew (sym is ∙ holds.next) ∙ ap over_or_take (sym told)
+over_as device past fed round now over holds is anew reported =
+    holds.next ∙ over_by now round.stage round.started anew (sym is ∙ holds.next) ∙ ap over_or_take (sym reported)
 
 pub nothing_left : (fed : List Answered) (e : Event) (from to : Wire) → piece_in e ≡ [] → Consumes from.remaining to.remaining (pieces_after fed)
     → Consumes from.remaining to.remaining (pieces_after fed ++ piece_in e)
@@ -232,15 +232,15 @@ pub sent : {B : Type 0} (ledger : B → Ledger) (device : Option (List ℕ)) (pa
     → outgoing_in office ≡ outgoing_after (history_with past fed) one.at one.event one.result → frames ≡ outgoing_in office
     → Keeps mid.remaining to.remaining → AreGiven result frames mid.given to.given → OnlyLink result
     → Steps ledger device past begun now from to office (one ∷ fed) progress result (λ done. next_in past (one ∷ fed))
-sent ledger device past begun from mid to now office fed one progress e (Ok x) frames taken had is going told are kept given only =
-    (going, wired_sent past from mid to fed one e frames taken had is (are ∙ told) kept given, refl)
-sent ledger device past begun from mid to now office fed one progress e (Err (Refused why)) frames taken had is going told are kept given only = absurd only
-sent ledger device past begun from mid to now office fed one progress e (Err Link) frames taken had is going told are kept given only = (
+sent ledger device past begun from mid to now office fed one progress e (Ok x) frames taken had is going reported are kept given only =
+    (going, wired_sent past from mid to fed one e frames taken had is (are ∙ reported) kept given, refl)
+sent ledger device past begun from mid to now office fed one progress e (Err (Refused why)) frames taken had is going reported are kept given only = absurd only
+sent ledger device past begun from mid to now office fed one progress e (Err Link) frames taken had is going reported are kept given only = (
   broken ledger device past begun now office (one ∷ fed) progress Link going going.next going.printed,
-  wired_unsent past from mid to fed one e frames taken had is (are ∙ told) kept given,
+  wired_unsent past from mid to fed one e frames taken had is (are ∙ reported) kept given,
 )
-sent ledger device past begun from mid to now office fed one progress e (Err Output) frames taken had is going told are kept given only = absurd only
-sent ledger device past begun from mid to now office fed one progress e (Err TurnsUsed) frames taken had is going told are kept given only = absurd only
+sent ledger device past begun from mid to now office fed one progress e (Err Output) frames taken had is going reported are kept given only = absurd only
+sent ledger device past begun from mid to now office fed one progress e (Err TurnsUsed) frames taken had is going reported are kept given only = absurd only
 
 -- If `Steps` holds for a next action, then it also holds for an equal next action.
 pub next_as : {B X : Type 0} (ledger : B → Ledger) (device : Option (List ℕ)) (past : History) (begun now : RoundState) (from to : Wire) (office : Office B)

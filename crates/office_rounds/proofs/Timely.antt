@@ -88,9 +88,9 @@ of_round device Leave e h = subst IsOfRound (sym h) tt
 of_round device Take e h = taken_of_round device e h
 of_round device Over e h = absurd h
 
-given_is : (refused : Option Refusal) (told given : Answer) → Ok given ≡ unless_refused told refused → given ≡ told
-given_is None told given h = cc
-given_is (Some why) told given h = absurd (cc)
+given_is : (refused : Option Refusal) (reported given : Answer) → Ok given ≡ unless_refused reported refused → given ≡ reported
+given_is None reported given h = cc
+given_is (Some why) reported given h = absurd (cc)
 
 noted : (history : History) (at : ℕ) (e : Event) (given : Answer) → given ≡ answer.Noted → with_answer history at e (Ok given) ≡ Fed at e ∷ history
 noted history at e given is = rw is refl
@@ -102,37 +102,37 @@ started history at e given first count of is = rw is refl
 started_one : (history : History) (at : ℕ) (c : Command) (before after : Failures) (given : Answer) → IsStart c
     → IsAnswer history at (event.Command c) before after (Ok given)
     → with_answer history at (event.Command c) (Ok given) ≡ Fed at (event.Command c) ∷ history
-started_one history at (command.AddDevice c) before after given start told = absurd start
-started_one history at (command.PutList c) before after given start told = absurd start
-started_one history at (command.AddRegister c) before after given start told = absurd start
-started_one history at (command.Install c) before after given start told = absurd start
-started_one history at (command.Exchange c) before after given start told = absurd start
-started_one history at (command.Reset c) before after given start told = absurd start
-started_one history at (command.Rescale c) before after given start told = absurd start
-started_one history at (command.Manual c) before after given start told = absurd start
-started_one history at (command.Close c) before after given start told = absurd start
-started_one history at (command.Void c) before after given start told = absurd start
-started_one history at (command.StartPoll c) before after given start told = absurd start
-started_one history at (command.StartRound c) before after given start (inl told) =
-    started history at _ given _ _ _ (given_is (refusal_of history at (event.Command (command.StartRound c))) _ given told.0)
+started_one history at (command.AddDevice c) before after given start reported = absurd start
+started_one history at (command.PutList c) before after given start reported = absurd start
+started_one history at (command.AddRegister c) before after given start reported = absurd start
+started_one history at (command.Install c) before after given start reported = absurd start
+started_one history at (command.Exchange c) before after given start reported = absurd start
+started_one history at (command.Reset c) before after given start reported = absurd start
+started_one history at (command.Rescale c) before after given start reported = absurd start
+started_one history at (command.Manual c) before after given start reported = absurd start
+started_one history at (command.Close c) before after given start reported = absurd start
+started_one history at (command.Void c) before after given start reported = absurd start
+started_one history at (command.StartPoll c) before after given start reported = absurd start
+started_one history at (command.StartRound c) before after given start (inl reported) =
+    started history at _ given _ _ _ (given_is (refusal_of history at (event.Command (command.StartRound c))) _ given reported.0)
 started_one history at (command.StartRound c) before after given start (inr fails) = absurd fails
 
 -- If an event of a polling round is accepted, then the history is longer by this event.
 pub one_accepted : (history : History) (at : ℕ) (e : Event) (before after : Failures) (given : Answer) → IsOfRound e
     → IsAnswer history at e before after (Ok given) → with_answer history at e (Ok given) ≡ Fed at e ∷ history
-one_accepted history at (event.Connected d) before after given kind (inl told) = noted history at _ given (given_is (refusal_of history at (event.Connected d)) _ given told.0)
+one_accepted history at (event.Connected d) before after given kind (inl reported) = noted history at _ given (given_is (refusal_of history at (event.Connected d)) _ given reported.0)
 one_accepted history at (event.Connected d) before after given kind (inr fails) = absurd fails
-one_accepted history at (event.Bytes d piece) before after given kind (inl told) = noted history at _ given (given_is (refusal_of history at (event.Bytes d piece)) _ given told.0)
+one_accepted history at (event.Bytes d piece) before after given kind (inl reported) = noted history at _ given (given_is (refusal_of history at (event.Bytes d piece)) _ given reported.0)
 one_accepted history at (event.Bytes d piece) before after given kind (inr fails) = absurd fails
-one_accepted history at event.Tick before after given kind (inl told) = noted history at _ given (given_is (refusal_of history at event.Tick) _ given told.0)
+one_accepted history at event.Tick before after given kind (inl reported) = noted history at _ given (given_is (refusal_of history at event.Tick) _ given reported.0)
 one_accepted history at event.Tick before after given kind (inr fails) = absurd fails
-one_accepted history at (event.Gone d c) before after given kind (inl told) = noted history at _ given (given_is (refusal_of history at (event.Gone d c)) _ given told.0)
+one_accepted history at (event.Gone d c) before after given kind (inl reported) = noted history at _ given (given_is (refusal_of history at (event.Gone d c)) _ given reported.0)
 one_accepted history at (event.Gone d c) before after given kind (inr fails) = absurd fails
-one_accepted history at (event.Command c) before after given kind told = started_one history at c before after given kind told
-one_accepted history at (event.Asked asked) before after given kind told = absurd kind
+one_accepted history at (event.Command c) before after given kind reported = started_one history at c before after given kind reported
+one_accepted history at (event.Asked asked) before after given kind reported = absurd kind
 
 -- If a connection is accepted, then its answer is `Noted`.
 pub connected_noted : (history : History) (at : ℕ) (d : Option (List ℕ)) (before after : Failures) (given : Answer)
     → IsAnswer history at (event.Connected d) before after (Ok given) → given ≡ answer.Noted
-connected_noted history at d before after given (inl told) = given_is (refusal_of history at (event.Connected d)) _ given told.0
+connected_noted history at d before after given (inl reported) = given_is (refusal_of history at (event.Connected d)) _ given reported.0
 connected_noted history at d before after given (inr fails) = absurd fails

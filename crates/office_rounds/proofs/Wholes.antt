@@ -13,7 +13,7 @@ use Rattle.office_core.specs.declared.office.Office.{Office}
 use Rattle.office_rounds.specs.Faults.{OfOffice, is_link_fault}
 use Rattle.office_rounds.specs.Passing.{CountsFailures}
 use Rattle.mb_wire.specs.Links.{risen}
-use Rattle.office_rounds.specs.Rounds.{RoundState, IsToldOf, Rounds, Wire, passage}
+use Rattle.office_rounds.specs.Rounds.{RoundState, IsReportedOf, Rounds, Wire, passage}
 use Rattle.office_rounds.specs.Stepping.{Broken, Closes, Connects, IsWired, connection}
 use Rattle.office_rounds.specs.declared.fault.RoundFault.{RoundFault}
 use Rattle.office_rounds.specs.declared.fault.RoundFault.TheVariants.{Refused, Link, Output, TurnsUsed}
@@ -68,7 +68,7 @@ unprinted_as ledger device past begun was now w before office round cause fault 
     → ((fed : List Answered) → Broken ledger device past begun was before fed round f → Closes ledger device past begun now office fed f fault)
     → Rounds ledger device past (passage begun now w w) office (Err fault) in
     subst P (sym is)
-    (λ told shuts. unprinted ledger device past begun was now w before office round fault told (shuts (connection device told.0 (Ok told.1.0) ∷ []) told.1.1))
+    (λ reported shuts. unprinted ledger device past begun was now w before office round fault reported (shuts (connection device reported.0 (Ok reported.1.0) ∷ []) reported.1.1))
     h closes
 
 pub connects_same : {B : Type 0} (ledger : B → Ledger) (device same : Option (List ℕ)) (past : History) (begun now : RoundState) (office : Office B)
@@ -82,36 +82,36 @@ abbrev pub IsUsed : Result (Unit {0}) RoundFault → Type 0
 IsUsed result = result ≡ Err TurnsUsed
 
 -- If the fault `TurnsUsed` is reported, then this fault broke the polling round off.
-pub told_used : (fault told : RoundFault) → IsToldOf fault told → IsUsed (Err told) → IsUsed (Err fault)
-told_used fault told (inl is) h = cc
-told_used fault told (inr is) h = absurd (cc)
+pub reported_used : (fault reported : RoundFault) → IsReportedOf fault reported → IsUsed (Err reported) → IsUsed (Err fault)
+reported_used fault reported (inl is) h = cc
+reported_used fault reported (inr is) h = absurd (cc)
 
-pub not_used : (fault told : RoundFault) → OfOffice {X = Unit {0}} (Err fault) → IsToldOf fault told → IsUsed (Err told) → ⊥
-not_used (Refused why) told of is h = let so = told_used (Refused why) told is h in absurd (cc)
-not_used Link told of is h = absurd of
-not_used Output told of is h = let so = told_used Output told is h in absurd (cc)
-not_used TurnsUsed told of is h = absurd of
+pub not_used : (fault reported : RoundFault) → OfOffice {X = Unit {0}} (Err fault) → IsReportedOf fault reported → IsUsed (Err reported) → ⊥
+not_used (Refused why) reported of is h = let so = reported_used (Refused why) reported is h in absurd (cc)
+not_used Link reported of is h = absurd of
+not_used Output reported of is h = let so = reported_used Output reported is h in absurd (cc)
+not_used TurnsUsed reported of is h = absurd of
 
-failures_by : (fault told : RoundFault) (before after : ℕ) → told ≡ fault → CountsFailures {X = Unit {0}} (Err fault) before after
-    → CountsFailures {X = Unit {0}} (Err told) before after
-failures_by fault told before after is h =
+failures_by : (fault reported : RoundFault) (before after : ℕ) → reported ≡ fault → CountsFailures {X = Unit {0}} (Err fault) before after
+    → CountsFailures {X = Unit {0}} (Err reported) before after
+failures_by fault reported before after is h =
     let P : RoundFault → Type 0 = λ f. CountsFailures {X = Unit {0}} (Err f) before after in subst P (sym is) h
 
 -- The count of the link's failures after a polling round was broken off and closed.
-pub counts_failures : (fault told : RoundFault) (before after : ℕ) → after ≡ risen (is_link_fault {X = Unit {0}} (Err fault)) before
-    → IsToldOf fault told → CountsFailures {X = Unit {0}} (Err told) before after
-counts_failures (Refused why) told before after h (inl is) = failures_by (Refused why) told before after is h
-counts_failures (Refused why) told before after h (inr is) = failures_by Output told before after is (inl h)
-counts_failures Link told before after h (inl is) = failures_by Link told before after is h
-counts_failures Link told before after h (inr is) = failures_by Output told before after is (inr h)
-counts_failures Output told before after h (inl is) = failures_by Output told before after is (inl h)
-counts_failures Output told before after h (inr is) = failures_by Output told before after is (inl h)
-counts_failures TurnsUsed told before after h (inl is) = failures_by TurnsUsed told before after is h
-counts_failures TurnsUsed told before after h (inr is) = failures_by Output told before after is (inl h)
+pub counts_failures : (fault reported : RoundFault) (before after : ℕ) → after ≡ risen (is_link_fault {X = Unit {0}} (Err fault)) before
+    → IsReportedOf fault reported → CountsFailures {X = Unit {0}} (Err reported) before after
+counts_failures (Refused why) reported before after h (inl is) = failures_by (Refused why) reported before after is h
+counts_failures (Refused why) reported before after h (inr is) = failures_by Output reported before after is (inl h)
+counts_failures Link reported before after h (inl is) = failures_by Link reported before after is h
+counts_failures Link reported before after h (inr is) = failures_by Output reported before after is (inr h)
+counts_failures Output reported before after h (inl is) = failures_by Output reported before after is (inl h)
+counts_failures Output reported before after h (inr is) = failures_by Output reported before after is (inl h)
+counts_failures TurnsUsed reported before after h (inl is) = failures_by TurnsUsed reported before after is h
+counts_failures TurnsUsed reported before after h (inr is) = failures_by Output reported before after is (inl h)
 
-pub kept_failures : (fault told : RoundFault) (count : ℕ) → OfOffice {X = Unit {0}} (Err fault) → IsToldOf fault told
-    → CountsFailures {X = Unit {0}} (Err told) count count
-kept_failures (Refused why) told count of is = counts_failures (Refused why) told count count refl is
-kept_failures Link told count of is = absurd of
-kept_failures Output told count of is = counts_failures Output told count count refl is
-kept_failures TurnsUsed told count of is = absurd of
+pub kept_failures : (fault reported : RoundFault) (count : ℕ) → OfOffice {X = Unit {0}} (Err fault) → IsReportedOf fault reported
+    → CountsFailures {X = Unit {0}} (Err reported) count count
+kept_failures (Refused why) reported count of is = counts_failures (Refused why) reported count count refl is
+kept_failures Link reported count of is = absurd of
+kept_failures Output reported count of is = counts_failures Output reported count count refl is
+kept_failures TurnsUsed reported count of is = absurd of

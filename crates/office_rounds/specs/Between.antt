@@ -21,7 +21,7 @@ use Rattle.office_core.specs.declared.office.Office.{Office}
 use Rattle.office_rounds.specs.Course.{Connect, Does, IsTaken, Next, Over, StartFrom, Take, next_in}
 use Rattle.office_rounds.specs.FedEvents.{frames_after, piece_in, pieces_after}
 use Rattle.office_rounds.specs.Rounds.{RoundState, Passage, Rounds, Wire, round_state, passage, wire}
-use Rattle.office_rounds.specs.Stepping.{Broken, Closes, Connects, EndsPrinted, EndsUnprinted, Feeds, Going, IsNew, IsWired, Prints, Scene, Steps, StepsFrom, Told, scene}
+use Rattle.office_rounds.specs.Stepping.{Broken, Closes, Connects, EndsPrinted, EndsUnprinted, Feeds, Going, IsNew, IsWired, Prints, Scene, Steps, StepsFrom, Reported, scene}
 use Rattle.office_rounds.specs.Polling.{settled}
 use Rattle.office_rounds.specs.Taking.{over_or_take}
 use Rattle.office_rounds.specs.declared.fault.RoundFault.{RoundFault}
@@ -34,9 +34,9 @@ wire_of l link = wire (l.remaining link) (l.given link)
 
 -- True if the call printed the office's notifications, frames and answer for an accepted event,
 -- completely or in part.
-abbrev pub PrintsTold : {B W : Type 0} → writers.Ghosts W → Office B → Answer → (had holds : W)
+abbrev pub PrintsReported : {B W : Type 0} → writers.Ghosts W → Office B → Answer → (had holds : W)
     → Result Answer RoundFault → Type 0
-PrintsTold w office given had holds result =
+PrintsReported w office given had holds result =
     Prints given (accepted_text given (notes_in office) (outgoing_in office))
     (w.contents had) (w.contents holds) result
 
@@ -82,27 +82,27 @@ module _ {B C W : Type 0} (b : stores.Ghosts B) (c : clocks.Ghosts C) (w : write
 
   -- True if the first event of a new polling round was fed to the office. This event is the
   -- connection of the round's device.
-  abbrev pub TellsConnection : (from to : Progress) → Leaves (Result (Unit {0}) RoundFault)
-  TellsConnection from to old new before after had holds result =
+  abbrev pub ReportsConnection : (from to : Progress) → Leaves (Result (Unit {0}) RoundFault)
+  ReportsConnection from to old new before after had holds result =
       After b.ledger old new (λ past. Connects b.ledger from.round.device past
       (desk_of old before had) (desk_of new after holds) new to result)
 
   -- True if `e` was fed to the office, provided that the polling round is new and `e` is the
   -- connection of its device.
-  abbrev pub TellsFirst : Event → (from to : Progress) → Leaves (Result (Unit {0}) RoundFault)
-  TellsFirst e from to old new before after had holds result =
+  abbrev pub ReportsFirst : Event → (from to : Progress) → Leaves (Result (Unit {0}) RoundFault)
+  ReportsFirst e from to old new before after had holds result =
       IsNew from → e ≡ event.Connected from.round.device
-      → TellsConnection from to old new before after had holds result
+      → ReportsConnection from to old new before after had holds result
 
   -- True if `e` was fed to the office and printed, provided that `e` is the next event of a running
   -- polling round.
-  abbrev pub TellsNext : Event → (from to : Progress) → Leaves (Result (Unit {0}) RoundFault)
-  TellsNext e from to old new before after had holds result =
+  abbrev pub ReportsNext : Event → (from to : Progress) → Leaves (Result (Unit {0}) RoundFault)
+  ReportsNext e from to old new before after had holds result =
       (device : Option (List ℕ)) (past : History) (begun : RoundState) (fed : List Answered)
       → Going b.ledger device past begun (desk_of old before had) old fed from
       → Does device (next_in past fed) e → (b.ledger (books_in new)).is_clean
       → (one : Answered) × (one.event ≡ e)
-      × Told b.ledger device past begun (desk_of new after holds) new fed one to result
+      × Reported b.ledger device past begun (desk_of new after holds) new fed one to result
 
   -- True if the last event of the polling round was fed to the office, provided that the round was
   -- broken off for `cause`. The last event is that the device is gone.

@@ -1,7 +1,7 @@
 -- The events that a polling round fed to an office, with their answers, texts and frames. Lists
 -- have the latest event first.
 use Rattle.std.specs.Prelude.{◌≡◌, ℕ, List, [], ◌∷◌, ◌++◌, Option, Result, Ok, Err}
-use Rattle.socket_link.specs.Clocks.{TellsMoment}
+use Rattle.socket_link.specs.Clocks.{ReportsMoment}
 use Rattle.script_text.specs.AnswerText.{accepted_text}
 use Rattle.office_events.specs.declared.answers.Answer.{Answer}
 use Rattle.office_events.specs.declared.events.Event.{Event}
@@ -31,16 +31,16 @@ AreAnswered past before after (one ∷ earlier) =
 
 -- The text printed for an event. If the office accepts the event, the notifications and the answer
 -- as in a script. If the office refuses the event, nothing.
-abbrev pub told_text : History → (at : ℕ) → Event → Result Answer Refusal → List ℕ
-told_text past at e (Ok given) =
+abbrev pub reported_text : History → (at : ℕ) → Event → Result Answer Refusal → List ℕ
+reported_text past at e (Ok given) =
     accepted_text given (notes_after past at e (Ok given)) (outgoing_after past at e (Ok given))
-told_text past at e (Err why) = []
+reported_text past at e (Err why) = []
 
 -- The text that is printed for a list of events, in the order in which they were fed.
 abbrev pub text_after : (past : History) → List Answered → List ℕ
 text_after past [] = []
 text_after past (one ∷ earlier) =
-    text_after past earlier ++ told_text (history_with past earlier) one.at one.event one.result
+    text_after past earlier ++ reported_text (history_with past earlier) one.at one.event one.result
 
 -- The bytes of the frames that the office sends for a list of events, in the order in which they
 -- were fed.
@@ -69,4 +69,4 @@ pieces_after (one ∷ earlier) = pieces_after earlier ++ piece_in one.event
 abbrev pub AreTimed : (begun now : Option (List ℕ)) → List Answered → Type 0
 AreTimed begun now [] = now ≡ begun
 AreTimed begun now (one ∷ earlier) =
-    (between : Option (List ℕ)) × AreTimed begun between earlier × TellsMoment between now one.at
+    (between : Option (List ℕ)) × AreTimed begun between earlier × ReportsMoment between now one.at

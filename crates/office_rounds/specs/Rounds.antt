@@ -2,7 +2,7 @@
 -- printed during the round.
 use Rattle.std.specs.Prelude.{◌≡◌, ◌⊎◌, ℕ, nat_lt, true, ◌||◌, List, [], ◌∷◌, Option, Some, Result, Ok, Err, if◌then◌else◌}
 use Rattle.std.specs.Io.KnownBytes.{Appends, Consumes}
-use Rattle.socket_link.specs.Clocks.{TellsMoment}
+use Rattle.socket_link.specs.Clocks.{ReportsMoment}
 use Rattle.poll_core.specs.declared.outcome.Closing.TheVariants as closing
 use Rattle.office_events.specs.declared.events.Event.TheVariants as event
 use Rattle.office_events.specs.declared.refusals.Refusal.{Refusal}
@@ -99,7 +99,7 @@ pub record IsNotConnected {B : Type 0} (ledger : B → Ledger) (device : Option 
   pub at : ℕ
   pub leaves : IsFed ledger past through.begun through.ended office
       (record { at = at; event = event.Connected device; result = Err why } ∷ [])
-  pub timed : TellsMoment through.begun.moments through.ended.moments at
+  pub timed : ReportsMoment through.begun.moments through.ended.moments at
   pub same : through.to ≡ through.from
   pub printed : Appends through.begun.printed through.ended.printed []
 
@@ -139,13 +139,13 @@ pub record IsGoneAt (past : History) (begun now : Option (List ℕ)) (earlier : 
   pub between : Option (List ℕ)
   pub timed : AreTimed begun between earlier
   pub moment : ℕ
-  pub told : TellsMoment between now moment
+  pub reported : ReportsMoment between now moment
   pub is : at ≡ gone_at (latest_of (history_with past earlier)) moment
 
 -- True if `fault` may be reported for a polling round that was broken off for `cause`. It is the
 -- cause itself, or a later failed write of the output.
-abbrev pub IsToldOf : (cause fault : RoundFault) → Type 0
-IsToldOf cause fault = (fault ≡ cause) ⊎ (fault ≡ Output)
+abbrev pub IsReportedOf : (cause fault : RoundFault) → Type 0
+IsReportedOf cause fault = (fault ≡ cause) ⊎ (fault ≡ Output)
 
 -- True if the polling round was broken off after its next events were fed to the office.
 --
@@ -155,7 +155,7 @@ pub record IsBrokenOff {B : Type 0} (ledger : B → Ledger) (device : Option (Li
     (past : History) (through : Passage)
     (office : Office B) (fault : RoundFault) : Type 0 where
   pub cause : RoundFault
-  pub told : IsToldOf cause fault
+  pub reported : IsReportedOf cause fault
   pub earlier : List Answered
   pub course : BreaksOff device past cause earlier
   pub gone : Answered

@@ -4,7 +4,7 @@ use Rattle.std.specs.Io.KnownBytes.{Appends, Consumes}
 use Rattle.office_events.specs.declared.events.Event.{Event}
 use Rattle.office_events.specs.declared.events.Event.TheVariants as event
 use Rattle.poll_core.specs.declared.outcome.Closing.TheVariants as closing
-use Rattle.socket_link.specs.Clocks.{TellsMoment}
+use Rattle.socket_link.specs.Clocks.{ReportsMoment}
 use Rattle.office_events.specs.declared.answers.Answer.{Answer}
 use Rattle.office_events.specs.declared.refusals.Refusal.{Refusal}
 use Rattle.office_events.specs.declared.refusals.Refusal.TheVariants as refusal
@@ -15,14 +15,14 @@ use Rattle.office_rules.specs.Refusals.{with_answer}
 use Rattle.office_books.specs.Ledgers.{Ledger}
 use Rattle.office_core.specs.EventRun.{Answered}
 use Rattle.office_core.specs.Standing.{Stands, books_in, is_stopped, outgoing_in}
-use Rattle.office_core.specs.Taking.{IsAnswer, IsTold}
+use Rattle.office_core.specs.Taking.{IsAnswer, IsReported}
 use Rattle.office_core.specs.declared.office.Office.{Office}
 use Rattle.sun_points.specs.Writing.{GotPart}
 use Rattle.office_rounds.specs.Course.{AreNext, Next, next_in}
 use Rattle.office_rounds.specs.DeviceRounds.Rounds.{joined, unconnected}
 use Rattle.office_rounds.specs.Faults.{AreGiven, IsPrinted}
-use Rattle.office_rounds.specs.Rounds.{BreaksOff, RoundState, IsFed, IsGoneAt, IsSettled, IsToldOf, Wire}
-use Rattle.office_rounds.specs.FedEvents.{AreTimed, frames_after, history_with, pieces_after, text_after, told_text}
+use Rattle.office_rounds.specs.Rounds.{BreaksOff, RoundState, IsFed, IsGoneAt, IsSettled, IsReportedOf, Wire}
+use Rattle.office_rounds.specs.FedEvents.{AreTimed, frames_after, history_with, pieces_after, text_after, reported_text}
 use Rattle.office_rounds.specs.Polling.{Holds}
 use Rattle.office_rounds.specs.declared.fault.RoundFault.{RoundFault}
 use Rattle.office_rounds.specs.declared.fault.RoundFault.TheVariants.{Refused, Link, Output, TurnsUsed}
@@ -40,7 +40,7 @@ pub record IsTaken {B : Type 0} (ledger : B → Ledger) (past : History) (at : �
     (begun now : RoundState) (office : Office B) : Type 0 where
   pub stands : Stands ledger (with_answer past at e reply) office
   pub answer : IsAnswer past at e begun.failures now.failures reply
-  pub told : IsTold past at e reply office
+  pub reported : IsReported past at e reply office
 
 -- True if the office accepted the event, but a write of its report failed. Then at most a part of
 -- the report was printed.
@@ -49,7 +49,7 @@ pub record IsUnprinted {B : Type 0} (ledger : B → Ledger) (past : History) (at
     (office : Office B) : Type 0 where
   pub given : Answer
   pub taken : IsTaken ledger past at e (Ok given) begun now office
-  pub printed : IsPrinted {X = Unit {0}} (Err Output) (told_text past at e (Ok given)) begun.printed
+  pub printed : IsPrinted {X = Unit {0}} (Err Output) (reported_text past at e (Ok given)) begun.printed
       now.printed
 
 -- True if the event was fed to the office. If the event was accepted, its report was printed. If a
@@ -59,7 +59,7 @@ abbrev pub Feeds : {B : Type 0} → (B → Ledger) → History → (at : ℕ) �
     → Result Answer RoundFault → Type 0
 Feeds ledger past at e begun now office (Ok given) =
     IsTaken ledger past at e (Ok given) begun now office
-    × Appends begun.printed now.printed (told_text past at e (Ok given))
+    × Appends begun.printed now.printed (reported_text past at e (Ok given))
 Feeds ledger past at e begun now office (Err (Refused why)) =
     IsTaken ledger past at e (Err why) begun now office × Appends begun.printed now.printed []
 Feeds ledger past at e begun now office (Err Output) = IsUnprinted ledger past at e begun now office
@@ -95,8 +95,8 @@ pub record EndsPrinted {B : Type 0} (ledger : B → Ledger) (past : History) (at
   pub reply : Result Answer Refusal
   pub taken : IsTaken ledger past at e reply begun now new
   pub stops : RefusedStops (is_stopped old) e reply (is_stopped new)
-  pub printed : ((fault ≡ cause) × Appends begun.printed now.printed (told_text past at e reply))
-      ⊎ ((fault ≡ Output) × GotPart (told_text past at e reply) begun.printed now.printed)
+  pub printed : ((fault ≡ cause) × Appends begun.printed now.printed (reported_text past at e reply))
+      ⊎ ((fault ≡ Output) × GotPart (reported_text past at e reply) begun.printed now.printed)
 
 -- True if the last event of a polling round was fed, but not printed because an earlier write had
 -- failed.
@@ -125,7 +125,7 @@ is_output TurnsUsed = false
 -- other fault occurs.
 abbrev pub Prints : Answer → (text : List ℕ) → (old new : Option (List ℕ))
     → Result Answer RoundFault → Type 0
-Prints given text old new (Ok told) = (told ≡ given) × Appends old new text
+Prints given text old new (Ok reported) = (reported ≡ given) × Appends old new text
 Prints given text old new (Err (Refused why)) = ⊥
 Prints given text old new (Err Link) = ⊥
 Prints given text old new (Err Output) = GotPart text old new
@@ -185,7 +185,7 @@ pub record RoundGoesOn {B : Type 0} (ledger : B → Ledger) (device : Option (Li
     (past : History) (begun now : RoundState)
     (office : Office B) (fed : List Answered) (one : Answered) (progress : Progress) : Type 0 where
   pub going : Going ledger device past begun now office (one ∷ fed) progress
-  pub told : outgoing_in office
+  pub reported : outgoing_in office
       ≡ outgoing_after (history_with past fed) one.at one.event one.result
 
 -- True if no frames were sent for the event, because the office refused the event or printing its
@@ -198,12 +198,12 @@ IsUnsent TurnsUsed result = ⊥
 
 -- The state after an event of a polling round. On `Ok` the round is running. On a fault the round
 -- is broken off, and no frames of the event were sent.
-abbrev pub Told : {B : Type 0} → (B → Ledger) → (device : Option (List ℕ)) → History
+abbrev pub Reported : {B : Type 0} → (B → Ledger) → (device : Option (List ℕ)) → History
     → (begun now : RoundState) → Office B
     → List Answered → Answered → Progress → Result (Unit {0}) RoundFault → Type 0
-Told ledger device past begun now office fed one progress (Ok done) =
+Reported ledger device past begun now office fed one progress (Ok done) =
     RoundGoesOn ledger device past begun now office fed one progress
-Told ledger device past begun now office fed one progress (Err cause) =
+Reported ledger device past begun now office fed one progress (Err cause) =
     Broken ledger device past begun now office (one ∷ fed) progress cause
     × IsUnsent cause one.result
 
@@ -258,7 +258,7 @@ Connects ledger device past begun now office progress (Ok x) =
     × Going ledger device past begun now office (connection device at (Ok given) ∷ []) progress)
 Connects ledger device past begun now office progress (Err (Refused why)) =
     (at : ℕ) × IsFed ledger past begun now office (connection device at (Err why) ∷ [])
-    × TellsMoment begun.moments now.moments at
+    × ReportsMoment begun.moments now.moments at
     × Appends begun.printed now.printed []
 Connects ledger device past begun now office progress (Err Output) =
     (at : ℕ) × ((given : Answer)
@@ -272,7 +272,7 @@ Connects ledger device past begun now office progress (Err TurnsUsed) = ⊥
 pub record Closes {B : Type 0} (ledger : B → Ledger) (device : Option (List ℕ)) (past : History)
     (begun now : RoundState)
     (office : Office B) (earlier : List Answered) (cause fault : RoundFault) : Type 0 where
-  pub told : IsToldOf cause fault
+  pub reported : IsReportedOf cause fault
   pub gone : Answered
   pub event : gone.event ≡ event.Gone device closing.Failed
   pub leaves : IsFed ledger past begun now office (gone ∷ earlier)

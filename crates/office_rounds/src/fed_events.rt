@@ -1,7 +1,7 @@
 //! Feeds events to the office, and prints the office's notifications and answers.
 ghost use Rattle.std.specs.Prelude.{◌≡◌};
 ghost use Rattle.office_core.specs.Standing.{is_stopped};
-ghost use Rattle.office_rounds.specs.Between.{FeedsAndPrints, PrintsTold, TellsFirst, TellsNext};
+ghost use Rattle.office_rounds.specs.Between.{FeedsAndPrints, PrintsReported, ReportsFirst, ReportsNext};
 ghost use Rattle.office_rounds.specs.Faults.{OfOffice};
 ghost use Rattle.office_rounds.specs.Passing.{Lasts};
 ghost use Rattle.office_rounds.specs.Stepping as stepping;
@@ -24,7 +24,7 @@ fn print<B: Books, W: Write>(
     answer: Answer,
     output: &mut W,
 ) -> Result<Answer, RoundFault>
-    ensures prints { PrintsTold W.Write office.now answer output.old output.new result }
+    ensures prints { PrintsReported W.Write office.now answer output.old output.new result }
     ensures kind { OfOffice result }
 {
     match write_accepted(&answer, office.notes(), office.outgoing(), output) {
@@ -74,9 +74,9 @@ pub(crate) fn feed_next<B: Books, C: Clock, W: Write>(
     clock: &mut C,
     output: &mut W,
 ) -> Result<(), RoundFault>
-    ensures tells { TellsNext B.Books C.Clock W.Write event.now progress.old progress.new
+    ensures reports { ReportsNext B.Books C.Clock W.Write event.now progress.old progress.new
         office.old office.new clock.old clock.new output.old output.new result }
-    ensures connects { TellsFirst B.Books C.Clock W.Write event.now progress.old progress.new
+    ensures connects { ReportsFirst B.Books C.Clock W.Write event.now progress.old progress.new
         office.old office.new clock.old clock.new output.old output.new result }
     ensures kind { OfOffice result }
     ensures lasts { Lasts B.ledger office.old office.new }

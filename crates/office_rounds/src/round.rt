@@ -1,10 +1,10 @@
 //! Polls the plan of one device over the link to the device.
 ghost use Rattle.std.specs.Prelude.{◌≡◌, Err};
 ghost use Rattle.mb_wire.specs.Links.{risen};
-ghost use Rattle.office_rounds.specs.Between.{EndsUnconnected, PollsOut, PollsToEnd, RoundsOver, TakesTurns, TellsConnection};
+ghost use Rattle.office_rounds.specs.Between.{EndsUnconnected, PollsOut, PollsToEnd, RoundsOver, TakesTurns, ReportsConnection};
 ghost use Rattle.office_rounds.specs.Faults.{OfOffice, is_link_fault};
 ghost use Rattle.office_rounds.specs.Passing.{AreAtMost, AreTakes, CountsFailures, Lasts};
-ghost use Rattle.office_rounds.specs.Rounds.{IsToldOf};
+ghost use Rattle.office_rounds.specs.Rounds.{IsReportedOf};
 ghost use Rattle.office_rounds.specs.Stepping.{IsNew};
 
 use crate::fault::RoundFault;
@@ -31,7 +31,7 @@ fn connect<B: Books, C: Clock, W: Write>(
     output: &mut W,
 ) -> Result<(), RoundFault>
     requires { IsNew progress.old }
-    ensures connects { TellsConnection B.Books C.Clock W.Write progress.old progress.new
+    ensures connects { ReportsConnection B.Books C.Clock W.Write progress.old progress.new
         office.old office.new clock.old clock.new output.old output.new result }
     ensures kind { OfOffice result }
     ensures lasts { Lasts B.ledger office.old office.new }
@@ -125,7 +125,7 @@ fn end_unconnected<B: Books, C: Clock, W: Write>(
 ) -> RoundFault
     ensures ends { EndsUnconnected B.Books C.Clock W.Write progress.now fault
         office.old office.new clock.old clock.new output.old output.new result }
-    ensures told { IsToldOf fault result }
+    ensures reported { IsReportedOf fault result }
     ensures lasts { Lasts B.ledger office.old office.new }
 {
     match fault {

@@ -4,7 +4,7 @@ ghost use Rattle.std.specs.Prelude.{◌≡◌};
 ghost use Rattle.office_rounds.specs.Between.{ClosesBroken, EndsAndPrints, EndsSilently};
 ghost use Rattle.office_rounds.specs.Passing.{Lasts};
 ghost use Rattle.office_rounds.specs.Rounds as rounds;
-ghost use Rattle.office_rounds.specs.Rounds.{IsToldOf};
+ghost use Rattle.office_rounds.specs.Rounds.{IsReportedOf};
 ghost use Rattle.office_rounds.specs.Stepping as stepping;
 
 use crate::fault::RoundFault;
@@ -66,7 +66,7 @@ fn end_printed<B: Books, W: Write>(
 ) -> RoundFault
     ensures ends { EndsAndPrints B.Books W.Write at gone.now cause office.old office.new
         output.old output.new result }
-    ensures told { IsToldOf cause result }
+    ensures reported { IsReportedOf cause result }
     ensures lasts { Lasts B.ledger office.old office.new }
 {
     match feed(office, at, gone, output) {
@@ -98,7 +98,7 @@ pub(crate) fn close<B: Books, C: Clock, W: Write>(
 ) -> RoundFault
     ensures closes { ClosesBroken B.Books C.Clock W.Write progress.now cause
         office.old office.new clock.old clock.new output.old output.new result }
-    ensures told { IsToldOf cause result }
+    ensures reported { IsReportedOf cause result }
     ensures lasts { Lasts B.ledger office.old office.new }
 {
     let moment = clock.now();

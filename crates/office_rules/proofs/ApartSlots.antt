@@ -133,9 +133,9 @@ pub find_never : {X : Type 0} (xs : List X) → find (λ (x : X). false) xs ≡ 
 find_never [] = refl
 find_never (x ∷ xs) = find_never xs
 
-abbrev pub told_by : {X : Type 0} → (Slot → List X) → Option Slot → List X
-told_by f None = []
-told_by f (Some slot) = f slot
+abbrev pub reported_by : {X : Type 0} → (Slot → List X) → Option Slot → List X
+reported_by f None = []
+reported_by f (Some slot) = f slot
 
 abbrev pub if_named : {X : Type 0} → Option (List ℕ) → (Slot → List X) → Slot → List X
 if_named given f slot = if is_named given slot.device.name then f slot else []
@@ -145,24 +145,24 @@ unnamed_tell name f [] h = refl
 unnamed_tell name f (slot ∷ slots) h =
     ap (λ xs. xs ++ flat_map (if_named (Some name) f) slots) (cond-false _ _ _ h.0) ∙ unnamed_tell name f slots h.1
 
-named_tells : {X : Type 0} (name : List ℕ) (f : Slot → List X) (slots : List Slot) → AreApart slots
-    → flat_map (if_named (Some name) f) slots ≡ told_by f (slot_of slots (Some name))
-named_tells name f [] h = refl
-named_tells name f (slot ∷ slots) h = elim (cases_Bool (same name slot.device.name)) [
+named_reports : {X : Type 0} (name : List ℕ) (f : Slot → List X) (slots : List Slot) → AreApart slots
+    → flat_map (if_named (Some name) f) slots ≡ reported_by f (slot_of slots (Some name))
+named_reports name f [] h = refl
+named_reports name f (slot ∷ slots) h = elim (cases_Bool (same name slot.device.name)) [
   | inl here ↦
       let e : slot.device.name ≡ name = sym (same_eq name slot.device.name here) in
       let P : List ℕ → Type 0 = λ n. NoneNamed n slots in
       ap (λ xs. xs ++ flat_map (if_named (Some name) f) slots) (cond-true _ _ _ here)
       ∙ ap (λ xs. f slot ++ xs) (unnamed_tell name f slots (subst P e h.0))
       ∙ append-nil (f slot)
-      ∙ ap (told_by f) (sym (cond-true _ _ _ here))
+      ∙ ap (reported_by f) (sym (cond-true _ _ _ here))
   | inr other ↦
       ap (λ xs. xs ++ flat_map (if_named (Some name) f) slots) (cond-false _ _ _ other)
-      ∙ named_tells name f slots h.1
-      ∙ ap (told_by f) (sym (cond-false _ _ _ other))
+      ∙ named_reports name f slots h.1
+      ∙ ap (reported_by f) (sym (cond-false _ _ _ other))
 ]
 
-pub one_tells : {X : Type 0} (given : Option (List ℕ)) (f : Slot → List X) (slots : List Slot) → AreApart slots
-    → flat_map (if_named given f) slots ≡ told_by f (slot_of slots given)
-one_tells None f slots h = of_none (if_named None f) (λ slot. refl) slots ∙ ap (told_by f) (sym (find_never slots))
-one_tells (Some name) f slots h = named_tells name f slots h
+pub one_reports : {X : Type 0} (given : Option (List ℕ)) (f : Slot → List X) (slots : List Slot) → AreApart slots
+    → flat_map (if_named given f) slots ≡ reported_by f (slot_of slots given)
+one_reports None f slots h = of_none (if_named None f) (λ slot. refl) slots ∙ ap (reported_by f) (sym (find_never slots))
+one_reports (Some name) f slots h = named_reports name f slots h

@@ -183,9 +183,9 @@ over_new : (o : Option Device) (slots : List Slot) → AreOver slots → AreOver
 over_new None slots h = nothing_over slots h
 over_new (Some device) slots h = over-push slots device h
 
-new_tells_none : (o : Option Device) → polls_of_slots (new_slot o) ≡ []
-new_tells_none None = refl
-new_tells_none (Some device) = refl
+new_reports_none : (o : Option Device) → polls_of_slots (new_slot o) ≡ []
+new_reports_none None = refl
+new_reports_none (Some device) = refl
 
 unknown_after : (number at : ℕ) (spans : List ReadSpan) (e : Event) (name : Option (List ℕ)) (slots : List Slot) → is_some (slot_of slots name) ≡ false
     → slot_of (map (slot_after number at spans e) slots) name ≡ None
@@ -217,7 +217,7 @@ agree_added laws at slots facts c h new =
     let number = next_poll facts in
     let moved = map (slot_after number at [] e) slots in
     agree_after laws number at [] e facts (commanded at slots facts (command.AddDevice c)) slots (new_slot (device_by c)) h (free_other e (λ d. refl) slots)
-    (command_agrees at slots facts (command.AddDevice c) h) (new_tells_none (device_by c))
+    (command_agrees at slots facts (command.AddDevice c) h) (new_reports_none (device_by c))
     (over_new (device_by c) moved (over-after laws number at [] e slots h.over))
     (apart_new c.unit c.timeout c.window c.name moved (apart-map (slot_after number at [] e) (device-after number at [] e) slots h.apart)
     (unknown_after number at [] e c.name slots new))

@@ -16,14 +16,14 @@ use Rattle.office_rules.proofs.Permutations.{IsPermutation-filter, IsPermutation
 abbrev pub Ended : Type 0
 Ended = ℕ × Option Outcome
 
-abbrev pub told : Ended → Option (ℕ × Outcome)
-told poll = option_map (λ o. (poll.0, o)) poll.1
+abbrev pub reported : Ended → Option (ℕ × Outcome)
+reported poll = option_map (λ o. (poll.0, o)) poll.1
 
 abbrev pub numbers_in : List Ended → List ℕ
 numbers_in polls = map (λ poll. poll.0) polls
 
 abbrev pub ends_in : List Ended → List (ℕ × Outcome)
-ends_in polls = filter_map told polls
+ends_in polls = filter_map reported polls
 
 abbrev pub waiting_in : List Ended → List ℕ
 waiting_in polls = map (λ poll. poll.0) (filter (λ poll. is_none poll.1) polls)
@@ -66,14 +66,14 @@ times-IsPermutation n xs ys p =
 pub picked-IsPermutation : (n : ℕ) (xs ys : List (ℕ × Outcome)) → IsPermutation xs ys → length (pick n xs) ≡ length (pick n ys)
 picked-IsPermutation n xs ys p = sym (length_permutation _ _ (IsPermutation-filter_map (is_of n) xs ys p))
 
-told_step : (b : Bool) (o : Outcome) (xs : List Outcome) (w k : ℕ) → length xs + w ≡ k → length (cons_option (if b then Some o else None) xs) + w ≡ one_if b + k
-told_step true o xs w k h = omega arith
-told_step false o xs w k h = omega arith
+reported_step : (b : Bool) (o : Outcome) (xs : List Outcome) (w k : ℕ) → length xs + w ≡ k → length (cons_option (if b then Some o else None) xs) + w ≡ one_if b + k
+reported_step true o xs w k h = omega arith
+reported_step false o xs w k h = omega arith
 
 pub times_split : (n : ℕ) (polls : List Ended) → length (pick n (ends_in polls)) + times n (waiting_in polls) ≡ times n (numbers_in polls)
 times_split n [] = refl
 times_split n ((m, None) ∷ polls) = let h = times_split n polls in omega arith
-times_split n ((m, Some o) ∷ polls) = told_step (m == n) o (pick n (ends_in polls)) (times n (waiting_in polls)) (times n (numbers_in polls)) (times_split n polls)
+times_split n ((m, Some o) ∷ polls) = reported_step (m == n) o (pick n (ends_in polls)) (times n (waiting_in polls)) (times n (numbers_in polls)) (times_split n polls)
 
 -- If a number exceeds the number of polls, then no poll of a consecutively numbered list has this
 -- number.

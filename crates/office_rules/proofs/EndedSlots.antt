@@ -19,7 +19,7 @@ use Rattle.office_rules.specs.History.{settled_in, settled_on, settled_by}
 use Rattle.office_rules.specs.PollEndings.{end_by, polls_on, polls_on_ended, polls_of_slot, polls_of_slots}
 use Rattle.office_rules.proofs.Permutations.{same_is, sorted_out}
 use Rattle.office_rules.proofs.SessionLaws.{SessionLaws, numbers_of, number_by, numbers-push, outcomes_by_poll-push}
-use Rattle.office_rules.proofs.EndedPolls.{Ended, told, numbers_in, ends_in, waiting_in}
+use Rattle.office_rules.proofs.EndedPolls.{Ended, reported, numbers_in, ends_in, waiting_in}
 use Rattle.office_rules.proofs.EndedFacts.{as_end, settled_on_all}
 use Rattle.office_rules.proofs.Happenings.{EndLast, numbers_by, ends_last, same_settled}
 use Rattle.office_rules.proofs.LostPolls.{lost_end}
@@ -83,7 +83,7 @@ more_of us xs ys zs p =
     IsPermutation-trans _ _ _ (sorted_out us zs xs ys zs [] p (same_is _ _ (sym (append-nil zs)))) (same_is _ _ (ap (λ ws. (xs ++ zs) ++ ws) (append-nil ys)))
 
 pub ends_both : (ps qs : List Ended) → ends_in (ps ++ qs) ≡ ends_in ps ++ ends_in qs
-ends_both ps qs = filter_map-append told ps qs
+ends_both ps qs = filter_map-append reported ps qs
 
 pub numbers_both : (ps qs : List Ended) → numbers_in (ps ++ qs) ≡ numbers_in ps ++ numbers_in qs
 numbers_both ps qs = map-append (λ (poll : Ended). poll.0) ps qs

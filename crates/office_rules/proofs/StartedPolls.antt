@@ -18,7 +18,7 @@ use Rattle.office_rules.proofs.Permutations.{same_is}
 use Rattle.office_rules.proofs.EndedFacts.{settled_on_all}
 use Rattle.office_rules.proofs.Happenings.{sent_numbers, round_numbers, command_settles}
 use Rattle.office_rules.proofs.EndedSlots.{new_on, new_by}
-use Rattle.office_rules.proofs.ApartSlots.{AreApart, of_none, told_by, if_named, one_tells}
+use Rattle.office_rules.proofs.ApartSlots.{AreApart, of_none, reported_by, if_named, one_reports}
 use Rattle.office_rules.proofs.QuietFacts.{AreQuiet, IsQuiet, later_first, quiet_polls, quiet_ends, books_quiet, added_each}
 
 abbrev pub numbers : List Fact → List ℕ
@@ -144,13 +144,13 @@ new_each number at spans c (slot ∷ slots) =
     ap (λ ns. ns ++ flat_map (new_by number at spans (event.Command c)) slots) (new_here number at spans c slot.device slot.present)
     ∙ ap (λ ns. if_named (started_on c) (sent_on number at spans) slot ++ ns) (new_each number at spans c slots)
 
-told_sends : (number at : ℕ) (spans : List ReadSpan) (o : Option Slot) → told_by (sent_on number at spans) o ≡ sent_numbers (sends_from number at spans o)
-told_sends number at spans None = refl
-told_sends number at spans (Some slot) = refl
+reported_sends : (number at : ℕ) (spans : List ReadSpan) (o : Option Slot) → reported_by (sent_on number at spans) o ≡ sent_numbers (sends_from number at spans o)
+reported_sends number at spans None = refl
+reported_sends number at spans (Some slot) = refl
 
 pub new_sent : (number at : ℕ) (spans : List ReadSpan) (c : Command) (slots : List Slot) → AreApart slots
     → flat_map (new_by number at spans (event.Command c)) slots ≡ sent_numbers (sends_from number at spans (slot_of slots (started_on c)))
 new_sent number at spans c slots h =
     new_each number at spans c slots
-    ∙ one_tells (started_on c) (sent_on number at spans) slots h
-    ∙ told_sends number at spans (slot_of slots (started_on c))
+    ∙ one_reports (started_on c) (sent_on number at spans) slots h
+    ∙ reported_sends number at spans (slot_of slots (started_on c))

@@ -21,8 +21,8 @@ pub fn openings_begin()
     ensures { OpeningsBegin }
 {}
 
-/// Proves that a new entry advances the installation, the rows and the interval rows of its meter
-/// by one step.
+/// Proves what a new entry changes: the last reading of its installation, the entry rows of its
+/// meter, and the interval rows over which its energy is spread.
 pub fn entries_move_on()
     ensures { EntriesMoveOn }
 {

@@ -20,7 +20,7 @@ use Rattle.office_http.specs.Connections.Connections as connections
 use Rattle.office_http.specs.Connections.Connections.{Connection}
 use Rattle.office_http.specs.Serving.{with_asked}
 use Rattle.office_rounds.specs.Passing as rounds
-use Rattle.office_rounds.specs.FedEvents as telling
+use Rattle.office_rounds.specs.FedEvents as reporting
 use Rattle.office_rounds.specs.Driver.Going as driver
 use Rattle.office_rounds.specs.Driver.Going.{Start, TakesTurn as TakesDeviceTurn, scene}
 use Rattle.office_events.specs.Showing.{Shown}
@@ -81,7 +81,7 @@ abbrev of_events : (names : List (List ℕ)) → List Answered → List (Step na
 of_events names [] = []
 of_events names (one ∷ earlier) = Fed one ∷ of_events names earlier
 
-after_events : (names : List (List ℕ)) (past : History) (fed : List Answered) → history_with past (of_events names fed) ≡ telling.history_with past fed
+after_events : (names : List (List ℕ)) (past : History) (fed : List Answered) → history_with past (of_events names fed) ≡ reporting.history_with past fed
 after_events names past [] = refl
 after_events names past (one ∷ earlier) = ap (λ h. with_answer h one.at one.event one.result) (after_events names past earlier)
 
@@ -235,10 +235,10 @@ one_turn names ledger first before latest begun between now a b c turns reads go
   stands = λ past stands clean.
       let some = turns.stands past stands (goes.clean clean) in
       let after = goes.stands (history_with past (steps_of some.turns)) some.stands clean in
-      let is : latest ≡ latest_of first (record { told = reads.told; steps = after.steps } ∷ some.turns) = reads.is_latest ∙ ap (λ n. max n reads.told) some.is_latest in
+      let is : latest ≡ latest_of first (record { reported = reads.reported; steps = after.steps } ∷ some.turns) = reads.is_latest ∙ ap (λ n. max n reads.reported) some.is_latest in
       record {
-        turns = record { told = reads.told; steps = after.steps } ∷ some.turns;
-        are = (between, some.are, reads.tells, subst (λ n. AreAt n after.steps) is after.each);
+        turns = record { reported = reads.reported; steps = after.steps } ∷ some.turns;
+        are = (between, some.are, reads.reports, subst (λ n. AreAt n after.steps) is after.each);
         is_latest = is;
         stands =
             let P : History → Type 0 = λ h. Stands ledger h c in
@@ -323,10 +323,10 @@ ran_opened {B = B} names ledger past begun opened now office new books is opens 
     subst Q (sym is) (inr (record {
       at = opening.at;
       opened = opened;
-      tells_opening = opening.timed;
+      reports_opening = opening.timed;
       first = runs.first;
       between = runs.between;
-      tells = runs.tells;
+      reports = runs.reports;
       turns = so.turns;
       are = so.are;
       stand = so.stands.books;

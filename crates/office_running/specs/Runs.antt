@@ -1,7 +1,7 @@
 -- The definition of a run of `sunreg run`: which events and requests the office processes, and at
 -- which timestamps.
 use Rattle.std.specs.Prelude.{◌≡◌, ◌⊎◌, ℕ, max, List, [], ◌∷◌, ◌++◌, length, Option}
-use Rattle.socket_link.specs.Clocks.{TellsMoment}
+use Rattle.socket_link.specs.Clocks.{ReportsMoment}
 use Rattle.office_events.specs.declared.commands.Command.{Command}
 use Rattle.office_events.specs.declared.commands.Command.TheVariants as command
 use Rattle.office_events.specs.declared.events.Event.{Event}
@@ -89,21 +89,21 @@ pub record Goes {B : Type 0} (names : List (List ℕ)) (at : ℕ) (ledger : B �
 -- The clock was read once. `latest` is the later of the time that the clock returned and the
 -- earlier latest timestamp.
 pub record ReadsClock (before latest : ℕ) (begun now : Option (List ℕ)) : Type 0 where
-  pub told : ℕ
-  pub tells : TellsMoment begun now told
-  pub is_latest : latest ≡ max before told
+  pub reported : ℕ
+  pub reports : ReportsMoment begun now reported
+  pub is_latest : latest ≡ max before reported
 
 -- A turn of the run's event loop: the time that the clock returned, and the steps of the turn, the
 -- latest step first.
 pub record Turn (names : List (List ℕ)) : Type 0 where
-  pub told : ℕ
+  pub reported : ℕ
   pub steps : List (Step names)
 
 -- The latest time that the clock has returned in a list of turns of the event loop. It is at least
 -- `first`, the timestamp before these turns.
 abbrev pub latest_of : {names : List (List ℕ)} → (first : ℕ) → List (Turn names) → ℕ
 latest_of first [] = first
-latest_of first (turn ∷ earlier) = max (latest_of first earlier) turn.told
+latest_of first (turn ∷ earlier) = max (latest_of first earlier) turn.reported
 
 -- The clock was read once in each turn of the event loop. All steps of a turn happened at the
 -- latest time that the clock had returned by this turn.
@@ -112,7 +112,7 @@ abbrev pub AreTurns : {names : List (List ℕ)} → (first : ℕ) → (begun now
 AreTurns first begun now [] = now ≡ begun
 AreTurns first begun now (turn ∷ earlier) =
     (between : Option (List ℕ)) × AreTurns first begun between earlier
-    × TellsMoment between now turn.told × AreAt (latest_of first (turn ∷ earlier)) turn.steps
+    × ReportsMoment between now turn.reported × AreAt (latest_of first (turn ∷ earlier)) turn.steps
 
 -- The steps of all turns of the event loop; the latest step is first.
 abbrev pub steps_of : {names : List (List ℕ)} → List (Turn names) → List (Step names)
@@ -151,7 +151,7 @@ pub record RunsOn {B : Type 0} (names : List (List ℕ)) (ledger : B → Ledger)
     (begun now : Option (List ℕ)) (old new : Office B) : Type 0 where
   pub first : ℕ
   pub between : Option (List ℕ)
-  pub tells : TellsMoment begun between first
+  pub reports : ReportsMoment begun between first
   pub turns : TurnsFrom names ledger first between now old new
 
 -- ---- A complete run, from the opening of the office to the end
@@ -162,10 +162,10 @@ pub record StandAfterOpening (names : List (List ℕ)) (begun now : Option (List
     (ledger : Ledger) (past : History) : Type 0 where
   pub at : ℕ
   pub opened : Option (List ℕ)
-  pub tells_opening : TellsMoment begun opened at
+  pub reports_opening : ReportsMoment begun opened at
   pub first : ℕ
   pub between : Option (List ℕ)
-  pub tells : TellsMoment opened between first
+  pub reports : ReportsMoment opened between first
   pub turns : List (Turn names)
   pub are : AreTurns first between now turns
   pub stand : BooksStand ledger (history_with (Opened at ∷ past) (steps_of turns))

@@ -53,8 +53,8 @@ pub(crate) fn read_clock<C: Clock>(
         (C.moments clock.old) (C.moments clock.new) }
     ensures moment { result ≡ steady.new.latest }
 {
-    let told = clock.now();
-    let reading = steady.read(told);
+    let reported = clock.now();
+    let reading = steady.read(reported);
     if let Some(seconds) = reading.set_back {
         voice.report_set_back(reading.moment, seconds);
     }

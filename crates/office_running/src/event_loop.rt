@@ -13,7 +13,7 @@ use crate::leftovers::{Left, print_left};
 use crate::outlet::Outlet;
 use crate::settings::{Settings, Site};
 use crate::voice::Voice;
-use http_peers::{EarlierFiles, HttpPort, KeptRoom, Now, PORT_TOKEN, RunTold};
+use http_peers::{EarlierFiles, HttpPort, KeptRoom, Now, PORT_TOKEN, RunReported};
 use interval_core::Zone;
 use mio::net::TcpListener;
 use mio::{Events, Interest, Poll, Registry, Token};
@@ -242,12 +242,13 @@ impl Running {
         let system = Watching::new(rt, !self.files.is_lost(rt));
         for step in 0..MOST_CLIENTS {
             let place = place_at(first, step);
-            let told = RunTold {
+            let reported = RunReported {
                 monitor: &self.voice.monitor,
                 lacks: &self.voice.lacks,
                 earlier: &*earlier,
             };
-            self.port.attend(&system, place, names, office, &told, now);
+            self.port
+                .attend(&system, place, names, office, &reported, now);
         }
     }
 

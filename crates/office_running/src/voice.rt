@@ -7,7 +7,7 @@ use office_rounds::Sum;
 use poll_core::Closing;
 use run_schedule::FileLoss;
 use run_status::{
-    DeviceLack, Lack, ReportedNumber, RunMonitor, Told, Topic, append_bytes, append_refusal,
+    DeviceLack, Lack, Reported, ReportedNumber, RunMonitor, Topic, append_bytes, append_refusal,
     write_head, write_held, write_lack, write_lines, write_number, write_sum,
 };
 use script_text::write_note;
@@ -43,7 +43,7 @@ pub(crate) struct Voice {
     verbose: bool,
     lines: Vec<u8>,
     said: Vec<u8>,
-    told: Told,
+    reported: Reported,
     /// Whether the run has already reported that it accepts no more commands.
     is_full: bool,
 }
@@ -116,7 +116,7 @@ impl Voice {
             verbose,
             lines: Vec::new(alloc),
             said: Vec::new(alloc),
-            told: Told::new(alloc),
+            reported: Reported::new(alloc),
             is_full: false,
         })
     }
@@ -129,7 +129,7 @@ impl Voice {
             Lack::NoList => Topic::Round,
             _ => return,
         };
-        let _told = self.told.report_once(ReportedNumber {
+        let _reported = self.reported.report_once(ReportedNumber {
             topic,
             name: lack.device,
             number: Refusal::NotFound.number(),
@@ -316,7 +316,7 @@ impl Voice {
     // Reports why an event of a device was refused, unless the last report on the device gave the
     // reason.
     fn say_refusal(&mut self, device: &Option<Name>, event: &Event, why: Refusal) {
-        let is_new = self.told.report_once(ReportedNumber {
+        let is_new = self.reported.report_once(ReportedNumber {
             topic: topic_of(event),
             name: *device,
             number: why.number(),
@@ -335,10 +335,10 @@ impl Voice {
         answer: Result<Answer, Refusal>,
     ) {
         match answer {
-            Ok(Answer::Started { .. }) => self.told.forget(Topic::Round, *device),
+            Ok(Answer::Started { .. }) => self.reported.forget(Topic::Round, *device),
             Ok(_) => {
                 if matches!(event, Event::Connected(_)) {
-                    self.told.forget(Topic::Connection, *device);
+                    self.reported.forget(Topic::Connection, *device);
                 }
             }
             Err(why) => self.say_refusal(device, event, why),
@@ -350,9 +350,9 @@ impl Voice {
     fn say_note(&mut self, note: &Note) {
         match note {
             Note::Outcome { .. } => {}
-            Note::Reading { meter, .. } => self.told.forget(Topic::Meter, Some(*meter)),
+            Note::Reading { meter, .. } => self.reported.forget(Topic::Meter, Some(*meter)),
             Note::Held { meter, cause, .. } => {
-                let is_new = self.told.report_once(ReportedNumber {
+                let is_new = self.reported.report_once(ReportedNumber {
                     topic: Topic::Meter,
                     name: Some(*meter),
                     number: cause.number(),

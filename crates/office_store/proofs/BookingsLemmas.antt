@@ -10,6 +10,6 @@ pub mod Finding
 pub mod Exchanging
 pub mod Later
 pub mod Left
-pub mod Told
+pub mod Reported
 pub mod VoidRecorded
 pub mod Voiding

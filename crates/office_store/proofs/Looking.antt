@@ -50,34 +50,34 @@ reads g old new n m zone answer count looks = record {
   keeps = keeps g old new n m zone looks;
 }
 
-told : {T : Type 0} (Says : T → Type 0) (found : Result T RowFault) → IfOk found Says → IfOk (answer_of found) Says
-told Says (Ok x) says = says
-told Says (Err e) says = tt
+reported : {T : Type 0} (Says : T → Type 0) (found : Result T RowFault) → IfOk found Says → IfOk (answer_of found) Says
+reported Says (Ok x) says = says
+reported Says (Err e) says = tt
 
-tells : {S T : Type 0} (g : Ghosts S) (old new : Held S) (n m : Failures) (zone : Zone) (Says : List Fact → T → Type 0)
+reports : {S T : Type 0} (g : Ghosts S) (old new : Held S) (n m : Failures) (zone : Zone) (Says : List Fact → T → Type 0)
     (found : Result T RowFault) (answer : Result T BooksFault) → answer ≡ answer_of found
     → ((text : List ℕ) (facts : List Fact) → HoldsFacts g text old facts → HasCleanDisk (state g new) → IfOk found (Says facts))
     → Finds (ledger_of g old n zone) (ledger_of g new m zone) answer Says
-tells {T = T} g old new n m zone Says found answer is says content h clean =
+reports {T = T} g old new n m zone Says found answer is says content h clean =
     let P : Result T BooksFault → Type 0 = λ a. IfOk a (Says content) in
-    subst P (sym is) (told (Says content) found (says h.zone content h.holds clean))
+    subst P (sym is) (reported (Says content) found (says h.zone content h.holds clean))
 
 -- If a query on the store's tables returns an answer, the store returns the same answer.
 pub finds : {S T : Type 0} {Says : List Fact → T → Type 0} {AreSound : List Fact → Type 0} (g : Ghosts S) (old new : Held S) (n m : Failures) (zone : Zone)
     (found : Result T RowFault) (answer : Result T BooksFault) → answer ≡ answer_of found
     → finding.Finds g old new found Says AreSound → Finds (ledger_of g old n zone) (ledger_of g new m zone) answer Says
-finds {Says = Says} g old new n m zone found answer is it = tells g old new n m zone Says found answer is it.answer
+finds {Says = Says} g old new n m zone found answer is it = reports g old new n m zone Says found answer is it.answer
 
 -- If every answer of a query has a property, the answer that the store returns has the property.
 pub sound : {T : Type 0} (Says : T → Type 0) (found : Result T RowFault) (answer : Result T BooksFault) → answer ≡ answer_of found
     → IfOk found Says → IfOk answer Says
 sound {T} Says found answer is says =
     let P : Result T BooksFault → Type 0 = λ a. IfOk a Says in
-    subst P (sym is) (told Says found says)
+    subst P (sym is) (reported Says found says)
 
-told_on : (Q : Type 0) (found : Result (Unit {0}) RowFault) → OnOk found Q → OnOk (answer_of found) Q
-told_on Q (Ok x) q = q
-told_on Q (Err e) q = tt
+reported_on : (Q : Type 0) (found : Result (Unit {0}) RowFault) → OnOk found Q → OnOk (answer_of found) Q
+reported_on Q (Ok x) q = q
+reported_on Q (Err e) q = tt
 
 -- If a query on the store's tables streams rows to a sink, the store's stream passes the same rows
 -- to the sink.
@@ -89,6 +89,6 @@ hands_on g old new n m zone takes before after rows found answer is hands = reco
   begun = λ content h clean. hands.begun h.zone content h.holds clean;
   whole = λ content h clean.
       let P : Result (Unit {0}) BooksFault → Type 0 = λ a. OnOk a (TakesAll takes before (rows content) after) in
-      subst P (sym is) (told_on (TakesAll takes before (rows content) after) found (hands.whole h.zone content h.holds clean));
+      subst P (sym is) (reported_on (TakesAll takes before (rows content) after) found (hands.whole h.zone content h.holds clean));
   some = (hands.some.0, hands.some.2);
 }

@@ -9,10 +9,10 @@ use Rattle.office_store.specs.declared.books.SqlBooks.{SqlBooks}
 use Rattle.office_store.specs.declared.books.Unopened.{Unopened}
 
 -- The time zone of the store, or the fault, from the result of creating or opening the store.
-abbrev pub told_by : {S : Type 0} {g : Ghosts S} → Result (SqlBooks S g) (Unopened S)
+abbrev pub reported_by : {S : Type 0} {g : Ghosts S} → Result (SqlBooks S g) (Unopened S)
     → Result Zone OpenFault
-told_by (Ok books) = Ok books.zone
-told_by (Err unopened) = Err unopened.fault
+reported_by (Ok books) = Ok books.zone
+reported_by (Err unopened) = Err unopened.fault
 
 -- The connection of the store, or the connection that is returned with a fault.
 abbrev pub connection_in : {S : Type 0} {g : Ghosts S} → Result (SqlBooks S g) (Unopened S) → Held S

@@ -9,10 +9,10 @@ ghost use Rattle.store_files.specs.declared.layouts.Layout.{Layout as TheLayout}
 ghost use Rattle.store_files.specs.Upgrade.{OpensAnyFile};
 ghost use Rattle.store_files.specs.Layouts.{no_schema, IsNamedAs};
 ghost use Rattle.store_files.specs.NewFile.{Makes};
-ghost use Rattle.store_files.specs.OpenedFile.{TellsOfFile};
+ghost use Rattle.store_files.specs.OpenedFile.{ReportsOfFile};
 ghost use Rattle.store_files.specs.Zones.{IsZone};
 ghost use Rattle.office_books.specs.Faults.{no_failures};
-ghost use Rattle.office_store.specs.Made.{HandsBackUntouched, connection_in, told_by};
+ghost use Rattle.office_store.specs.Made.{HandsBackUntouched, connection_in, reported_by};
 ghost use Rattle.office_store.specs.Database.{HasFile, HoldsAlone, KeepsFile};
 
 use crate::books::{SqlBooks, Unopened};
@@ -33,10 +33,10 @@ impl<S: Alter> SqlBooks<S> {
         connection: Connection<S>,
         zone: &str,
     ) -> Result<SqlBooks<S>, Unopened<S>>
-        ensures busy { IsTrue connection.in_transaction → told_by result ≡ Err OpenFault.NotOurs }
-        ensures others { connection.schema ≢ no_schema → told_by result ≡ Err OpenFault.NotOurs }
+        ensures busy { IsTrue connection.in_transaction → reported_by result ≡ Err OpenFault.NotOurs }
+        ensures others { connection.schema ≢ no_schema → reported_by result ≡ Err OpenFault.NotOurs }
         ensures no_zone { connection.in_transaction ≡ false → connection.schema ≡ no_schema
-            → ¬ IsZone zone.now → told_by result ≡ Err OpenFault.Zone }
+            → ¬ IsZone zone.now → reported_by result ≡ Err OpenFault.Zone }
         ensures ours { connection.in_transaction ≡ false → connection.schema ≡ no_schema
             → IsZone zone.now
             → IfErr result (λ e. (e.fault ≡ OpenFault.Store) ⊎ (e.fault ≡ OpenFault.Memory)) }
@@ -45,7 +45,7 @@ impl<S: Alter> SqlBooks<S> {
         ensures failures { IfOk result (λ books. books.failures ≡ no_failures) }
         ensures none { IfOk result (λ books. HoldsAlone S.Store zone.now books.connection []) }
         ensures does { TransactsTo (state S.Store connection)
-            (state S.Store (connection_in result)) (told_by result) (Makes zone.now) }
+            (state S.Store (connection_in result)) (reported_by result) (Makes zone.now) }
     {
         new_files_have_none();
         let mut connection = connection;
@@ -69,18 +69,18 @@ impl<S: Alter> SqlBooks<S> {
     /// order. `Zone` if the file's zone is invalid.
     pub fn open(alloc: Global, connection: Connection<S>) -> Result<SqlBooks<S>, Unopened<S>>
         ensures busy { IsTrue connection.in_transaction
-            → (told_by result ≡ Err OpenFault.NotOurs) × (connection_in result ≡ connection) }
+            → (reported_by result ≡ Err OpenFault.NotOurs) × (connection_in result ≡ connection) }
         ensures foreign { ((layout : TheLayout) → ¬ IsNamedAs connection.schema layout)
-            → (told_by result ≡ Err OpenFault.NotOurs) × (connection_in result ≡ connection) }
+            → (reported_by result ≡ Err OpenFault.NotOurs) × (connection_in result ≡ connection) }
         ensures clean { HasCleanDisk (state S.Store (connection_in result))
             → HasCleanDisk (state S.Store connection) }
         ensures failures { IfOk result (λ books. books.failures ≡ no_failures) }
-        ensures told { let to = state S.Store (connection_in result) in HasCleanDisk to
+        ensures reported { let to = state S.Store (connection_in result) in HasCleanDisk to
             → connection.in_transaction ≡ false → IsTrue (state S.Store connection).is_open
-            → TellsOfFile (state S.Store connection) to (told_by result) }
+            → ReportsOfFile (state S.Store connection) to (reported_by result) }
         ensures opened { HasCleanDisk (state S.Store (connection_in result))
             → OpensAnyFile (state S.Store connection) (state S.Store (connection_in result))
-            (told_by result) }
+            (reported_by result) }
         ensures again { (zone : List ℕ) (facts : List Fact) → HasFile S.Store zone connection facts
             → IfOk result (λ books. HoldsAlone S.Store zone books.connection facts) }
         ensures yet { (zone : List ℕ) (facts : List Fact) → HasFile S.Store zone connection facts

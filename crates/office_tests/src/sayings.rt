@@ -1,6 +1,6 @@
 //! Tests messages that are printed only once, and log lines that no reader reads.
 use office_events::Name;
-use run_status::{LineQueue, ReportedNumber, Told, Topic};
+use run_status::{LineQueue, Reported, ReportedNumber, Topic};
 
 fn refused(name: &[u8], number: u8) -> ReportedNumber {
     ReportedNumber {
@@ -22,7 +22,7 @@ fn held(name: &[u8], number: u8) -> ReportedNumber {
 /// forgotten, the refusal is reported again.
 #[test]
 fn a_number_is_reported_once_until_it_changes(rt: HostRuntime) {
-    let mut told = Told::new(rt.alloc());
+    let mut reported = Reported::new(rt.alloc());
     let cases = [
         (refused(b"inv", 1), true),
         (refused(b"inv", 1), false),
@@ -32,12 +32,12 @@ fn a_number_is_reported_once_until_it_changes(rt: HostRuntime) {
         (refused(b"inv", 1), true),
         (held(b"inv", 1), false),
     ];
-    for (number, is_told) in cases {
-        assert!(rt; told.report_once(number) == is_told);
+    for (number, is_reported) in cases {
+        assert!(rt; reported.report_once(number) == is_reported);
     }
-    told.forget(Topic::Round, Name::new(b"inv"));
-    assert!(rt; told.report_once(refused(b"inv", 1)));
-    assert!(rt; !told.report_once(refused(b"two", 1)));
+    reported.forget(Topic::Round, Name::new(b"inv"));
+    assert!(rt; reported.report_once(refused(b"inv", 1)));
+    assert!(rt; !reported.report_once(refused(b"two", 1)));
 }
 
 const FIRST: &[u8] = b"one\ntwo\n";

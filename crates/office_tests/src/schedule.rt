@@ -54,10 +54,10 @@ fn a_clock_that_is_set_back_is_reported_once(rt: HostRuntime) {
         (1002, 1002, None),
         (1000, 1002, Some(2)),
     ];
-    for (now, moment, told) in cases {
+    for (now, moment, reported) in cases {
         let reading = steady_clock.read(now);
         assert!(rt; reading.moment == moment);
-        assert!(rt; reading.set_back == told);
+        assert!(rt; reading.set_back == reported);
         assert!(rt; reading.ahead_from == None);
     }
 }

@@ -38,13 +38,13 @@ last-or-below : (k n : ℕ) → k < suc n → (k ≡ n) ⊎ (k < n)
 last-or-below k n h = elim (cases_Bool (k == n)) [ inl same ↦ inl (grind (arith, same)) | inr other ↦ inr (grind (arith, other, h)) ]
 
 -- If no row is reported as faulty, no row has a fault.
-pub none-told : (rows : List (List (List ℕ))) (n : ℕ) → faulty_rows 2 (row_faults rows n) ≡ [] → (k : ℕ) → k < n → row_fault rows k ≡ None
-none-told rows zero h k below = absurd (omega (arith, below))
-none-told rows (suc n) h k below =
+pub none-reported : (rows : List (List (List ℕ))) (n : ℕ) → faulty_rows 2 (row_faults rows n) ≡ [] → (k : ℕ) → k < n → row_fault rows k ≡ None
+none-reported rows zero h k below = absurd (omega (arith, below))
+none-reported rows (suc n) h k below =
     let both = nil-both (faulty_rows 2 (row_faults rows n)) (faulty_rows (2 + length (row_faults rows n)) (row_fault rows n ∷ [])) (sym (faulty-push 2 (row_faults rows n) (row_fault rows n)) ∙ h) in
     elim (last-or-below k n below) [
       | inl same ↦ rw same (one-none (2 + length (row_faults rows n)) (row_fault rows n) both.1)
-      | inr less ↦ none-told rows n both.0 k less
+      | inr less ↦ none-reported rows n both.0 k less
     ]
 
 pub none-lacking : (row : ℕ) (f : ListedPoint → Option RowFault) (points : List ListedPoint) → faulty_rows row (map f points) ≡ [] → All (λ point. f point ≡ None) points
@@ -169,9 +169,9 @@ lawful rows points none each scaled =
     }
 
 -- If no row below the header is reported as faulty, no row has a fault.
-pub none-below : (rows : List (List (List ℕ))) (n : ℕ) (told : List FaultyRow) → length rows ≡ n → told ≡ faulty_rows 2 (row_faults rows n) → told ≡ []
+pub none-below : (rows : List (List (List ℕ))) (n : ℕ) (reported : List FaultyRow) → length rows ≡ n → reported ≡ faulty_rows 2 (row_faults rows n) → reported ≡ []
     → (k : ℕ) → k < length rows → row_fault rows k ≡ None
-none-below rows n told size is none k below = none-told rows n (sym is ∙ none) k (omega (arith, below, size))
+none-below rows n reported size is none k below = none-reported rows n (sym is ∙ none) k (omega (arith, below, size))
 
 -- Each row without a fault encodes a point.
 pub faultless-each : (rows : List (List (List ℕ))) → ((k : ℕ) → k < length rows → row_fault rows k ≡ None) → SpellEach rows (points_of rows)
@@ -190,24 +190,24 @@ faultless-lawful rows none scaled =
     (none-lacking 2 (λ point. scale_fault (points_of rows) point point.scale) (points_of rows) scaled)
 
 -- If no row has another fault, the faulty rows are those with a faulty scale.
-pub below-faults : (rows : List (List (List ℕ))) (n : ℕ) (told : List FaultyRow) → length rows ≡ n → told ≡ faulty_rows 2 (row_faults rows n) → told ≡ []
+pub below-faults : (rows : List (List (List ℕ))) (n : ℕ) (reported : List FaultyRow) → length rows ≡ n → reported ≡ faulty_rows 2 (row_faults rows n) → reported ≡ []
     → faults_below rows ≡ faulty_rows 2 (scale_faults (points_of rows) (points_of rows))
-below-faults rows n told size is none =
+below-faults rows n reported size is none =
     let nothing : faulty_rows 2 (row_faults rows (length rows)) ≡ [] = ap (λ (k : ℕ). faulty_rows 2 (row_faults rows k)) size ∙ sym is ∙ none in
     ap (λ (faults : List FaultyRow). or_else faults (faulty_rows 2 (scale_faults (points_of rows) (points_of rows)))) nothing
 
 -- A list built from the points of rows is the list that the rows encode.
-pub below-list : (rows : List (List (List ℕ))) (n : ℕ) (told : List FaultyRow) (points : List ListedPoint) (result : Result (List ListedPoint) ListFault) → length rows ≡ n
-    → told ≡ faulty_rows 2 (row_faults rows n) → told ≡ [] → points ≡ points_of rows
+pub below-list : (rows : List (List (List ℕ))) (n : ℕ) (reported : List FaultyRow) (points : List ListedPoint) (result : Result (List ListedPoint) ListFault) → length rows ≡ n
+    → reported ≡ faulty_rows 2 (row_faults rows n) → reported ≡ [] → points ≡ points_of rows
     → IfOk result (λ list. (list ≡ points) × (faulty_rows 2 (scale_faults points points) ≡ [])) → IfErr result (ExplainsList (faulty_rows 2 (scale_faults points points)))
     → (IfOk result (λ list. (faults_below rows ≡ []) × SpellEach rows list)) × IfErr result (ExplainsList (faults_below rows))
-below-list rows n told points (Ok list) size is none same ok err =
-    let each = faultless-each rows (none-below rows n told size is none) in
+below-list rows n reported points (Ok list) size is none same ok err =
+    let each = faultless-each rows (none-below rows n reported size is none) in
     let scaled : faulty_rows 2 (scale_faults (points_of rows) (points_of rows)) ≡ [] = subst (λ (ps : List ListedPoint). faulty_rows 2 (scale_faults ps ps) ≡ []) same ok.1 in
-    ((below-faults rows n told size is none ∙ scaled, subst (λ (ps : List ListedPoint). SpellEach rows ps) (sym same ∙ sym ok.0) each), tt)
-below-list rows n told points (Err fault) size is none same ok err =
+    ((below-faults rows n reported size is none ∙ scaled, subst (λ (ps : List ListedPoint). SpellEach rows ps) (sym same ∙ sym ok.0) each), tt)
+below-list rows n reported points (Err fault) size is none same ok err =
     let scaled : faulty_rows 2 (scale_faults points points) ≡ faults_below rows =
-    ap (λ (ps : List ListedPoint). faulty_rows 2 (scale_faults ps ps)) same ∙ sym (below-faults rows n told size is none) in
+    ap (λ (ps : List ListedPoint). faulty_rows 2 (scale_faults ps ps)) same ∙ sym (below-faults rows n reported size is none) in
     (tt, subst (λ (faults : List FaultyRow). ExplainsList faults fault) scaled err)
 
 -- A `Vec` of length 0 has no items.

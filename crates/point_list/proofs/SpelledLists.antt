@@ -6,7 +6,7 @@ use Rattle.point_list.specs.declared.point.ListedPoint.{ListedPoint}
 use Rattle.point_list.specs.Laws.{FaultlessTextsSpell, SpelledListIsOne, SpelledListsAreLawful}
 use Rattle.point_list.specs.Lists.{SpellsList, faults_below, faulty_rows, is_header, list_faults, points_of, row_faults, rows_read, scale_faults}
 use Rattle.point_list.specs.Points.{IsPointList}
-use Rattle.point_list.proofs.FaultlessLists.{faultless-each, faultless-lawful, none-told}
+use Rattle.point_list.proofs.FaultlessLists.{faultless-each, faultless-lawful, none-reported}
 use Rattle.point_list.proofs.TextLemmas.{first-nil, second-nil, spells-list}
 
 -- The point list that a text without faulty rows encodes, which is valid.
@@ -18,7 +18,7 @@ record Spelled (text : List ℕ) : Type 0 where
 below : (text : List ℕ) (header : List (List ℕ)) (rows : List (List (List ℕ))) → header ∷ rows ≡ rows_read text → is_header header ≡ true → faults_below rows ≡ [] → Spelled text
 below text header rows read headed none =
     let first : faulty_rows 2 (row_faults rows (length rows)) ≡ [] = first-nil (faulty_rows 2 (row_faults rows (length rows))) (faulty_rows 2 (scale_faults (points_of rows) (points_of rows))) none in
-    let quiet = none-told rows (length rows) first in
+    let quiet = none-reported rows (length rows) first in
     record {
       points = points_of rows;
       spells = spells-list text header rows (points_of rows) read headed none (faultless-each rows quiet);

@@ -6,7 +6,7 @@ use Rattle.point_list.specs.declared.fault.FaultyRow.{FaultyRow}
 use Rattle.point_list.specs.declared.point.ListedPoint.{ListedPoint}
 use Rattle.point_list.specs.Lists.{SpellEach, SpellsList, faults_below, faulty_rows, is_header, list_faults, or_else, points_of, row_faults, rows_read, scale_faults}
 use Rattle.point_list.specs.Rows.{csv_rows}
-use Rattle.point_list.proofs.FaultlessLists.{faultless-each, faultless-few, as-many, none-told}
+use Rattle.point_list.proofs.FaultlessLists.{faultless-each, faultless-few, as-many, none-reported}
 
 pub length-taken : {X : Type 0} (n : ℕ) (xs : List X) → length (take n xs) ≡ min n (length xs)
 length-taken n xs = grind (arith, common_steps)
@@ -37,7 +37,7 @@ pub spells-list : (text : List ℕ) (header : List (List ℕ)) (rows : List (Lis
 spells-list text header rows points read headed none each =
     let nothing : faulty_rows 2 (row_faults rows (length rows)) ≡ [] =
     first-nil (faulty_rows 2 (row_faults rows (length rows))) (faulty_rows 2 (scale_faults (points_of rows) (points_of rows))) none in
-    let quiet = none-told rows (length rows) nothing in
+    let quiet = none-reported rows (length rows) nothing in
     let few = faultless-few rows quiet in
     let size = as-many rows (points_of rows) (faultless-each rows quiet) in
     let all : csv_rows text ≡ header ∷ rows = all-read (csv_rows text) (header ∷ rows) (sym read) (omega (arith, few, size)) in

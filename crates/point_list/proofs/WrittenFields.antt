@@ -27,8 +27,8 @@ and-both : (a b : Bool) → (a && b) ≡ true → (a ≡ true) × (b ≡ true)
 and-both true b h = (refl, h)
 and-both false b h = absurd (cc h)
 
-tells-digits : IsDigitsTest (λ ds. list_all is_ascii_digit ds ≡ true)
-tells-digits = record {
+reports-digits : IsDigitsTest (λ ds. list_all is_ascii_digit ds ≡ true)
+reports-digits = record {
   empty = refl;
   parts = λ c cs h. let k = and-both (is_ascii_digit c) (list_all is_ascii_digit cs) h in let m = and-both (nat_le 48 c) (nat_le c 57) k.0 in ((grind (arith, m.0), grind (arith, m.1)), k.1);
   more = λ c cs k h. let low : nat_le 48 c ≡ true = grind (arith, k.0) in let high : nat_le c 57 ≡ true = grind (arith, k.1) in rw (low, high) h;
@@ -43,7 +43,7 @@ folds-digits = record {
 }
 
 pub numerals : IsNumeralModel (λ ds. list_all is_ascii_digit ds ≡ true) digits_value
-numerals = numerals_by_fold (λ ds. list_all is_ascii_digit ds ≡ true) tells-digits (λ n digits. fold (λ n digit. 10 * n + (digit - 48)) n digits) folds-digits
+numerals = numerals_by_fold (λ ds. list_all is_ascii_digit ds ≡ true) reports-digits (λ n digits. fold (λ n digit. 10 * n + (digit - 48)) n digits) folds-digits
 
 number-if : (field : List ℕ) (n : ℕ) → 1 ≤ length field → length field ≤ 10 → list_all is_ascii_digit field ≡ true → digits_value field ≡ n → number_of field ≡ Some n
 number-if field n some few digits value =

@@ -169,16 +169,16 @@ pub record SpellsList (text : List ℕ) (points : List ListedPoint) : Type 0 whe
 
 -- True if the reported faulty rows are exactly the faulty rows of the text, and at least one.
 abbrev pub AreFaults : List FaultyRow → List FaultyRow → Type 0
-AreFaults faulty told = (told ≡ faulty) × (told ≢ [])
+AreFaults faulty reported = (reported ≡ faulty) × (reported ≢ [])
 
 -- True if this fault explains why a text with these faulty rows is no point list. Lack of memory
 -- may occur with any text.
 abbrev pub ExplainsList : List FaultyRow → ListFault → Type 0
 ExplainsList faulty Memory = Unit {0}
-ExplainsList faulty (Faults told) = AreFaults faulty told
+ExplainsList faulty (Faults reported) = AreFaults faulty reported
 
 -- The number that the program prints for a fault. `Faults` has no number, because each faulty row
 -- is printed with its own number.
 abbrev pub list_fault_number : ListFault → Option ℕ
 list_fault_number Memory = Some 13
-list_fault_number (Faults told) = None
+list_fault_number (Faults reported) = None

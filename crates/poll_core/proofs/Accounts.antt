@@ -28,9 +28,9 @@ pub each_number : (t : ℕ) (es : List Event) → IsPermutation (numbers_started
 unfolding pending
 each_number t es =
     let rs = results t [] es in
-    let told = IsPermutation-map (λ (o : ℕ × Settlement). o.0) (outcomes_by_poll t es) (outcomes_by_event t es) (outcomes_agree t es) in
+    let reported = IsPermutation-map (λ (o : ℕ × Settlement). o.0) (outcomes_by_poll t es) (outcomes_by_event t es) (outcomes_agree t es) in
     IsPermutation-trans _ _ _ (same_is _ _ (sym (numbers_started-is t [] es)))
-    (IsPermutation-trans _ _ _ (parts rs) (IsPermutation-append _ _ _ _ told (IsPermutation-refl (map number (waiting rs)))))
+    (IsPermutation-trans _ _ _ (parts rs) (IsPermutation-append _ _ _ _ reported (IsPermutation-refl (map number (waiting rs)))))
 
 -- True if one of the events started the poll, and the later events give the poll's outcome.
 record Comes (t : ℕ) (es : List Event) (r : Poll × Option Settlement) : Type 0 where

@@ -9,7 +9,7 @@ use Rattle.mb_wire.specs.Frames.{is_garbled}
 use Rattle.poll_core.proofs.Agreement.{outcomes_at-start}
 use Rattle.poll_core.proofs.Pending.{pending-push, pending-other, results-push, extend, untouched, waiting}
 use Rattle.poll_core.proofs.Readiness.{over_fault}
-use Rattle.poll_core.proofs.Settles.{outcomes_at-other, told_at, told_at-none, if_going-none, is_closed-push, is_over-same, or_false}
+use Rattle.poll_core.proofs.Settles.{outcomes_at-other, reported_at, reported_at-none, if_going-none, is_closed-push, is_over-same, or_false}
 use Rattle.poll_core.proofs.Streams.{stream-push}
 use Rattle.poll_core.specs.Laws.{Accepts, AcceptsAll, with_event, new_result}
 use Rattle.poll_core.specs.Polls.{Poll}
@@ -33,14 +33,14 @@ pub results_more : (t : ℕ) (es : List Event) (e : Event) → results t [] (es 
 results_more t es e = results-push t [] es e ∙ ap (λ x. map (extend es e) (results t [] es) ++ x) (new_is (es ++ e ∷ []) (started t es e))
 
 -- An event completes no poll if none is pending.
-pub nobody_told : (t : ℕ) (es : List Event) (e : Event) → pending t es ≡ [] → outcomes_at t es e ≡ []
-nobody_told t es e none =
+pub nobody_reported : (t : ℕ) (es : List Event) (e : Event) → pending t es ≡ [] → outcomes_at t es e ≡ []
+nobody_reported t es e none =
     elim (cases_Bool (is_start e)) [
       | inl start ↦ outcomes_at-start t es e start
       | inr other ↦
           outcomes_at-other t es e other
-          ∙ ap (λ ps. told_at (moment_of e) ps (frames_at es e) (ending_at es e)) none
-          ∙ told_at-none (moment_of e) (frames_at es e) (ending_at es e)
+          ∙ ap (λ ps. reported_at (moment_of e) ps (frames_at es e) (ending_at es e)) none
+          ∙ reported_at-none (moment_of e) (frames_at es e) (ending_at es e)
     ]
 
 if_over : (x : Option LostCause) (ps : List Poll) → is_some x ≡ true → if_going x ps ≡ []
@@ -108,4 +108,4 @@ pub over_nobody : (t w : ℕ) (es : List Event) → AcceptsAll t w [] es → is_
 over_nobody t w es accepted = none_after t w [] es accepted (λ _. pending-nil t)
 
 pub over_nothing : (t w : ℕ) (es : List Event) (e : Event) → AcceptsAll t w [] es → is_over es ≡ true → outcomes_at t es e ≡ []
-over_nothing t w es e accepted over = nobody_told t es e (over_nobody t w es accepted over)
+over_nothing t w es e accepted over = nobody_reported t es e (over_nobody t w es accepted over)

@@ -86,11 +86,11 @@ by_frames (f ∷ fs) x ps =
     let others = filter (λ p. not (is_for p f)) ps in
     let first : IsPermutation (give (framed (f ∷ fs) x) ps) (give (λ p. Some (answer p f)) here ++ give (framed fs x) others) =
     parted t (framed (f ∷ fs) x) (λ p. Some (answer p f)) (framed fs x) (λ p. answer p f) (λ p. framed_cons (is_for p f) f (find (is_for p) fs) x p) (λ p. refl) ps in
-    let told = map (λ (p : Poll). (p.number, answer p f)) here in
-    let later : IsPermutation (give (λ p. Some (answer p f)) here ++ give (framed fs x) others) (told ++ (by_frame fs others ++ losses x (unmatched fs others))) =
+    let reported = map (λ (p : Poll). (p.number, answer p f)) here in
+    let later : IsPermutation (give (λ p. Some (answer p f)) here ++ give (framed fs x) others) (reported ++ (by_frame fs others ++ losses x (unmatched fs others))) =
     IsPermutation-append _ _ _ _ (same_is _ _ (give_all (λ p. answer p f) here)) (by_frames fs x others) in
-    let same : told ++ (by_frame fs others ++ losses x (unmatched fs others)) ≡ (told ++ by_frame fs others) ++ losses x (unmatched (f ∷ fs) ps) =
-    sym (append_assoc told (by_frame fs others) (losses x (unmatched fs others))) ∙ ap (λ y. (told ++ by_frame fs others) ++ losses x y) (sym (unmatched-cons f fs ps)) in
+    let same : reported ++ (by_frame fs others ++ losses x (unmatched fs others)) ≡ (reported ++ by_frame fs others) ++ losses x (unmatched (f ∷ fs) ps) =
+    sym (append_assoc reported (by_frame fs others) (losses x (unmatched fs others))) ∙ ap (λ y. (reported ++ by_frame fs others) ++ losses x y) (sym (unmatched-cons f fs ps)) in
     IsPermutation-trans _ _ _ first (IsPermutation-trans _ _ _ later (same_is _ _ same))
 
 -- The numbers and outcomes of the polls in the list that the event completes.

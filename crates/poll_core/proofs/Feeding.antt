@@ -7,14 +7,14 @@ use Rattle.std.proofs.lemmas.List.Elements.{filter_agree}
 use Rattle.std.proofs.lemmas.Bool.{eq-eqb, ne_eqb}
 use Rattle.mb_wire.specs.Frames.{Reads, IsOwn, tid_of}
 use Rattle.std.specs.Option.{option_map}
-use Rattle.mb_wire.specs.Reader.{Buffered, Fields, fields_of, TellsFraming, buffered_after, ended}
+use Rattle.mb_wire.specs.Reader.{Buffered, Fields, fields_of, ReportsFraming, buffered_after, ended}
 use Rattle.mb_wire.specs.declared.frames.Framing.{Framing}
 use Rattle.mb_wire.specs.declared.frames.Framing.TheVariants.{Need, Whole, Foreign, Garbled}
 use Rattle.poll_core.proofs.Filters.{filter-none, filter-all}
 use Rattle.poll_core.proofs.Frames.{unmatched-nil, unmatched-cons, unmatched-append, by_frame-append}
 use Rattle.poll_core.proofs.Taking.{none_passes}
 use Rattle.poll_core.specs.Settling.{by_frame, unmatched, answer, is_for}
-use Rattle.poll_core.specs.Steps.{AreApart, TakesOut, FeedsOn, Finds, FindsBy, told_list}
+use Rattle.poll_core.specs.Steps.{AreApart, TakesOut, FeedsOn, Finds, FindsBy, reported_list}
 use Rattle.poll_core.specs.Polls.{Poll, has_id}
 
 and_true : (b c : Bool) → c ≡ true → (b && c) ≡ b
@@ -76,7 +76,7 @@ Finds-nothing a buffered ps e =
           let Q : List (List ℕ) → Type 0 = λ y. Reads bytes y buffered.rest in
           let R : List ℕ → Type 0 = λ y. Reads bytes before y in
           subst P (sym (append-nil bytes)) (subst Q (sym (append-nil before)) (subst R (sym e) h));
-      told = refl;
+      reported = refl;
       others_are = unmatched-nil ps;
     }
 
@@ -86,11 +86,11 @@ Finds-then a p q mid buffered ps qs o first second =
     record {
       ended = first.ended ++ second.ended;
       feeds = FeedsOn-then a p mid.rest q buffered.rest first.ended second.ended first.feeds second.feeds;
-      told =
+      reported =
           by_frame-append first.ended second.ended ps
-          ∙ ap (λ x. x ++ by_frame second.ended (unmatched first.ended ps)) first.told
+          ∙ ap (λ x. x ++ by_frame second.ended (unmatched first.ended ps)) first.reported
           ∙ ap (by_frame second.ended) first.others_are
-          ∙ second.told;
+          ∙ second.reported;
       others_are = unmatched-append first.ended second.ended ps ∙ ap (unmatched second.ended) first.others_are ∙ second.others_are;
     }
 
@@ -123,7 +123,7 @@ goes_on old piece at n ps qs o mid buffered strays more =
     subst P (sym (piece-more at n piece)) (Finds-then old (take at piece) (take n (slice_at at piece)) mid buffered ps qs o strays.none more)
 
 quiet : (a q : List ℕ) (buffered : Buffered) (ps : List Poll) → FeedsOn a q [] buffered.rest → Finds a q ps None buffered ps
-quiet a q buffered ps h = record { ended = []; feeds = h; told = refl; others_are = unmatched-nil ps }
+quiet a q buffered ps h = record { ended = []; feeds = h; reported = refl; others_are = unmatched-nil ps }
 
 pub goes_quietly : (what : Framing) (old piece : List ℕ) (at n : ℕ) (ps : List Poll) (mid buffered : Buffered) (f : List ℕ) → (what ≡ Need) ⊎ (what ≡ Garbled) → Strays old piece at ps mid → FeedsOn mid.rest (take n (slice_at at piece)) (ended what f) buffered.rest → Finds old (take (at + n) piece) ps None buffered ps
 goes_quietly what old piece at n ps mid buffered f (inl e) strays h =
@@ -133,24 +133,24 @@ goes_quietly what old piece at n ps mid buffered f (inr e) strays h =
     let P : Framing → Type 0 = λ w. FeedsOn mid.rest (take n (slice_at at piece)) (ended w f) buffered.rest in
     goes_on old piece at n ps ps None mid buffered strays (quiet _ _ buffered ps (subst P e h))
 
-pub goes_past : (what : Framing) (old piece : List ℕ) (at n : ℕ) (ps : List Poll) (mid buffered : Buffered) (f : List ℕ) → what ≡ Foreign → Strays old piece at ps mid → FeedsOn mid.rest (take n (slice_at at piece)) (ended what f) buffered.rest → TellsFraming what f → Finds old (take (at + n) piece) ps None buffered ps
-goes_past what old piece at n ps mid buffered f e strays h tells =
+pub goes_past : (what : Framing) (old piece : List ℕ) (at n : ℕ) (ps : List Poll) (mid buffered : Buffered) (f : List ℕ) → what ≡ Foreign → Strays old piece at ps mid → FeedsOn mid.rest (take n (slice_at at piece)) (ended what f) buffered.rest → ReportsFraming what f → Finds old (take (at + n) piece) ps None buffered ps
+goes_past what old piece at n ps mid buffered f e strays h reports =
     let P : Framing → Type 0 = λ w. FeedsOn mid.rest (take n (slice_at at piece)) (ended w f) buffered.rest in
-    let Q : Framing → Type 0 = λ w. TellsFraming w f in
-    let foreign = subst Q e tells in
+    let Q : Framing → Type 0 = λ w. ReportsFraming w f in
+    let foreign = subst Q e reports in
     let by = FindsBy-foreign f ps foreign.1 in
     goes_on old piece at n ps ps None mid buffered strays
-    record { ended = f ∷ []; feeds = subst P e h; told = by.0; others_are = by.1 }
+    record { ended = f ∷ []; feeds = subst P e h; reported = by.0; others_are = by.1 }
 
-pub goes_framed : (what : Framing) (old piece : List ℕ) (at n : ℕ) (ps qs : List Poll) (o : Option Poll) (mid buffered : Buffered) (f : List ℕ) → what ≡ Whole → Strays old piece at ps mid → FeedsOn mid.rest (take n (slice_at at piece)) (ended what f) buffered.rest → TellsFraming what f → buffered ≡ buffered_after what f → ((g : List ℕ) → buffered.frame ≡ Some g → IsOwn g → FindsBy g ps o qs) → Finds old (take (at + n) piece) ps o buffered qs
-goes_framed what old piece at n ps qs o mid buffered f e strays h tells after found =
+pub goes_framed : (what : Framing) (old piece : List ℕ) (at n : ℕ) (ps qs : List Poll) (o : Option Poll) (mid buffered : Buffered) (f : List ℕ) → what ≡ Whole → Strays old piece at ps mid → FeedsOn mid.rest (take n (slice_at at piece)) (ended what f) buffered.rest → ReportsFraming what f → buffered ≡ buffered_after what f → ((g : List ℕ) → buffered.frame ≡ Some g → IsOwn g → FindsBy g ps o qs) → Finds old (take (at + n) piece) ps o buffered qs
+goes_framed what old piece at n ps qs o mid buffered f e strays h reports after found =
     let P : Framing → Type 0 = λ w. FeedsOn mid.rest (take n (slice_at at piece)) (ended w f) buffered.rest in
-    let Q : Framing → Type 0 = λ w. TellsFraming w f in
-    let whole = subst Q e tells in
+    let Q : Framing → Type 0 = λ w. ReportsFraming w f in
+    let whole = subst Q e reports in
     let has : buffered.frame ≡ Some f = ap (λ (x : Buffered). x.frame) after ∙ ap (λ w. (buffered_after w f).frame) e in
     let by = found f has whole.1 in
     goes_on old piece at n ps qs o mid buffered strays
-    record { ended = f ∷ []; feeds = subst P e h; told = by.0 ∙ ap (told_list o) (sym has); others_are = by.1 }
+    record { ended = f ∷ []; feeds = subst P e h; reported = by.0 ∙ ap (reported_list o) (sym has); others_are = by.1 }
 
 pub within-more : (at n : ℕ) (piece : List ℕ) → at ≤ length piece → n ≤ length (slice_at at piece) → at + n ≤ length piece
 within-more at n piece h g =

@@ -9,7 +9,7 @@ use Rattle.std.specs.List.{filter}
 use Rattle.std.proofs.lemmas.Bool.{cond-true}
 use Rattle.poll_core.proofs.Frames.{by_frame-append}
 use Rattle.poll_core.proofs.Streams.{OneReading, reads_on, frames_at-more, frames-garbled, is_garbled-append}
-use Rattle.poll_core.proofs.Settles.{told_at, outcomes_at-other}
+use Rattle.poll_core.proofs.Settles.{reported_at, outcomes_at-other}
 
 none_first : {X : Type 0} (xs ys : List X) → xs ++ ys ≡ [] → xs ≡ []
 none_first [] ys h = refl
@@ -67,12 +67,12 @@ longer_settles one t es m p q none =
     let gs : List (List ℕ) = frames (rest (stream es ++ p) ++ q) in
     let reads = reads_on one (stream es ++ p) q gs (rest (rest (stream es ++ p) ++ q)) (one.exists (rest (stream es ++ p) ++ q)) in
     let more : frames_at es (Piece m (p ++ q)) ≡ frames_at es (Piece m p) ++ gs = frames_at-more one es m p q gs _ reads in
-    let whole : told_at m ps (frames_at es (Piece m (p ++ q))) (ending_at es (Piece m (p ++ q))) ≡ [] =
+    let whole : reported_at m ps (frames_at es (Piece m (p ++ q))) (ending_at es (Piece m (p ++ q))) ≡ [] =
     sym (outcomes_at-other t es (Piece m (p ++ q)) refl) ∙ none in
     let long : List (ℕ × Settlement) = by_frame (frames_at es (Piece m (p ++ q))) (alive m ps) in
-    let told = none_first (silences (filter (due m) ps) ++ long) _ whole in
-    let silent : silences (filter (due m) ps) ≡ [] = none_first (silences (filter (due m) ps)) long told in
-    let framed : long ≡ [] = none_second (silences (filter (due m) ps)) long told in
+    let reported = none_first (silences (filter (due m) ps) ++ long) _ whole in
+    let silent : silences (filter (due m) ps) ≡ [] = none_first (silences (filter (due m) ps)) long reported in
+    let framed : long ≡ [] = none_second (silences (filter (due m) ps)) long reported in
     let lost = none_second (silences (filter (due m) ps) ++ long) _ whole in
     let framed_before : by_frame (frames_at es (Piece m p)) (alive m ps) ≡ [] =
     none_first (by_frame (frames_at es (Piece m p)) (alive m ps)) _

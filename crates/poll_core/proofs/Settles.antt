@@ -17,29 +17,29 @@ use Rattle.poll_core.specs.declared.outcome.Closing.{Closing}
 use Rattle.poll_core.specs.Outcomes.{cause_of}
 use Rattle.poll_core.specs.Settling.{Event, Piece, Tick, Close, Settlement, moment_of, bytes_of, closing_of, is_start, stream, next_id, frames_at, ending_at, alive, unmatched, silences, losses, by_frame, pending, outcomes_at, is_for}
 use Rattle.poll_core.specs.Standing.{State, Stands, Within, Before, After, owed_by, if_going, is_over, is_closed, last_moment, call_of}
-use Rattle.poll_core.specs.Steps.{TellsOwed, Finds, told_by, told_list}
+use Rattle.poll_core.specs.Steps.{ReportsOwed, Finds, reported_by, reported_list}
 use Rattle.poll_core.specs.Polls.{Poll, due}
-use Rattle.poll_core.specs.Inside.{call_if, told_of, garbled_end}
+use Rattle.poll_core.specs.Inside.{call_if, reported_of, garbled_end}
 use Rattle.poll_core.specs.declared.poll.SettledPoll.{SettledPoll}
 use Rattle.poll_core.specs.declared.outcome.Call.{Call}
 use Rattle.poll_core.specs.declared.outcome.Call.TheVariants as call
 use Rattle.poll_core.specs.declared.poll.SettledBy.TheVariants as by
 
 -- The relation `Within`, stated over the fields of a session that it depends on.
-pub record Mid (t m n : ℕ) (r : List ℕ) (ps : List Poll) (x : Option LostCause) (es : List Event) (e : Event) (told : List (ℕ × Settlement)) : Type 0 where
+pub record Mid (t m n : ℕ) (r : List ℕ) (ps : List Poll) (x : Option LostCause) (es : List Event) (e : Event) (reported : List (ℕ × Settlement)) : Type 0 where
   pub last : m ≡ moment_of e
   pub next : n ≡ next_id (es ++ e ∷ [])
-  pub whole : told ++ owed_by m x ps ≡ outcomes_at t es e
+  pub whole : reported ++ owed_by m x ps ≡ outcomes_at t es e
   pub polls : if_going x (alive m ps) ≡ pending t (es ++ e ∷ [])
   pub over : is_some x ≡ is_over (es ++ e ∷ [])
   pub none_after : is_closed es ≡ true → pending t es ≡ []
   pub buffered : x ≡ None → r ≡ rest (stream (es ++ e ∷ []))
 
 -- The outcomes of an event that is no start: timeouts, responses by frame, and losses.
-abbrev pub told_at : ℕ → List Poll → List (List ℕ) → Option LostCause → List (ℕ × Settlement)
-told_at m ps fs x = silences (filter (due m) ps) ++ by_frame fs (alive m ps) ++ losses x (unmatched fs (alive m ps))
+abbrev pub reported_at : ℕ → List Poll → List (List ℕ) → Option LostCause → List (ℕ × Settlement)
+reported_at m ps fs x = silences (filter (due m) ps) ++ by_frame fs (alive m ps) ++ losses x (unmatched fs (alive m ps))
 
-pub outcomes_at-other : (t : ℕ) (es : List Event) (e : Event) → is_start e ≡ false → outcomes_at t es e ≡ told_at (moment_of e) (pending t es) (frames_at es e) (ending_at es e)
+pub outcomes_at-other : (t : ℕ) (es : List Event) (e : Event) → is_start e ≡ false → outcomes_at t es e ≡ reported_at (moment_of e) (pending t es) (frames_at es e) (ending_at es e)
 unfolding outcomes_at
 outcomes_at-other t es e other = cond-false _ _ _ other
 
@@ -48,8 +48,8 @@ losses-none None = refl
 losses-none (Some c) = refl
 
 -- No outcome is reported if no poll is pending.
-pub told_at-none : (m : ℕ) (fs : List (List ℕ)) (x : Option LostCause) → told_at m [] fs x ≡ []
-told_at-none m fs x = ap (λ y. y ++ losses x []) (by_frame-none fs) ∙ losses-none x
+pub reported_at-none : (m : ℕ) (fs : List (List ℕ)) (x : Option LostCause) → reported_at m [] fs x ≡ []
+reported_at-none m fs x = ap (λ y. y ++ losses x []) (by_frame-none fs) ∙ losses-none x
 
 pub if_going-none : (x : Option LostCause) → if_going x [] ≡ []
 if_going-none None = refl
@@ -79,12 +79,12 @@ last_moment-push (f ∷ []) e = refl
 last_moment-push (f ∷ g ∷ es) e = last_moment-push (g ∷ es) e
 
 -- A session that reports an outcome continues to process the same event.
-pub tell : (t m n : ℕ) (r : List ℕ) (ps qs : List Poll) (x : Option LostCause) (es : List Event) (e : Event) (told : List (ℕ × Settlement)) (taken : SettledPoll) (frame : Option (List ℕ)) → Mid t m n r ps x es e told → TellsOwed m x ps (Some taken) qs → Mid t m n r qs x es e (told ++ told_by taken frame ∷ [])
-tell t m n r ps qs x es e told taken frame mid h =
+pub tell : (t m n : ℕ) (r : List ℕ) (ps qs : List Poll) (x : Option LostCause) (es : List Event) (e : Event) (reported : List (ℕ × Settlement)) (taken : SettledPoll) (frame : Option (List ℕ)) → Mid t m n r ps x es e reported → ReportsOwed m x ps (Some taken) qs → Mid t m n r qs x es e (reported ++ reported_by taken frame ∷ [])
+tell t m n r ps qs x es e reported taken frame mid h =
     record {
       last = mid.last;
       next = mid.next;
-      whole = append_assoc told (told_by taken frame ∷ []) (owed_by m x qs) ∙ ap (λ y. told ++ y) (sym (h.0 frame)) ∙ mid.whole;
+      whole = append_assoc reported (reported_by taken frame ∷ []) (owed_by m x qs) ∙ ap (λ y. reported ++ y) (sym (h.0 frame)) ∙ mid.whole;
       polls = h.1 ∙ mid.polls;
       over = mid.over;
       none_after = mid.none_after;
@@ -100,10 +100,10 @@ some_case None h = absurd (cc)
 some_case (Some c) h = (c, refl)
 
 -- A session without an outcome left to report has processed the event completely.
-pub done : (t m n w : ℕ) (r : Buffered) (ps qs : List Poll) (x : Option LostCause) (es : List Event) (e : Event) (told : List (ℕ × Settlement)) → Mid t m n r.rest ps x es e told → TellsOwed m x ps None qs → Stands (record { timeout = t; window = w; last = m; next = n; reader = r; polls = qs; ending = x; settling = None }) (es ++ e ∷ []) × (told ≡ outcomes_at t es e)
-done t m n w r ps qs x es e told mid h = (
+pub done : (t m n w : ℕ) (r : Buffered) (ps qs : List Poll) (x : Option LostCause) (es : List Event) (e : Event) (reported : List (ℕ × Settlement)) → Mid t m n r.rest ps x es e reported → ReportsOwed m x ps None qs → Stands (record { timeout = t; window = w; last = m; next = n; reader = r; polls = qs; ending = x; settling = None }) (es ++ e ∷ []) × (reported ≡ outcomes_at t es e)
+done t m n w r ps qs x es e reported mid h = (
   record {
-    told = refl;
+    reported = refl;
     last = mid.last ∙ sym (last_moment-push es e);
     next = mid.next;
     polls = h.0 ∙ sym (going_all x ps h.3) ∙ ap (if_going x) (sym h.2) ∙ mid.polls;
@@ -113,7 +113,7 @@ done t m n w r ps qs x es e told mid h = (
         sym mid.polls ∙ ap (λ y. if_going y (alive m ps)) c.1;
     buffered = mid.buffered;
   },
-  sym (append-nil told) ∙ ap (λ y. told ++ y) (sym h.1) ∙ mid.whole,
+  sym (append-nil reported) ∙ ap (λ y. reported ++ y) (sym h.1) ∙ mid.whole,
 )
 
 is_some-or : (x y : Option LostCause) → is_some (option_or x y) ≡ (is_some x || is_some y)
@@ -167,8 +167,8 @@ begin s es e other none h =
           ∙ ap (λ l. silences (filter (due m) P) ++ l) (ends_losses s.ending (closing_of e) (alive m P) dead')
           ∙ ap (λ l. silences (filter (due m) P) ++ losses (closing_of e) l) (sym (unmatched-nil (alive m P)))
           ∙ ap (λ l. l ++ losses (closing_of e) (unmatched [] (alive m P))) (sym (append-nil (silences (filter (due m) P))))
-          ∙ ap (told_at m P []) (sym y_is)
-          ∙ ap (λ f. told_at m P f y) (sym fs_is)
+          ∙ ap (reported_at m P []) (sym y_is)
+          ∙ ap (λ f. reported_at m P f y) (sym fs_is)
           ∙ sym (outcomes_at-other s.timeout es e other);
       polls =
           ap (λ ps. if_going x (alive m ps)) h.polls
@@ -231,8 +231,8 @@ fresh_before : (one : OneReading) → (b p : List ℕ) → is_garbled (b ++ p) �
 fresh_before one b p h = false_from_ne_true _ (λ g. both_ways _ h (is_garbled-append one b p g))
 
 -- Feeding more bytes of a chunk completes at most one poll by a frame, and may garble the stream.
-pub feed : (one : OneReading) → (t m n : ℕ) (r q p : List ℕ) (buffered : Buffered) (ps qs : List Poll) (o : Option Poll) (es : List Event) (told : List (ℕ × Settlement)) (g : Bool) → Mid t m n r ps None es (Piece m p) told → owed_by m None ps ≡ [] → alive m ps ≡ ps → Finds r q ps o buffered qs → is_bad buffered.rest ≡ g → Mid t m n buffered.rest qs (garbled_end g) es (Piece m (p ++ q)) (told ++ told_list o buffered.frame)
-feed one t m n r q p buffered ps qs o es told g mid none all found bad =
+pub feed : (one : OneReading) → (t m n : ℕ) (r q p : List ℕ) (buffered : Buffered) (ps qs : List Poll) (o : Option Poll) (es : List Event) (reported : List (ℕ × Settlement)) (g : Bool) → Mid t m n r ps None es (Piece m p) reported → owed_by m None ps ≡ [] → alive m ps ≡ ps → Finds r q ps o buffered qs → is_bad buffered.rest ≡ g → Mid t m n buffered.rest qs (garbled_end g) es (Piece m (p ++ q)) (reported ++ reported_list o buffered.frame)
+feed one t m n r q p buffered ps qs o es reported g mid none all found bad =
     let e = Piece m p in
     let e' = Piece m (p ++ q) in
     let b = stream es in
@@ -251,24 +251,24 @@ feed one t m n r q p buffered ps qs o es told g mid none all found bad =
     let frames' : frames_at es e' ≡ f1 ++ gs = frames_at-more one es m p q gs buffered.rest reads in
     let ps_is : unmatched f1 A ≡ ps = sym (sym all ∙ mid.polls ∙ pending-other t es e refl ∙ ap (λ c. if_going c (unmatched f1 A)) no_end) in
     let unmatched' : unmatched (f1 ++ gs) A ≡ qs = unmatched-append f1 gs A ∙ ap (unmatched gs) ps_is ∙ found.others_are in
-    let told_is : told ≡ S ++ by_frame f1 A =
-    sym (append-nil told) ∙ ap (λ y. told ++ y) (sym none) ∙ mid.whole ∙ outcomes_at-other t es e refl ∙ ap (told_at m (pending t es) f1) no_end ∙ append-nil (S ++ by_frame f1 A) in
-    let by_new : by_frame gs (unmatched f1 A) ≡ told_list o buffered.frame = ap (by_frame gs) ps_is ∙ found.told in
+    let reported_is : reported ≡ S ++ by_frame f1 A =
+    sym (append-nil reported) ∙ ap (λ y. reported ++ y) (sym none) ∙ mid.whole ∙ outcomes_at-other t es e refl ∙ ap (reported_at m (pending t es) f1) no_end ∙ append-nil (S ++ by_frame f1 A) in
+    let by_new : by_frame gs (unmatched f1 A) ≡ reported_list o buffered.frame = ap (by_frame gs) ps_is ∙ found.reported in
     let alive' : alive m qs ≡ qs = ap (alive m) (sym found.others_are) ∙ alive_left m gs ps all ∙ found.others_are in
     let owed' : owed_by m (garbled_end g) qs ≡ losses (garbled_end g) qs = ap (λ y. silences y ++ losses (garbled_end g) (alive m qs)) (alive_due m qs alive') ∙ ap (losses (garbled_end g)) alive' in
-    let by_all : S ++ by_frame (f1 ++ gs) A ≡ told ++ told_list o buffered.frame =
+    let by_all : S ++ by_frame (f1 ++ gs) A ≡ reported ++ reported_list o buffered.frame =
     ap (λ y. S ++ y) (by_frame-append f1 gs A ∙ ap (λ y. by_frame f1 A ++ y) by_new)
-    ∙ sym (append_assoc S (by_frame f1 A) (told_list o buffered.frame))
-    ∙ ap (λ y. y ++ told_list o buffered.frame) (sym told_is) in
+    ∙ sym (append_assoc S (by_frame f1 A) (reported_list o buffered.frame))
+    ∙ ap (λ y. y ++ reported_list o buffered.frame) (sym reported_is) in
     record {
       last = refl;
       next = mid.next ∙ next_id-other es e refl ∙ sym (next_id-other es e' refl);
       whole =
-          ap (λ y. (told ++ told_list o buffered.frame) ++ y) owed'
+          ap (λ y. (reported ++ reported_list o buffered.frame) ++ y) owed'
           ∙ ap (λ y. y ++ losses (garbled_end g) qs) (sym by_all)
           ∙ ap (λ y. (S ++ by_frame (f1 ++ gs) A) ++ losses (garbled_end g) y) (sym unmatched')
-          ∙ ap (told_at m (pending t es) (f1 ++ gs)) (sym end')
-          ∙ ap (λ f. told_at m (pending t es) f (ending_at es e')) (sym frames')
+          ∙ ap (reported_at m (pending t es) (f1 ++ gs)) (sym end')
+          ∙ ap (λ f. reported_at m (pending t es) f (ending_at es e')) (sym frames')
           ∙ sym (outcomes_at-other t es e' refl);
       polls =
           ap (if_going (garbled_end g)) (alive' ∙ sym unmatched')
@@ -307,14 +307,14 @@ same_at one t m p q es none over =
           let more : is_garbled (b ++ (p ++ q)) ≡ true = ap is_garbled (sym (append_assoc b p q)) ∙ is_garbled-append one (b ++ p) q garbled in
           let fs : frames_at es e' ≡ frames_at es e = frames_at-garbled one es m p q garbled in
           let x : ending_at es e' ≡ ending_at es e = ending_at-garbled es m p q garbled more in (
-            outcomes_at-other t es e' refl ∙ ap (λ f. told_at m P f (ending_at es e')) fs ∙ ap (told_at m P (frames_at es e)) x ∙ sym (outcomes_at-other t es e refl),
+            outcomes_at-other t es e' refl ∙ ap (λ f. reported_at m P f (ending_at es e')) fs ∙ ap (reported_at m P (frames_at es e)) x ∙ sym (outcomes_at-other t es e refl),
             pending-other t es e' refl ∙ ap (λ f. if_going (ending_at es e') (unmatched f (alive m P))) fs ∙ ap (λ c. if_going c (unmatched (frames_at es e) (alive m P))) x ∙ sym (pending-other t es e refl),
             or_left _ _ more,
           )
       | inr closed ↦
           let no = none closed in (
-            outcomes_at-other t es e' refl ∙ ap (λ ps. told_at m ps (frames_at es e') (ending_at es e')) no ∙ told_at-none m (frames_at es e') (ending_at es e')
-                ∙ sym (outcomes_at-other t es e refl ∙ ap (λ ps. told_at m ps (frames_at es e) (ending_at es e)) no ∙ told_at-none m (frames_at es e) (ending_at es e)),
+            outcomes_at-other t es e' refl ∙ ap (λ ps. reported_at m ps (frames_at es e') (ending_at es e')) no ∙ reported_at-none m (frames_at es e') (ending_at es e')
+                ∙ sym (outcomes_at-other t es e refl ∙ ap (λ ps. reported_at m ps (frames_at es e) (ending_at es e)) no ∙ reported_at-none m (frames_at es e) (ending_at es e)),
             pending-other t es e' refl ∙ ap (λ ps. if_going (ending_at es e') (unmatched (frames_at es e') (alive m ps))) no ∙ if_going-none (ending_at es e')
                 ∙ sym (pending-other t es e refl ∙ ap (λ ps. if_going (ending_at es e) (unmatched (frames_at es e) (alive m ps))) no ∙ if_going-none (ending_at es e)),
             or_right _ _ closed,
@@ -322,8 +322,8 @@ same_at one t m p q es none over =
     ]
 
 -- A session that is over discards further bytes of a chunk.
-pub drop_rest : (one : OneReading) → (t m n : ℕ) (r r' q p : List ℕ) (ps : List Poll) (c : LostCause) (es : List Event) (told : List (ℕ × Settlement)) → Mid t m n r ps (Some c) es (Piece m p) told → Mid t m n r' ps (Some c) es (Piece m (p ++ q)) told
-drop_rest one t m n r r' q p ps c es told mid =
+pub drop_rest : (one : OneReading) → (t m n : ℕ) (r r' q p : List ℕ) (ps : List Poll) (c : LostCause) (es : List Event) (reported : List (ℕ × Settlement)) → Mid t m n r ps (Some c) es (Piece m p) reported → Mid t m n r' ps (Some c) es (Piece m (p ++ q)) reported
+drop_rest one t m n r r' q p ps c es reported mid =
     let e = Piece m p in
     let e' = Piece m (p ++ q) in
     let b = stream es in
@@ -351,18 +351,18 @@ goes_with None es e h = closing_none (is_closed es) (closing_of e) (or_parts _ _
 goes_with (Some c) es e h = refl
 
 -- A session before a new or continued call for an event is processing that event.
-pub enter : (s : State) (es : List Event) (e : Event) (told : List (ℕ × Settlement)) → is_start e ≡ false → Before s es e told → Mid s.timeout (moment_of e) s.next s.reader.rest s.polls (option_or s.ending (closing_of e)) es e told
-enter s es e told other (inl (stands, bare, none)) =
+pub enter : (s : State) (es : List Event) (e : Event) (reported : List (ℕ × Settlement)) → is_start e ≡ false → Before s es e reported → Mid s.timeout (moment_of e) s.next s.reader.rest s.polls (option_or s.ending (closing_of e)) es e reported
+enter s es e reported other (inl (stands, bare, none)) =
     let P : List (ℕ × Settlement) → Type 0 = λ y. Mid s.timeout (moment_of e) s.next s.reader.rest s.polls (option_or s.ending (closing_of e)) es e y in
     subst P (sym none) (begin s es e other bare stands)
-enter s es e told other (inr (settling, w)) =
+enter s es e reported other (inr (settling, w)) =
     let x_is : option_or s.ending (closing_of e) ≡ s.ending = goes_with s.ending es e w.over in
-    let P : Option LostCause → Type 0 = λ y. Mid s.timeout (moment_of e) s.next s.reader.rest s.polls y es e told in
+    let P : Option LostCause → Type 0 = λ y. Mid s.timeout (moment_of e) s.next s.reader.rest s.polls y es e reported in
     subst P (sym x_is)
     record {
       last = refl;
       next = w.next;
-      whole = ap (λ m. told ++ owed_by m s.ending s.polls) (sym w.last) ∙ w.whole;
+      whole = ap (λ m. reported ++ owed_by m s.ending s.polls) (sym w.last) ∙ w.whole;
       polls = ap (λ m. if_going s.ending (alive m s.polls)) (sym w.last) ∙ w.polls;
       over = w.over;
       none_after = w.none_after;
@@ -370,101 +370,101 @@ enter s es e told other (inr (settling, w)) =
     }
 
 -- After a call that reports one more outcome, the session is in a state `After` the call.
-pub told_more : (t m n w : ℕ) (r : Buffered) (ps : List Poll) (x : Option LostCause) (z : Option Call) (es : List Event) (e : Event) (told : List (ℕ × Settlement)) → Mid t m n r.rest ps x es e told → Within (record { timeout = t; window = w; last = m; next = n; reader = r; polls = ps; ending = x; settling = z }) es e told
-told_more t m n w r ps x z es e told mid =
+pub reported_more : (t m n w : ℕ) (r : Buffered) (ps : List Poll) (x : Option LostCause) (z : Option Call) (es : List Event) (e : Event) (reported : List (ℕ × Settlement)) → Mid t m n r.rest ps x es e reported → Within (record { timeout = t; window = w; last = m; next = n; reader = r; polls = ps; ending = x; settling = z }) es e reported
+reported_more t m n w r ps x z es e reported mid =
     record { last = mid.last; next = mid.next; whole = mid.whole; polls = mid.polls; over = mid.over; none_after = mid.none_after; buffered = mid.buffered }
 
 -- After a call that only reports outcomes already due, the session is in a state `After` the call.
-pub settle : (t m n w : ℕ) (r : Buffered) (ps qs : List Poll) (x : Option LostCause) (call : Call) (taken : Option SettledPoll) (es : List Event) (e : Event) (told : List (ℕ × Settlement)) → call_of e ≡ Some call → Mid t m n r.rest ps x es e told → TellsOwed m x ps taken qs → After (record { timeout = t; window = w; last = m; next = n; reader = r; polls = qs; ending = x; settling = call_if taken call }) es e told (told_of taken r.frame)
-settle t m n w r ps qs x call None es e told by mid h = done t m n w r ps qs x es e told mid h
-settle t m n w r ps qs x call (Some taken) es e told by mid h =
-    (sym by, told_more t m n w r qs x (Some call) es e (told ++ told_by taken r.frame ∷ []) (tell t m n r.rest ps qs x es e told taken r.frame mid h))
+pub settle : (t m n w : ℕ) (r : Buffered) (ps qs : List Poll) (x : Option LostCause) (call : Call) (taken : Option SettledPoll) (es : List Event) (e : Event) (reported : List (ℕ × Settlement)) → call_of e ≡ Some call → Mid t m n r.rest ps x es e reported → ReportsOwed m x ps taken qs → After (record { timeout = t; window = w; last = m; next = n; reader = r; polls = qs; ending = x; settling = call_if taken call }) es e reported (reported_of taken r.frame)
+settle t m n w r ps qs x call None es e reported by mid h = done t m n w r ps qs x es e reported mid h
+settle t m n w r ps qs x call (Some taken) es e reported by mid h =
+    (sym by, reported_more t m n w r qs x (Some call) es e (reported ++ reported_by taken r.frame ∷ []) (tell t m n r.rest ps qs x es e reported taken r.frame mid h))
 
 pub option_or-none : (x : Option LostCause) → option_or x None ≡ x
 option_or-none None = refl
 option_or-none (Some c) = refl
 
-pub ticks : (s : State) (m : ℕ) (qs : List Poll) (taken : Option SettledPoll) → TellsOwed m s.ending s.polls taken qs → (es : List Event) (told : List (ℕ × Settlement)) → Before s es (Tick m) told → After (record { timeout = s.timeout; window = s.window; last = m; next = s.next; reader = s.reader; polls = qs; ending = s.ending; settling = call_if taken call.Tick }) es (Tick m) told (told_of taken s.reader.frame)
-ticks s m qs taken h es told b =
-    let P : Option LostCause → Type 0 = λ y. Mid s.timeout m s.next s.reader.rest s.polls y es (Tick m) told in
-    settle s.timeout m s.next s.window s.reader s.polls qs s.ending call.Tick taken es (Tick m) told refl (subst P (option_or-none s.ending) (enter s es (Tick m) told refl b)) h
+pub ticks : (s : State) (m : ℕ) (qs : List Poll) (taken : Option SettledPoll) → ReportsOwed m s.ending s.polls taken qs → (es : List Event) (reported : List (ℕ × Settlement)) → Before s es (Tick m) reported → After (record { timeout = s.timeout; window = s.window; last = m; next = s.next; reader = s.reader; polls = qs; ending = s.ending; settling = call_if taken call.Tick }) es (Tick m) reported (reported_of taken s.reader.frame)
+ticks s m qs taken h es reported b =
+    let P : Option LostCause → Type 0 = λ y. Mid s.timeout m s.next s.reader.rest s.polls y es (Tick m) reported in
+    settle s.timeout m s.next s.window s.reader s.polls qs s.ending call.Tick taken es (Tick m) reported refl (subst P (option_or-none s.ending) (enter s es (Tick m) reported refl b)) h
 
-pub closes : (s : State) (m : ℕ) (c : Closing) (qs : List Poll) (taken : Option SettledPoll) → TellsOwed m (option_or s.ending (Some (cause_of c))) s.polls taken qs → (es : List Event) (told : List (ℕ × Settlement)) → Before s es (Close m c) told → After (record { timeout = s.timeout; window = s.window; last = m; next = s.next; reader = s.reader; polls = qs; ending = option_or s.ending (Some (cause_of c)); settling = call_if taken (call.Close c) }) es (Close m c) told (told_of taken s.reader.frame)
-closes s m c qs taken h es told b =
-    settle s.timeout m s.next s.window s.reader s.polls qs (option_or s.ending (Some (cause_of c))) (call.Close c) taken es (Close m c) told refl (enter s es (Close m c) told refl b) h
+pub closes : (s : State) (m : ℕ) (c : Closing) (qs : List Poll) (taken : Option SettledPoll) → ReportsOwed m (option_or s.ending (Some (cause_of c))) s.polls taken qs → (es : List Event) (reported : List (ℕ × Settlement)) → Before s es (Close m c) reported → After (record { timeout = s.timeout; window = s.window; last = m; next = s.next; reader = s.reader; polls = qs; ending = option_or s.ending (Some (cause_of c)); settling = call_if taken (call.Close c) }) es (Close m c) reported (reported_of taken s.reader.frame)
+closes s m c qs taken h es reported b =
+    settle s.timeout m s.next s.window s.reader s.polls qs (option_or s.ending (Some (cause_of c))) (call.Close c) taken es (Close m c) reported refl (enter s es (Close m c) reported refl b) h
 
 -- The possible results of a call that processes a chunk. The call first reports the outcomes that
 -- are already due.
-pub enters : (s : State) (m : ℕ) (p : List ℕ) (es : List Event) (told : List (ℕ × Settlement)) → Before s es (Piece m p) told → Mid s.timeout m s.next s.reader.rest s.polls s.ending es (Piece m p) told
-enters s m p es told b =
-    let P : Option LostCause → Type 0 = λ y. Mid s.timeout m s.next s.reader.rest s.polls y es (Piece m p) told in
-    subst P (option_or-none s.ending) (enter s es (Piece m p) told refl b)
+pub enters : (s : State) (m : ℕ) (p : List ℕ) (es : List Event) (reported : List (ℕ × Settlement)) → Before s es (Piece m p) reported → Mid s.timeout m s.next s.reader.rest s.polls s.ending es (Piece m p) reported
+enters s m p es reported b =
+    let P : Option LostCause → Type 0 = λ y. Mid s.timeout m s.next s.reader.rest s.polls y es (Piece m p) reported in
+    subst P (option_or-none s.ending) (enter s es (Piece m p) reported refl b)
 
-pub piece_owed : (s : State) (m : ℕ) (qs : List Poll) (taken : SettledPoll) (piece : List ℕ) → TellsOwed m s.ending s.polls (Some taken) qs → (es : List Event) (p : List ℕ) (told : List (ℕ × Settlement)) → Before s es (Piece m p) told → After (record { timeout = s.timeout; window = s.window; last = m; next = s.next; reader = s.reader; polls = qs; ending = s.ending; settling = Some call.Piece }) es (Piece m (p ++ take 0 piece)) told (told_of (Some taken) s.reader.frame)
-piece_owed s m qs taken piece h es p told b =
-    let P : List ℕ → Type 0 = λ y. After (record { timeout = s.timeout; window = s.window; last = m; next = s.next; reader = s.reader; polls = qs; ending = s.ending; settling = Some call.Piece }) es (Piece m y) told (told_of (Some taken) s.reader.frame) in
-    subst P (sym (append-nil p)) (settle s.timeout m s.next s.window s.reader s.polls qs s.ending call.Piece (Some taken) es (Piece m p) told refl (enters s m p es told b) h)
+pub piece_owed : (s : State) (m : ℕ) (qs : List Poll) (taken : SettledPoll) (piece : List ℕ) → ReportsOwed m s.ending s.polls (Some taken) qs → (es : List Event) (p : List ℕ) (reported : List (ℕ × Settlement)) → Before s es (Piece m p) reported → After (record { timeout = s.timeout; window = s.window; last = m; next = s.next; reader = s.reader; polls = qs; ending = s.ending; settling = Some call.Piece }) es (Piece m (p ++ take 0 piece)) reported (reported_of (Some taken) s.reader.frame)
+piece_owed s m qs taken piece h es p reported b =
+    let P : List ℕ → Type 0 = λ y. After (record { timeout = s.timeout; window = s.window; last = m; next = s.next; reader = s.reader; polls = qs; ending = s.ending; settling = Some call.Piece }) es (Piece m y) reported (reported_of (Some taken) s.reader.frame) in
+    subst P (sym (append-nil p)) (settle s.timeout m s.next s.window s.reader s.polls qs s.ending call.Piece (Some taken) es (Piece m p) reported refl (enters s m p es reported b) h)
 
 -- A session that is over discards the received chunk.
-pub piece_dropped : (one : OneReading) → (s : State) (m : ℕ) (c : LostCause) (qs : List Poll) (piece : List ℕ) → s.ending ≡ Some c → TellsOwed m s.ending s.polls None qs → (es : List Event) (p : List ℕ) (told : List (ℕ × Settlement)) → Before s es (Piece m p) told → After (record { timeout = s.timeout; window = s.window; last = m; next = s.next; reader = s.reader; polls = qs; ending = s.ending; settling = None }) es (Piece m (p ++ take (length piece) piece)) told None
-piece_dropped one s m c qs piece over h es p told b =
+pub piece_dropped : (one : OneReading) → (s : State) (m : ℕ) (c : LostCause) (qs : List Poll) (piece : List ℕ) → s.ending ≡ Some c → ReportsOwed m s.ending s.polls None qs → (es : List Event) (p : List ℕ) (reported : List (ℕ × Settlement)) → Before s es (Piece m p) reported → After (record { timeout = s.timeout; window = s.window; last = m; next = s.next; reader = s.reader; polls = qs; ending = s.ending; settling = None }) es (Piece m (p ++ take (length piece) piece)) reported None
+piece_dropped one s m c qs piece over h es p reported b =
     let q = take (length piece) piece in
-    let P : Option LostCause → Type 0 = λ y. Mid s.timeout m s.next s.reader.rest s.polls y es (Piece m p) told in
-    let Q : Option LostCause → Type 0 = λ y. Mid s.timeout m s.next s.reader.rest s.polls y es (Piece m (p ++ q)) told in
-    let mid = subst Q (sym over) (drop_rest one s.timeout m s.next s.reader.rest s.reader.rest q p s.polls c es told (subst P over (enters s m p es told b))) in
-    done s.timeout m s.next s.window s.reader s.polls qs s.ending es (Piece m (p ++ q)) told mid h
+    let P : Option LostCause → Type 0 = λ y. Mid s.timeout m s.next s.reader.rest s.polls y es (Piece m p) reported in
+    let Q : Option LostCause → Type 0 = λ y. Mid s.timeout m s.next s.reader.rest s.polls y es (Piece m (p ++ q)) reported in
+    let mid = subst Q (sym over) (drop_rest one s.timeout m s.next s.reader.rest s.reader.rest q p s.polls c es reported (subst P over (enters s m p es reported b))) in
+    done s.timeout m s.next s.window s.reader s.polls qs s.ending es (Piece m (p ++ q)) reported mid h
 
 -- The state after the reader was fed, up to a frame that completes a poll or to the end of the
 -- chunk.
 abbrev fed_mid : State → ℕ → Buffered → List Poll → Option Poll → Bool → List ℕ → List Event → List ℕ → List (ℕ × Settlement) → Type 0
-fed_mid s m buffered rs o g q es p told = Mid s.timeout m s.next buffered.rest rs (garbled_end g) es (Piece m (p ++ q)) (told ++ told_list o buffered.frame)
+fed_mid s m buffered rs o g q es p reported = Mid s.timeout m s.next buffered.rest rs (garbled_end g) es (Piece m (p ++ q)) (reported ++ reported_list o buffered.frame)
 
-fed : (one : OneReading) → (s : State) (m : ℕ) (q : List ℕ) (buffered : Buffered) (qs rs : List Poll) (o : Option Poll) (g : Bool) → s.ending ≡ None → TellsOwed m s.ending s.polls None qs → Finds s.reader.rest q qs o buffered rs → is_bad buffered.rest ≡ g → (es : List Event) (p : List ℕ) (told : List (ℕ × Settlement)) → Before s es (Piece m p) told → fed_mid s m buffered rs o g q es p told
-fed one s m q buffered qs rs o g going h found bad es p told b =
-    let P : Option LostCause → Type 0 = λ y. Mid s.timeout m s.next s.reader.rest s.polls y es (Piece m p) told in
+fed : (one : OneReading) → (s : State) (m : ℕ) (q : List ℕ) (buffered : Buffered) (qs rs : List Poll) (o : Option Poll) (g : Bool) → s.ending ≡ None → ReportsOwed m s.ending s.polls None qs → Finds s.reader.rest q qs o buffered rs → is_bad buffered.rest ≡ g → (es : List Event) (p : List ℕ) (reported : List (ℕ × Settlement)) → Before s es (Piece m p) reported → fed_mid s m buffered rs o g q es p reported
+fed one s m q buffered qs rs o g going h found bad es p reported b =
+    let P : Option LostCause → Type 0 = λ y. Mid s.timeout m s.next s.reader.rest s.polls y es (Piece m p) reported in
     let F : List Poll → Type 0 = λ y. Finds s.reader.rest q y o buffered rs in
     let none : owed_by m None s.polls ≡ [] = ap (λ y. owed_by m y s.polls) (sym going) ∙ h.1 in
-    feed one s.timeout m s.next s.reader.rest q p buffered s.polls rs o es told g (subst P going (enters s m p es told b)) none h.2 (subst F h.0 found) bad
+    feed one s.timeout m s.next s.reader.rest q p buffered s.polls rs o es reported g (subst P going (enters s m p es reported b)) none h.2 (subst F h.0 found) bad
 
-pub piece_framed : (one : OneReading) → (s : State) (m n : ℕ) (piece : List ℕ) (buffered : Buffered) (qs rs : List Poll) (poll : Poll) (g : Bool) → s.ending ≡ None → TellsOwed m s.ending s.polls None qs → Finds s.reader.rest (take n piece) qs (Some poll) buffered rs → is_bad buffered.rest ≡ g → g ≡ false → (es : List Event) (p : List ℕ) (told : List (ℕ × Settlement)) → Before s es (Piece m p) told → After (record { timeout = s.timeout; window = s.window; last = m; next = s.next; reader = buffered; polls = rs; ending = s.ending; settling = Some call.Piece }) es (Piece m (p ++ take n piece)) told (told_of (Some (record { poll = poll; by = by.Frame })) buffered.frame)
-piece_framed one s m n piece buffered qs rs poll g going h found bad clean es p told b =
+pub piece_framed : (one : OneReading) → (s : State) (m n : ℕ) (piece : List ℕ) (buffered : Buffered) (qs rs : List Poll) (poll : Poll) (g : Bool) → s.ending ≡ None → ReportsOwed m s.ending s.polls None qs → Finds s.reader.rest (take n piece) qs (Some poll) buffered rs → is_bad buffered.rest ≡ g → g ≡ false → (es : List Event) (p : List ℕ) (reported : List (ℕ × Settlement)) → Before s es (Piece m p) reported → After (record { timeout = s.timeout; window = s.window; last = m; next = s.next; reader = buffered; polls = rs; ending = s.ending; settling = Some call.Piece }) es (Piece m (p ++ take n piece)) reported (reported_of (Some (record { poll = poll; by = by.Frame })) buffered.frame)
+piece_framed one s m n piece buffered qs rs poll g going h found bad clean es p reported b =
     let q = take n piece in
-    let mid = fed one s m q buffered qs rs (Some poll) g going h found bad es p told b in
-    let P : Option LostCause → Type 0 = λ y. Mid s.timeout m s.next buffered.rest rs y es (Piece m (p ++ q)) (told ++ told_list (Some poll) buffered.frame) in
+    let mid = fed one s m q buffered qs rs (Some poll) g going h found bad es p reported b in
+    let P : Option LostCause → Type 0 = λ y. Mid s.timeout m s.next buffered.rest rs y es (Piece m (p ++ q)) (reported ++ reported_list (Some poll) buffered.frame) in
     let mid' = subst P (ap garbled_end clean ∙ sym going) mid in
-    (refl, told_more s.timeout m s.next s.window buffered rs s.ending (Some call.Piece) es (Piece m (p ++ q)) (told ++ told_list (Some poll) buffered.frame) mid')
+    (refl, reported_more s.timeout m s.next s.window buffered rs s.ending (Some call.Piece) es (Piece m (p ++ q)) (reported ++ reported_list (Some poll) buffered.frame) mid')
 
 -- If no frame completed a poll, the call reports an outcome now due, or the chunk is processed
 -- completely.
-pub piece_ended : (one : OneReading) → (s : State) (m n k : ℕ) (piece : List ℕ) (buffered : Buffered) (qs rs us : List Poll) (g : Bool) (x : Option LostCause) (lost : Option SettledPoll) → s.ending ≡ None → TellsOwed m s.ending s.polls None qs → Finds s.reader.rest (take n piece) qs None buffered rs → is_bad buffered.rest ≡ g → x ≡ garbled_end g → TellsOwed m x rs lost us → n ≤ length piece → (g ≡ false → n ≡ length piece) → k ≡ cond (is_some lost) n (length piece) → (es : List Event) (p : List ℕ) (told : List (ℕ × Settlement)) → Before s es (Piece m p) told → After (record { timeout = s.timeout; window = s.window; last = m; next = s.next; reader = buffered; polls = us; ending = x; settling = call_if lost call.Piece }) es (Piece m (p ++ take k piece)) told (told_of lost buffered.frame)
-piece_ended one s m n k piece buffered qs rs us g x (Some taken) going h found bad x_is owes within all k_is es p told b =
+pub piece_ended : (one : OneReading) → (s : State) (m n k : ℕ) (piece : List ℕ) (buffered : Buffered) (qs rs us : List Poll) (g : Bool) (x : Option LostCause) (lost : Option SettledPoll) → s.ending ≡ None → ReportsOwed m s.ending s.polls None qs → Finds s.reader.rest (take n piece) qs None buffered rs → is_bad buffered.rest ≡ g → x ≡ garbled_end g → ReportsOwed m x rs lost us → n ≤ length piece → (g ≡ false → n ≡ length piece) → k ≡ cond (is_some lost) n (length piece) → (es : List Event) (p : List ℕ) (reported : List (ℕ × Settlement)) → Before s es (Piece m p) reported → After (record { timeout = s.timeout; window = s.window; last = m; next = s.next; reader = buffered; polls = us; ending = x; settling = call_if lost call.Piece }) es (Piece m (p ++ take k piece)) reported (reported_of lost buffered.frame)
+piece_ended one s m n k piece buffered qs rs us g x (Some taken) going h found bad x_is owes within all k_is es p reported b =
     let q = take n piece in
-    let mid = fed one s m q buffered qs rs None g going h found bad es p told b in
-    let P : Option LostCause → Type 0 = λ y. Mid s.timeout m s.next buffered.rest rs y es (Piece m (p ++ q)) (told ++ []) in
+    let mid = fed one s m q buffered qs rs None g going h found bad es p reported b in
+    let P : Option LostCause → Type 0 = λ y. Mid s.timeout m s.next buffered.rest rs y es (Piece m (p ++ q)) (reported ++ []) in
     let T : List (ℕ × Settlement) → Type 0 = λ y. Mid s.timeout m s.next buffered.rest rs x es (Piece m (p ++ q)) y in
-    let mid' = subst T (append-nil told) (subst P (sym x_is) mid) in
-    let A : ℕ → Type 0 = λ y. After (record { timeout = s.timeout; window = s.window; last = m; next = s.next; reader = buffered; polls = us; ending = x; settling = Some call.Piece }) es (Piece m (p ++ take y piece)) told (told_of (Some taken) buffered.frame) in
-    subst A (sym k_is) (settle s.timeout m s.next s.window buffered rs us x call.Piece (Some taken) es (Piece m (p ++ q)) told refl mid' owes)
-piece_ended one s m n k piece buffered qs rs us true x None going h found bad x_is owes within all k_is es p told b =
+    let mid' = subst T (append-nil reported) (subst P (sym x_is) mid) in
+    let A : ℕ → Type 0 = λ y. After (record { timeout = s.timeout; window = s.window; last = m; next = s.next; reader = buffered; polls = us; ending = x; settling = Some call.Piece }) es (Piece m (p ++ take y piece)) reported (reported_of (Some taken) buffered.frame) in
+    subst A (sym k_is) (settle s.timeout m s.next s.window buffered rs us x call.Piece (Some taken) es (Piece m (p ++ q)) reported refl mid' owes)
+piece_ended one s m n k piece buffered qs rs us true x None going h found bad x_is owes within all k_is es p reported b =
     let q = take n piece in
     let more = drop n piece in
-    let mid = fed one s m q buffered qs rs None true going h found bad es p told b in
+    let mid = fed one s m q buffered qs rs None true going h found bad es p reported b in
     let T : List (ℕ × Settlement) → Type 0 = λ y. Mid s.timeout m s.next buffered.rest rs (Some Garbled) es (Piece m (p ++ q)) y in
-    let mid' = subst T (append-nil told) mid in
-    let dropped = drop_rest one s.timeout m s.next buffered.rest buffered.rest more (p ++ q) rs Garbled es told mid' in
+    let mid' = subst T (append-nil reported) mid in
+    let dropped = drop_rest one s.timeout m s.next buffered.rest buffered.rest more (p ++ q) rs Garbled es reported mid' in
     let whole : (p ++ q) ++ more ≡ p ++ take k piece = append_assoc p q more ∙ ap (λ y. p ++ y) (take-append-drop n piece ∙ sym (take_all k piece (omega arith))) in
-    let P : List ℕ → Type 0 = λ y. Mid s.timeout m s.next buffered.rest rs (Some Garbled) es (Piece m y) told in
-    let X : Option LostCause → Type 0 = λ y. Mid s.timeout m s.next buffered.rest rs y es (Piece m (p ++ take k piece)) told in
-    settle s.timeout m s.next s.window buffered rs us x call.Piece None es (Piece m (p ++ take k piece)) told refl (subst X (sym x_is) (subst P whole dropped)) owes
-piece_ended one s m n k piece buffered qs rs us false x None going h found bad x_is owes within all k_is es p told b =
+    let P : List ℕ → Type 0 = λ y. Mid s.timeout m s.next buffered.rest rs (Some Garbled) es (Piece m y) reported in
+    let X : Option LostCause → Type 0 = λ y. Mid s.timeout m s.next buffered.rest rs y es (Piece m (p ++ take k piece)) reported in
+    settle s.timeout m s.next s.window buffered rs us x call.Piece None es (Piece m (p ++ take k piece)) reported refl (subst X (sym x_is) (subst P whole dropped)) owes
+piece_ended one s m n k piece buffered qs rs us false x None going h found bad x_is owes within all k_is es p reported b =
     let q = take n piece in
-    let mid = fed one s m q buffered qs rs None false going h found bad es p told b in
+    let mid = fed one s m q buffered qs rs None false going h found bad es p reported b in
     let T : List (ℕ × Settlement) → Type 0 = λ y. Mid s.timeout m s.next buffered.rest rs None es (Piece m (p ++ q)) y in
-    let mid' = subst T (append-nil told) mid in
+    let mid' = subst T (append-nil reported) mid in
     let same : n ≡ k = all refl ∙ sym k_is in
-    let P : ℕ → Type 0 = λ y. Mid s.timeout m s.next buffered.rest rs None es (Piece m (p ++ take y piece)) told in
-    let X : Option LostCause → Type 0 = λ y. Mid s.timeout m s.next buffered.rest rs y es (Piece m (p ++ take k piece)) told in
-    settle s.timeout m s.next s.window buffered rs us x call.Piece None es (Piece m (p ++ take k piece)) told refl (subst X (sym x_is) (subst P same mid')) owes
+    let P : ℕ → Type 0 = λ y. Mid s.timeout m s.next buffered.rest rs None es (Piece m (p ++ take y piece)) reported in
+    let X : Option LostCause → Type 0 = λ y. Mid s.timeout m s.next buffered.rest rs y es (Piece m (p ++ take k piece)) reported in
+    settle s.timeout m s.next s.window buffered rs us x call.Piece None es (Piece m (p ++ take k piece)) reported refl (subst X (sym x_is) (subst P same mid')) owes
 
 nil_rest : (r : List ℕ) → [] ≡ r → [] ≡ r
 nil_rest r e = e
@@ -475,7 +475,7 @@ unfolding pending next_id stream is_over is_closed is_garbled
 Stands-new one t w r h =
     let r_is : rest [] ≡ r.rest = (one.only [] [] r.rest h).1 in
     record {
-      told = refl;
+      reported = refl;
       last = refl;
       next = refl;
       polls = refl;

@@ -31,7 +31,7 @@ starts s es m n u span poll h going poll_is =
     let here : poll ≡ record { number = n; id = next_id es; unit = u; span = span; deadline = m + s.timeout } =
     poll_is ∙ ap (λ i. record { number = n; id = i; unit = u; span = span; deadline = m + s.timeout }) h.next in
     record {
-      told = h.told;
+      reported = h.reported;
       last = sym (last_moment-push es e);
       next = ap (λ x. (x + 1) % 65536) h.next ∙ sym (next_id-start es m n u span);
       polls = ap (λ x. x ++ poll ∷ []) h.polls ∙ sym (pending-start s.timeout es m n u span poll (ap Some (sym here)));
@@ -73,6 +73,6 @@ any_none t (x ∷ xs) h =
     cond-false _ _ _ both.0 ∙ any_none t xs both.1
 
 -- A start completes no poll.
-pub nothing_told : (t : ℕ) (es : List Event) (m n u : ℕ) (span : Span) → [] ≡ outcomes_at t es (Start m n u span)
+pub nothing_reported : (t : ℕ) (es : List Event) (m n u : ℕ) (span : Span) → [] ≡ outcomes_at t es (Start m n u span)
 unfolding outcomes_at
-nothing_told t es m n u span = refl
+nothing_reported t es m n u span = refl

@@ -6,7 +6,7 @@ use Rattle.poll_core.proofs.Filters.{first_out, length-filter-remove, not_passin
 use Rattle.poll_core.specs.declared.outcome.LostCause.{LostCause}
 use Rattle.poll_core.specs.Settling.{alive, silences, losses, Lost}
 use Rattle.poll_core.specs.Standing.{owed_by, if_going}
-use Rattle.poll_core.specs.Steps.{AreApart, TakesOut, FindsFirst, TellsOwed}
+use Rattle.poll_core.specs.Steps.{AreApart, TakesOut, FindsFirst, ReportsOwed}
 use Rattle.poll_core.specs.Polls.{Poll, due, has_id}
 use Rattle.poll_core.specs.declared.poll.SettledBy.TheVariants as by
 
@@ -36,27 +36,27 @@ none_passes t (x ∷ xs) h =
     ap (λ b. cond (not b) (x ∷ filter (λ y. not (t y)) xs) (filter (λ y. not (t y)) xs)) failing ∙ ap (λ ys. x ∷ ys) (none_passes t xs others)
 
 -- If no poll is due and the session is not over, no outcome is left to report.
-pub tells_none : (m : ℕ) (old new : List Poll) → TakesOut (due m) old None new → TellsOwed m None old None new
-tells_none m old new h = (h.0, ap (λ ps. silences ps ++ []) h.1, none_passes (due m) old h.1, λ e. absurd (let f : false ≡ true = e in cc))
+pub reports_none : (m : ℕ) (old new : List Poll) → TakesOut (due m) old None new → ReportsOwed m None old None new
+reports_none m old new h = (h.0, ap (λ ps. silences ps ++ []) h.1, none_passes (due m) old h.1, λ e. absurd (let f : false ≡ true = e in cc))
 
 -- A session without pending polls has no outcome left to report.
-pub tells_end : (m : ℕ) (c : LostCause) (old new : List Poll) → TakesOut (due m) old None new → old ≡ [] → TellsOwed m (Some c) old None new
-tells_end m c old new h none =
+pub reports_end : (m : ℕ) (c : LostCause) (old new : List Poll) → TakesOut (due m) old None new → old ≡ [] → ReportsOwed m (Some c) old None new
+reports_end m c old new h none =
     let a : alive m old ≡ old = none_passes (due m) old h.1 in
     (h.0, ap (λ ps. owed_by m (Some c) ps) none, a, λ e. none)
 
 -- A poll whose deadline has passed is reported as timed out.
-pub tells_due : (m : ℕ) (ending : Option LostCause) (old new : List Poll) (p : Poll) → TakesOut (due m) old (Some p) new → TellsOwed m ending old (Some (record { poll = p; by = by.Silence })) new
-tells_due m ending old new p h = (
+pub reports_due : (m : ℕ) (ending : Option LostCause) (old new : List Poll) (p : Poll) → TakesOut (due m) old (Some p) new → ReportsOwed m ending old (Some (record { poll = p; by = by.Silence })) new
+reports_due m ending old new p h = (
   λ frame. ap (λ ps. silences ps ++ losses ending (alive m old)) h.0 ∙ ap (λ ps. silences (p ∷ filter (due m) new) ++ losses ending ps) (sym h.1),
   ap (if_going ending) h.1,
   h.2,
 )
 
 -- If no poll has timed out and the session is over, the first poll is reported as lost.
-pub tells_lost : (m : ℕ) (c : LostCause) (old mid new : List Poll) (p : Poll) → TakesOut (due m) old None mid → p ≡ get_or mid 0 p → 0 < length mid → new ≡ remove mid 0 → TellsOwed m (Some c) old (Some (record { poll = p; by = by.End c })) new
-tells_lost m c [] mid new p h here some e = absurd (let l : length mid ≡ 0 = ap length h.0 in omega arith)
-tells_lost m c (q ∷ qs) mid new p h here some e =
+pub reports_lost : (m : ℕ) (c : LostCause) (old mid new : List Poll) (p : Poll) → TakesOut (due m) old None mid → p ≡ get_or mid 0 p → 0 < length mid → new ≡ remove mid 0 → ReportsOwed m (Some c) old (Some (record { poll = p; by = by.End c })) new
+reports_lost m c [] mid new p h here some e = absurd (let l : length mid ≡ 0 = ap length h.0 in omega arith)
+reports_lost m c (q ∷ qs) mid new p h here some e =
     let first : p ≡ q = here ∙ ap (λ xs. get_or xs 0 p) h.0 in
     let rest : new ≡ qs = e ∙ ap (λ xs. remove xs 0) h.0 in
     let failing : due m q ≡ false = not_passing (due m) q qs h.1 in

@@ -4,8 +4,8 @@ use Rattle.std.specs.declared.option.Option.{Option}
 use Rattle.std.specs.Option.{option_map}
 use Rattle.poll_core.specs.Settling.{Event, Settlement}
 use Rattle.poll_core.specs.Standing.{State}
-use Rattle.poll_core.specs.Steps.{AreApart, told_by}
-use Rattle.poll_core.specs.Telling.{TellsPiece, TellsEvent}
+use Rattle.poll_core.specs.Steps.{AreApart, reported_by}
+use Rattle.poll_core.specs.Reporting.{ReportsPiece, ReportsEvent}
 use Rattle.poll_core.specs.declared.poll.SettledPoll.{SettledPoll}
 use Rattle.poll_core.specs.declared.limits.TheConstants.{MAX_TIMEOUT, MAX_WINDOW}
 use Rattle.poll_core.specs.declared.outcome.Call.{Call}
@@ -37,19 +37,19 @@ pub record IsSound (s : Inner) : Type 0 where
 
 -- The number and outcome of a removed poll, if there is one. `frame` is the frame in the session's
 -- reader.
-abbrev pub told_of : Option SettledPoll → Option (List ℕ) → Option (ℕ × Settlement)
-told_of taken frame = option_map (λ t. told_by t frame) taken
+abbrev pub reported_of : Option SettledPoll → Option (List ℕ) → Option (ℕ × Settlement)
+reported_of taken frame = option_map (λ t. reported_by t frame) taken
 
 -- The effect of a step on the session: the bytes that it consumes and the outcome that it reports.
 -- The outcome is computed from the frame in the session's reader.
-abbrev pub TellsStep : State → State → (moment : ℕ) → (piece : List ℕ) → Step → Type 0
-TellsStep old new moment piece step =
-    TellsPiece old new moment (take step.taken piece) (told_of step.settled new.reader.frame)
+abbrev pub ReportsStep : State → State → (moment : ℕ) → (piece : List ℕ) → Step → Type 0
+ReportsStep old new moment piece step =
+    ReportsPiece old new moment (take step.taken piece) (reported_of step.settled new.reader.frame)
 
 -- The effect of an event on the session, with the outcome that it reports. The outcome is computed
 -- from the frame in the session's reader.
-abbrev pub TellsTaken : State → State → Event → Option SettledPoll → Type 0
-TellsTaken old new event taken = TellsEvent old new event (told_of taken new.reader.frame)
+abbrev pub ReportsTaken : State → State → Event → Option SettledPoll → Type 0
+ReportsTaken old new event taken = ReportsEvent old new event (reported_of taken new.reader.frame)
 
 -- The call in progress after it reported the poll `taken`: `call`, or `None` if it reported none
 -- and is therefore complete.

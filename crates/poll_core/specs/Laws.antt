@@ -40,7 +40,7 @@ numbers_started events = filter_map number_started events
 
 -- The numbers of all polls that a list of events completes, in the order of their outcomes.
 abbrev pub numbers_settled : ℕ → List Event → List ℕ
-numbers_settled timeout events = map (λ told. told.0) (outcomes_by_event timeout events)
+numbers_settled timeout events = map (λ reported. reported.0) (outcomes_by_event timeout events)
 
 -- The numbers of all polls that are pending after a list of events.
 abbrev pub numbers_pending : ℕ → List Event → List ℕ

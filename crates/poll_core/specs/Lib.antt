@@ -5,5 +5,5 @@ pub mod Standing
 pub mod Steps
 pub mod Inside
 pub mod Starting
-pub mod Telling
+pub mod Reporting
 pub mod Laws

@@ -40,7 +40,7 @@ is_over events = is_garbled (stream events) || is_closed events
 
 -- True if the session has processed exactly these events and has reported all of their outcomes.
 pub record Stands (session : State) (events : List Event) : Type 0 where
-  pub told : session.settling ≡ None
+  pub reported : session.settling ≡ None
   pub last : session.last ≡ last_moment events
   pub next : session.next ≡ next_id events
   pub polls : session.polls ≡ pending session.timeout events
@@ -66,12 +66,12 @@ if_going None polls = polls
 if_going (Some cause) polls = []
 
 -- True if the session is processing the event after the events `events`. It has reported the
--- outcomes `told` of the event, and must still report the others.
+-- outcomes `reported` of the event, and must still report the others.
 pub record Within (session : State) (events : List Event) (event : Event)
-    (told : List (ℕ × Settlement)) : Type 0 where
+    (reported : List (ℕ × Settlement)) : Type 0 where
   pub last : session.last ≡ moment_of event
   pub next : session.next ≡ next_id (events ++ event ∷ [])
-  pub whole : told ++ owed session ≡ outcomes_at session.timeout events event
+  pub whole : reported ++ owed session ≡ outcomes_at session.timeout events event
   pub polls : if_going session.ending (alive session.last session.polls)
       ≡ pending session.timeout (events ++ event ∷ [])
   pub over : is_some session.ending ≡ is_over (events ++ event ∷ [])
@@ -86,20 +86,20 @@ call_of (Tick moment) = Some call.Tick
 call_of (Close moment closing) = Some (call.Close closing)
 
 -- The state of a session before a call for this event: the event is new, or the call continues
--- after the outcomes `told`.
+-- after the outcomes `reported`.
 abbrev pub Before : State → List Event → Event → List (ℕ × Settlement) → Type 0
-Before session events event told =
-    (Stands session events × (bytes_of event ≡ []) × (told ≡ []))
-    ⊎ ((session.settling ≡ call_of event) × Within session events event told)
+Before session events event reported =
+    (Stands session events × (bytes_of event ≡ []) × (reported ≡ []))
+    ⊎ ((session.settling ≡ call_of event) × Within session events event reported)
 
 -- The state of a session after a call for this event: it reported one more outcome, or all outcomes
 -- had been reported.
 abbrev pub After : State → List Event → Event → List (ℕ × Settlement) → Option (ℕ × Settlement)
     → Type 0
-After session events event told None =
-    Stands session (events ++ event ∷ []) × (told ≡ outcomes_at session.timeout events event)
-After session events event told (Some settled) =
-    (session.settling ≡ call_of event) × Within session events event (told ++ settled ∷ [])
+After session events event reported None =
+    Stands session (events ++ event ∷ []) × (reported ≡ outcomes_at session.timeout events event)
+After session events event reported (Some settled) =
+    (session.settling ≡ call_of event) × Within session events event (reported ++ settled ∷ [])
 
 -- After a successful start, the session has processed its earlier events and the start.
 abbrev pub StartsOn : {X E : Type 0} → Result X E → (old new : State) → Event → Type 0
@@ -109,14 +109,14 @@ StartsOn result old new start =
 -- A call for an event leads from a state `Before` the call to a state `After` it.
 abbrev pub StepsOn : (old new : State) → Event → Option (ℕ × Settlement) → Type 0
 StepsOn old new event settled =
-    (events : List Event) (told : List (ℕ × Settlement)) →
-    Before old events event told → After new events event told settled
+    (events : List Event) (reported : List (ℕ × Settlement)) →
+    Before old events event reported → After new events event reported settled
 
 -- A call that consumes bytes of a received chunk leads from a state `Before` the call to a state
 -- `After` it.
 abbrev pub TakesOn : (old new : State) → (moment : ℕ) → (taken : List ℕ)
     → Option (ℕ × Settlement) → Type 0
 TakesOn old new moment taken settled =
-    (events : List Event) (bytes : List ℕ) (told : List (ℕ × Settlement)) →
-    Before old events (Piece moment bytes) told →
-    After new events (Piece moment (bytes ++ taken)) told settled
+    (events : List Event) (bytes : List ℕ) (reported : List (ℕ × Settlement)) →
+    Before old events (Piece moment bytes) reported →
+    After new events (Piece moment (bytes ++ taken)) reported settled

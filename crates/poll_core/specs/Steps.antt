@@ -52,18 +52,18 @@ CanTell None frame = Unit {0}
 CanTell (Some taken) frame = HasFrame taken.by frame
 
 -- The number and outcome of a removed poll. `frame` is the frame in the session's reader.
-abbrev pub told_by : SettledPoll → Option (List ℕ) → ℕ × Settlement
-told_by taken frame = (taken.poll.number, outcome_by taken.poll taken.by frame)
+abbrev pub reported_by : SettledPoll → Option (List ℕ) → ℕ × Settlement
+reported_by taken frame = (taken.poll.number, outcome_by taken.poll taken.by frame)
 
 -- True if the session reported the next outcome due and removed its poll. If no outcome was due,
 -- nothing changes.
-abbrev pub TellsOwed : ℕ → Option LostCause → List Poll → Option SettledPoll → List Poll → Type 0
-TellsOwed moment ending old None new =
+abbrev pub ReportsOwed : ℕ → Option LostCause → List Poll → Option SettledPoll → List Poll → Type 0
+ReportsOwed moment ending old None new =
     (new ≡ old) × (owed_by moment ending old ≡ []) × (alive moment old ≡ old)
     × (is_some ending ≡ true → old ≡ [])
-TellsOwed moment ending old (Some taken) new =
+ReportsOwed moment ending old (Some taken) new =
     ((frame : Option (List ℕ))
-    → owed_by moment ending old ≡ told_by taken frame ∷ owed_by moment ending new)
+    → owed_by moment ending old ≡ reported_by taken frame ∷ owed_by moment ending new)
     × (if_going ending (alive moment new) ≡ if_going ending (alive moment old))
     × (length old ≡ suc (length new))
 
@@ -74,9 +74,9 @@ FeedsOn old piece ended new = (bytes : List ℕ) (before : List (List ℕ)) → 
 
 -- The number and outcome of the poll that the frame in the reader completed, or an empty list if it
 -- completed none.
-abbrev pub told_list : Option Poll → Option (List ℕ) → List (ℕ × Settlement)
-told_list None frame = []
-told_list (Some poll) frame = (poll.number, outcome_by poll by.Frame frame) ∷ []
+abbrev pub reported_list : Option Poll → Option (List ℕ) → List (ℕ × Settlement)
+reported_list None frame = []
+reported_list (Some poll) frame = (poll.number, outcome_by poll by.Frame frame) ∷ []
 
 -- True if only the last of the completed frames may have the identifier of a pending poll. That
 -- poll was removed, and its frame is in the reader.
@@ -84,13 +84,13 @@ pub record Finds (old piece : List ℕ) (polls : List Poll) (found : Option Poll
     (buffered : Buffered) (others : List Poll) : Type 0 where
   pub ended : List (List ℕ)
   pub feeds : FeedsOn old piece ended buffered.rest
-  pub told : by_frame ended polls ≡ told_list found buffered.frame
+  pub reported : by_frame ended polls ≡ reported_list found buffered.frame
   pub others_are : unmatched ended polls ≡ others
 
 -- True if the complete frame completes at most one poll, and that poll was removed from the list.
 abbrev pub FindsBy : List ℕ → List Poll → Option Poll → List Poll → Type 0
 FindsBy frame old found new =
-    (by_frame (frame ∷ []) old ≡ told_list found (Some frame)) × (unmatched (frame ∷ []) old ≡ new)
+    (by_frame (frame ∷ []) old ≡ reported_list found (Some frame)) × (unmatched (frame ∷ []) old ≡ new)
 
 -- True if the list has one poll less when a poll was removed, and is unchanged otherwise.
 abbrev pub OneLess : List Poll → Option Poll → List Poll → Type 0

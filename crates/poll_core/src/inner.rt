@@ -12,7 +12,7 @@ ghost use Rattle.poll_core.specs.Starting.{start_fault, AsksFor, HasRoom};
 ghost use Rattle.poll_core.specs.Steps.{CanTell};
 ghost use Rattle.poll_core.specs.Settling.{Event, Start, Tick, Close};
 ghost use Rattle.poll_core.specs.Standing.{Stands, TakesOn, StartsOn, StepsOn};
-ghost use Rattle.poll_core.specs.Inside.{state_of, IsSound, told_of, call_if, garbled_end};
+ghost use Rattle.poll_core.specs.Inside.{state_of, IsSound, reported_of, call_if, garbled_end};
 
 use crate::answers::StartFault;
 use crate::limits::LAST_MOMENT;
@@ -149,8 +149,8 @@ impl Inner {
         ensures settling { self.new.settling ≡ call_if result Call.Tick }
         ensures less { is_some result ≡ true
             → length self.new.polls.items < length self.old.polls.items }
-        ensures told { StepsOn (state_of self.old) (state_of self.new) (Tick moment)
-            (told_of result self.new.reader.frame) }
+        ensures reported { StepsOn (state_of self.old) (state_of self.new) (Tick moment)
+            (reported_of result self.new.reader.frame) }
         ensures buffered { CanTell result self.new.reader.frame }
     {
         self.last = moment;
@@ -168,8 +168,8 @@ impl Inner {
         ensures settling { self.new.settling ≡ call_if result (Call.Close closing) }
         ensures less { is_some result ≡ true
             → length self.new.polls.items < length self.old.polls.items }
-        ensures told { StepsOn (state_of self.old) (state_of self.new) (Close moment closing)
-            (told_of result self.new.reader.frame) }
+        ensures reported { StepsOn (state_of self.old) (state_of self.new) (Close moment closing)
+            (reported_of result self.new.reader.frame) }
         ensures buffered { CanTell result self.new.reader.frame }
     {
         self.last = moment;
@@ -190,8 +190,8 @@ impl Inner {
         ensures less { is_some result.settled ≡ true
             → length self.new.polls.items < length self.old.polls.items }
         ensures all { is_some result.settled ≡ false → result.taken ≡ length piece.now }
-        ensures told { TakesOn (state_of self.old) (state_of self.new) moment
-            (take result.taken piece.now) (told_of result.settled self.new.reader.frame) }
+        ensures reported { TakesOn (state_of self.old) (state_of self.new) moment
+            (take result.taken piece.now) (reported_of result.settled self.new.reader.frame) }
         ensures buffered { CanTell result.settled self.new.reader.frame }
     {
         one_reading();

@@ -9,12 +9,12 @@ ghost use Rattle.mb_wire.specs.Reader.{spelled, fields_of};
 ghost use Rattle.mb_wire.specs.Spans.{span_view};
 ghost use Rattle.poll_core.specs.Settling.{Event, Start, Tick, Close, Silent};
 ghost use Rattle.poll_core.specs.Settling.{answer};
-ghost use Rattle.poll_core.specs.Steps.{told_by, HasFrame, CanTell};
-ghost use Rattle.poll_core.specs.Inside.{TellsStep, TellsTaken, told_of};
+ghost use Rattle.poll_core.specs.Steps.{reported_by, HasFrame, CanTell};
+ghost use Rattle.poll_core.specs.Inside.{ReportsStep, ReportsTaken, reported_of};
 ghost use Rattle.std.specs.Option.{option_map};
 ghost use Rattle.poll_core.specs.Standing.{State, Stands, After};
 ghost use Rattle.poll_core.specs.Starting.{start_fault, AsksFor, HasRoom, IsReady};
-ghost use Rattle.poll_core.specs.Telling.{LendsReply, IsCall, TakesEvent, TakesPiece, settled_of};
+ghost use Rattle.poll_core.specs.Reporting.{LendsReply, IsCall, TakesEvent, TakesPiece, settled_of};
 ghost use Rattle.poll_core.specs.contracts.session.Session.{the_row};
 
 use crate::answers::{ClockBack, Ready, Settled, StartFault, Turn};
@@ -143,7 +143,7 @@ impl Session {
 
     fn advance(&mut self, moment: u64, piece: &[u8]) -> Result<Step, ClockBack>
         ensures err { OnErr result (self.new ≡ self.old) }
-        ensures told { IfOk result (TellsStep self.old self.new moment piece.now) }
+        ensures reported { IfOk result (ReportsStep self.old self.new moment piece.now) }
         ensures back { IsErr result ↔ (moment < self.old.last) }
         ensures buffered { IfOk result (λ step. CanTell step.settled self.new.reader.frame) }
         ensures taken { IfOk result (λ step. step.taken ≤ length piece.now) }
@@ -172,7 +172,7 @@ impl Session {
 
     fn tick_once(&mut self, moment: u64) -> Result<Option<SettledPoll>, ClockBack>
         ensures err { OnErr result (self.new ≡ self.old) }
-        ensures told { IfOk result (TellsTaken self.old self.new (Tick moment)) }
+        ensures reported { IfOk result (ReportsTaken self.old self.new (Tick moment)) }
         ensures buffered { IfOk result (λ taken. CanTell taken self.new.reader.frame) }
         ensures back { IsErr result ↔ (moment < self.old.last) }
     {
@@ -202,7 +202,7 @@ impl Session {
         closing: Closing,
     ) -> Result<Option<SettledPoll>, ClockBack>
         ensures err { OnErr result (self.new ≡ self.old) }
-        ensures told { IfOk result (TellsTaken self.old self.new (Close moment closing)) }
+        ensures reported { IfOk result (ReportsTaken self.old self.new (Close moment closing)) }
         ensures buffered { IfOk result (λ taken. CanTell taken self.new.reader.frame) }
         ensures back { IsErr result ↔ (moment < self.old.last) }
     {
@@ -216,7 +216,7 @@ impl Session {
 // Returns the completed poll, if any, with its response from the frame in the reader.
 fn report_any(taken: Option<SettledPoll>, reader: &FrameReader) -> Option<Settled<'_>>
     requires { CanTell taken reader.now.frame }
-    ensures told { option_map settled_of result ≡ told_of taken reader.now.frame }
+    ensures reported { option_map settled_of result ≡ reported_of taken reader.now.frame }
     ensures variant { is_some result ≡ is_some taken }
     ensures reply { IfSome result LendsReply }
 {
@@ -229,7 +229,7 @@ fn report_any(taken: Option<SettledPoll>, reader: &FrameReader) -> Option<Settle
 // Returns the completed poll with its response from the frame in the reader.
 fn report_settled(settled: SettledPoll, reader: &FrameReader) -> Settled<'_>
     requires { HasFrame settled.by reader.now.frame }
-    ensures told { settled_of result ≡ told_by settled reader.now.frame }
+    ensures reported { settled_of result ≡ reported_by settled reader.now.frame }
     ensures reply { LendsReply result }
 {
     let poll = &settled.poll;
@@ -250,7 +250,7 @@ fn report_settled(settled: SettledPoll, reader: &FrameReader) -> Settled<'_>
 }
 
 fn silent<'a>(poll: u64) -> Settled<'a>
-    ensures told { settled_of result ≡ (poll, Silent) }
+    ensures reported { settled_of result ≡ (poll, Silent) }
     ensures reply { LendsReply result }
 {
     Settled {
@@ -263,7 +263,7 @@ fn silent<'a>(poll: u64) -> Settled<'a>
 // Decodes the frame with the poll's transaction identifier, and returns the poll with its outcome
 // and response.
 fn answered<'a>(poll: &PendingPoll, frame: Frame<'a>) -> Settled<'a>
-    ensures told { (bytes : List ℕ) → spelled frame.entry ≡ fields_of bytes
+    ensures reported { (bytes : List ℕ) → spelled frame.entry ≡ fields_of bytes
         → settled_of result ≡ (poll.now.number, answer poll.now bytes) }
     ensures reply { LendsReply result }
 {

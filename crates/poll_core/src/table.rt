@@ -4,7 +4,7 @@ ghost use Rattle.std.specs.Prelude.{IsSome, Option};
 ghost use Rattle.std.specs.List.{list_any};
 ghost use Rattle.mb_wire.specs.Frames.{IsOwn, is_bad};
 ghost use Rattle.poll_core.specs.Polls.{due, has_id};
-ghost use Rattle.poll_core.specs.Steps.{AreApart, TakesOut, TellsOwed, FindsFirst, FindsBy, Finds};
+ghost use Rattle.poll_core.specs.Steps.{AreApart, TakesOut, ReportsOwed, FindsFirst, FindsBy, Finds};
 ghost use Rattle.poll_core.specs.Steps.{OneLess, CanTell};
 
 use crate::limits::MAX_WINDOW;
@@ -87,7 +87,7 @@ pub fn take_by_id(polls: &mut Table, id: u16) -> Option<PendingPoll>
 // Removes and returns the first poll that has timed out. If no poll has timed out and the session
 // ended, removes and returns the first poll as lost.
 pub fn take_owed(polls: &mut Table, ending: Option<LostCause>, moment: u64) -> Option<SettledPoll>
-    ensures told { TellsOwed moment ending polls.old.items result polls.new.items }
+    ensures reported { ReportsOwed moment ending polls.old.items result polls.new.items }
     ensures by_itself { (frame : Option (List ℕ)) → CanTell result frame }
     ensures apart { AreApart polls.old.items → AreApart polls.new.items }
 {

@@ -47,8 +47,8 @@ append_at more reply (Some at) = take (at + 1) reply ++ more ++ drop (at + 1) re
 abbrev pub with_headers : (more reply : List ℕ) → List ℕ
 with_headers more reply = append_at more reply (first_line_end reply)
 
--- The response `told` is the response `reply` with the headers for browsers inserted.
-pub record IsForBrowsers (names : List (List ℕ)) (bytes reply told : List ℕ) : Type 0 where
+-- The response `reported` is the response `reply` with the headers for browsers inserted.
+pub record IsForBrowsers (names : List (List ℕ)) (bytes reply reported : List ℕ) : Type 0 where
   pub route : Option RunRoute
   pub for : IsFor names bytes route
-  pub is : told ≡ with_headers (headers_for (is_page route)) reply
+  pub is : reported ≡ with_headers (headers_for (is_page route)) reply

@@ -28,7 +28,7 @@ pub record AsksRows {B T : Type 0} (ledger : B → Ledger) (old new : Office B)
     (result : Result (Result (Vec T Global) Refusal) E) : Type 0 where
   pub answer : Result (Vec T Global) Refusal
   pub asks : OnlyAsks ledger old new answer
-  pub gives : IfOk result (λ told. told ≡ answer)
+  pub gives : IfOk result (λ reported. reported ≡ answer)
   pub lists : OnOk result (ListsAccepted ledger old new answer says)
 
 -- The response to a query for rows: the text of the rows, or the program's refusal.

@@ -45,7 +45,7 @@ rows_left facts left = rows_between facts left.meter left.from left.till ++ left
 abbrev pub text_left : List Fact → RemainingRows → List ℕ
 text_left facts left =
     flat_map share_line (rows_left facts left)
-    ++ end_line (left.told + length (rows_left facts left))
+    ++ end_line (left.reported + length (rows_left facts left))
 
 -- True if some rows of the response are still to be queried.
 abbrev pub has_more : RemainingRows → Bool
@@ -92,7 +92,7 @@ is_long_response it from till seconds = nat_lt seconds (end_of_streamed it from 
 -- Later entries do not change the remaining text.
 pub record IsBegun (facts : List Fact) (meter : List ℕ) (from till : ℕ)
     (reply : List Share → List ℕ) (put : List ℕ) (left : RemainingRows) : Type 0 where
-  pub tells : put ++ text_left facts left ≡ reply (rows_between facts (Some meter) from till)
+  pub reports : put ++ text_left facts left ≡ reply (rows_between facts (Some meter) from till)
   pub settled : IsSettled facts left
 
 -- If `it` is the meter as the program reports it now, the response has begun as in `IsBegun`, or
@@ -160,7 +160,7 @@ abbrev pub body_size : RemainingRows → Sizes → ℕ
 body_size left sizes =
     sizes.bytes
     + length (flat_map share_line left.last.items
-    ++ end_line (left.told + sizes.count + length left.last.items))
+    ++ end_line (left.reported + sizes.count + length left.last.items))
 
 -- The head of a plain-text response with a body of `size` bytes.
 abbrev pub with_head : (size : ℕ) → List ℕ → List ℕ
@@ -188,28 +188,28 @@ pub record MovesOn (left later : RemainingRows) (seconds : ℕ) : Type 0 where
 
 -- The written bytes and the remaining text together are the same before and after the chunk, unless
 -- the store failed or memory ran out.
-abbrev pub HasTold : {B E : Type 0} → (B → Ledger) → (old new : Office B)
+abbrev pub HasReported : {B E : Type 0} → (B → Ledger) → (old new : Office B)
     → (answer : Result (Vec Share Global) Refusal) → (left later : RemainingRows) → (seconds : ℕ)
     → (from to : List ℕ) → Result (Result (Unit {0}) Refusal) E → Type 0
-HasTold ledger old new answer left later seconds from to (Ok (Ok done)) =
+HasReported ledger old new answer left later seconds from to (Ok (Ok done)) =
     MovesOn left later seconds
     × After ledger old new (λ past.
     to ++ text_left (facts_of past) later ≡ from ++ text_left (facts_of past) left)
-HasTold ledger old new answer left later seconds from to (Ok (Err why)) = answer ≡ Err why
-HasTold ledger old new answer left later seconds from to (Err fault) = Unit {0}
+HasReported ledger old new answer left later seconds from to (Ok (Err why)) = answer ≡ Err why
+HasReported ledger old new answer left later seconds from to (Err fault) = Unit {0}
 
 -- The call queries the store for the rows of one chunk, and writes the lines of these rows to the
 -- response.
-pub record TellsOn {B : Type 0} (ledger : B → Ledger) (old new : Office B) (left later : RemainingRows)
+pub record ReportsOn {B : Type 0} (ledger : B → Ledger) (old new : Office B) (left later : RemainingRows)
     (seconds : ℕ) (from to : List ℕ) {E : Type 0} (result : Result (Result (Unit {0}) Refusal) E)
     : Type 0 where
   pub answer : Result (Vec Share Global) Refusal
   pub asks : OnlyAsks ledger old new answer
-  pub tells : HasTold ledger old new answer left later seconds from to result
+  pub reports : HasReported ledger old new answer left later seconds from to result
 
 -- If no rows are still to be queried, then the call writes the remaining text of the response.
-abbrev pub TellsRest : RemainingRows → (from to : List ℕ) → Type 0
-TellsRest left from to =
+abbrev pub ReportsRest : RemainingRows → (from to : List ℕ) → Type 0
+ReportsRest left from to =
     (facts : List Fact) → left.till ≤ left.from → to ≡ from ++ text_left facts left
 
 -- ---- The complete streamed response.
@@ -239,7 +239,7 @@ pub record IsPiece (facts : List Fact) (meter : List ℕ) (opening : Opening) (l
   pub voids : All (VoidsFrom meter (next_place facts opening)) piece.further
   pub seconds : ℕ
   pub moves : MovesOn left piece.later seconds
-  pub tells : piece.text ++ text_left (piece.further ++ facts) piece.later
+  pub reports : piece.text ++ text_left (piece.further ++ facts) piece.later
       ≡ text ++ text_left (piece.further ++ facts) left
 
 -- Each chunk in the list continues the response after the chunks before it. The latest chunk comes

@@ -51,10 +51,10 @@ pub record ReportsDays (zone : Zone) (past : History) (register : Option (List �
 
 -- For every history of accepted events that matches the program's state, `ReportsDays` describes
 -- the report.
-abbrev pub TellsDaysReport : {B : Type 0} → (B → Ledger) → (old new : Office B)
+abbrev pub ReportsDaysReport : {B : Type 0} → (B → Ledger) → (old new : Office B)
     → (register : Option (List ℕ)) → ReportForm → Result (Unit {0}) Refusal → (Is : List ℕ → Type 0)
     → Type 0
-TellsDaysReport ledger old new register form answer Is = After ledger old new
+ReportsDaysReport ledger old new register form answer Is = After ledger old new
     (λ past. ReportsDays (ledger (books_in old)).zone past register form
     (failures_of ledger old) (failures_of ledger new) answer Is)
 
@@ -65,8 +65,8 @@ pub record AsksEnergy {B : Type 0} (ledger : B → Ledger) (old new : Office B)
     (result : Result (Result (Unit {0}) Refusal) E) : Type 0 where
   pub answer : Result (Unit {0}) Refusal
   pub asks : OnlyAsks ledger old new answer
-  pub gives : IfOk result (λ told. told ≡ answer)
-  pub tells : OnOk result (TellsDaysReport ledger old new register form answer (Appends had holds))
+  pub gives : IfOk result (λ reported. reported ≡ answer)
+  pub reports : OnOk result (ReportsDaysReport ledger old new register form answer (Appends had holds))
 
 -- The response with the energy report, or with the program's refusal.
 abbrev pub with_energy_reply : Result (Unit {0}) Refusal → (report : List ℕ) → List ℕ → List ℕ
@@ -81,6 +81,6 @@ pub record RepliesEnergy {B : Type 0} (ledger : B → Ledger) (old new : Office 
   pub answer : Result (Unit {0}) Refusal
   pub report : List ℕ
   pub asks : OnlyAsks ledger old new answer
-  pub tells : OnOk result
-      (TellsDaysReport ledger old new register form answer (λ text. report ≡ text))
+  pub reports : OnOk result
+      (ReportsDaysReport ledger old new register form answer (λ text. report ≡ text))
   pub puts : OnOk result (to ≡ with_energy_reply answer report from)

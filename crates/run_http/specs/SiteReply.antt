@@ -9,7 +9,7 @@ use Rattle.office_events.specs.Numbers.{refusal_number}
 use Rattle.office_events.specs.declared.refusals.Refusal.{Refusal}
 use Rattle.office_books.specs.Ledgers.{Ledger}
 use Rattle.office_core.specs.Asking.{OnlyAsks}
-use Rattle.office_core.specs.Site.{TellsSite}
+use Rattle.office_core.specs.Site.{ReportsSite}
 use Rattle.office_core.specs.declared.office.Office.{Office}
 use Rattle.office_core.specs.declared.site.SiteRow.{SiteRow}
 use Rattle.run_http.specs.StatusRoute.{with_reply}
@@ -34,6 +34,6 @@ pub record RepliesSite {B : Type 0} (ledger : B → Ledger) (old new : Office B)
     (reply : Result (Vec SiteRow Global) Refusal → List ℕ → List ℕ) (from to : List ℕ)
     {E : Type 0} (result : Result (Unit {0}) E) : Type 0 where
   pub answer : Result (Vec SiteRow Global) Refusal
-  pub tells : TellsSite ledger old new answer
+  pub reports : ReportsSite ledger old new answer
   pub asks : OnlyAsks ledger old new answer
   pub puts : OnOk result (to ≡ reply answer from)

@@ -38,15 +38,15 @@ fn first_line_end(reply: &[u8]) -> Option<usize>
 
 // Inserts headers after the status line of a response.
 fn with_headers(alloc: Global, more: &[u8], reply: &[u8]) -> Result<Vec<u8>, AllocError>
-    ensures { IfOk result (λ told. told.items ≡ browsers.with_headers more.now reply.now) }
+    ensures { IfOk result (λ reported. reported.items ≡ browsers.with_headers more.now reply.now) }
 {
     let Some(at) = first_line_end(reply) else {
         return Vec::from_slice(alloc, reply);
     };
-    let mut told = Vec::from_slice(alloc, &reply[..at + 1])?;
-    append_bytes(&mut told, more)?;
-    append_bytes(&mut told, &reply[at + 1..])?;
-    Ok(told)
+    let mut reported = Vec::from_slice(alloc, &reply[..at + 1])?;
+    append_bytes(&mut reported, more)?;
+    append_bytes(&mut reported, &reply[at + 1..])?;
+    Ok(reported)
 }
 
 /// Adds to a response the headers that protect users of browsers.
@@ -60,8 +60,8 @@ pub fn for_browsers(
     request: &[u8],
     reply: &[u8],
 ) -> Result<Vec<u8>, AllocError>
-    ensures { IfOk result (λ told.
-        IsForBrowsers (texts names.now) request.now reply.now told.items) }
+    ensures { IfOk result (λ reported.
+        IsForBrowsers (texts names.now) request.now reply.now reported.items) }
 {
     let route = run_route(names, request);
     with_headers(alloc, headers_for(is_page(&route)), reply)

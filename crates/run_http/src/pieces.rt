@@ -4,7 +4,7 @@ ghost use Rattle.http_answer.specs.Sending.Replies.{text_head};
 ghost use Rattle.interval_core.specs.Lines.{intervals_text, share_line};
 ghost use Rattle.run_http.specs.Copies as copies;
 ghost use Rattle.run_http.specs.Pieces as pieces;
-ghost use Rattle.run_http.specs.Pieces.{BeginsReply, PiecesAreWhole, SizesRows, TellsOn, TellsRest};
+ghost use Rattle.run_http.specs.Pieces.{BeginsReply, PiecesAreWhole, SizesRows, ReportsOn, ReportsRest};
 ghost use Rattle.run_http.specs.Pieces.{TextStays};
 
 use crate::meter_replies::ask_intervals;
@@ -32,7 +32,7 @@ pub struct RemainingRows {
     /// may change these rows in the store.
     last: Vec<Share>,
     /// The number of rows of the response that were already written.
-    told: usize,
+    reported: usize,
 }
 
 fn quarter_of(moment: u64) -> u64
@@ -88,7 +88,7 @@ fn begin_rows<B: Books>(
             from: first,
             till: end,
             last,
-            told: 0,
+            reported: 0,
         })),
         Err(why) => Ok(Err(why)),
     }
@@ -108,9 +108,9 @@ fn ask_sizes<B: Books>(
         till: left.till,
     };
     let answer = office.intervals_within(&left.meter, span, &mut sizes);
-    let told = sizes.whole()?;
+    let reported = sizes.whole()?;
     match answer {
-        Ok(()) => Ok(Ok(told)),
+        Ok(()) => Ok(Ok(reported)),
         Err(why) => Ok(Err(why)),
     }
 }
@@ -127,7 +127,7 @@ fn sum_of(a: usize, b: usize, c: usize) -> Option<usize>
 fn body_size(alloc: Global, left: &RemainingRows, sizes: Sizes) -> Result<usize, AllocError>
     ensures { IfOk result (λ size. size ≡ pieces.body_size left.now sizes) }
 {
-    let Some(count) = sum_of(left.told, sizes.count, left.last.len()) else {
+    let Some(count) = sum_of(left.reported, sizes.count, left.last.len()) else {
         return Err(AllocError);
     };
     let mut rest = Vec::new(alloc);
@@ -233,13 +233,13 @@ fn add_piece(
 ) -> Result<(), AllocError>
     ensures text { OnOk result (text.new.items ≡ text.old.items ++ flat_map share_line rows.now) }
     ensures left { OnOk result (left.new
-        ≡ record left.old { from = till; told = left.old.told + length rows.now }) }
+        ≡ record left.old { from = till; reported = left.old.reported + length rows.now }) }
 {
-    let Some(told) = left.told.checked_add(rows.len()) else {
+    let Some(reported) = left.reported.checked_add(rows.len()) else {
         return Err(AllocError);
     };
     write_share_lines(text, rows)?;
-    left.told = told;
+    left.reported = reported;
     left.from = till;
     Ok(())
 }
@@ -260,7 +260,7 @@ pub fn write_next_rows<B: Books>(
     left: &mut RemainingRows,
     seconds: u64,
 ) -> Result<Result<(), Refusal>, AllocError>
-    ensures { TellsOn B.ledger office.old office.new left.old left.new seconds
+    ensures { ReportsOn B.ledger office.old office.new left.old left.new seconds
         text.old.items text.new.items result }
 {
     shares_add_up();
@@ -283,15 +283,15 @@ pub fn write_next_rows<B: Books>(
 // Returns the number of rows in the complete response, when only the stored last rows are left to
 // write.
 fn count_of(left: &RemainingRows) -> Option<usize>
-    ensures { IfSome result (λ count. count ≡ left.now.told + length left.now.last.items) }
+    ensures { IfSome result (λ count. count ≡ left.now.reported + length left.now.last.items) }
 {
-    left.told.checked_add(left.last.len())
+    left.reported.checked_add(left.last.len())
 }
 
 /// Appends the stored last rows of a response, and the line with the number of all its rows. All
 /// other rows must already be written. If memory runs out, a part of the text remains.
 pub fn write_last_rows(text: &mut Vec<u8>, left: &RemainingRows) -> Result<(), AllocError>
-    ensures { OnOk result (TellsRest left.now text.old.items text.new.items) }
+    ensures { OnOk result (ReportsRest left.now text.old.items text.new.items) }
 {
     let Some(count) = count_of(left) else {
         return Err(AllocError);

@@ -16,14 +16,14 @@ use std::io::Write;
 // Writes the rest of an energy report, unless the program refused the query. A failed write means
 // that memory ran out.
 fn add_rest<W: Write>(
-    told: Result<(), Refusal>,
+    reported: Result<(), Refusal>,
     rows: &mut ReportRows<'_, W>,
 ) -> Result<Result<(), Refusal>, AllocError>
-    ensures gives { IfOk result (λ left. left ≡ told) }
+    ensures gives { IfOk result (λ left. left ≡ reported) }
     ensures output { rows.new.output.ghost_name ≡ rows.old.output.ghost_name }
-    ensures last { OnOk told (PutsLast W.contents result rows.old rows.new) }
+    ensures last { OnOk reported (PutsLast W.contents result rows.old rows.new) }
 {
-    match told {
+    match reported {
         Ok(()) => {
             rows.finish();
             if rows.has_failed() {
@@ -47,8 +47,8 @@ fn write_energy<B: Books, W: Write>(
         (W.contents output.old) (W.contents output.new) result }
 {
     let mut rows = ReportRows::to(*form, output);
-    let told = office.days_within(register, form.range, &mut rows);
-    add_rest(told, &mut rows)
+    let reported = office.days_within(register, form.range, &mut rows);
+    add_rest(reported, &mut rows)
 }
 
 /// Appends the response to a query for the energy of an accounting register: the report, or the

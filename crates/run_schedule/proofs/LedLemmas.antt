@@ -8,7 +8,7 @@ use Rattle.std.proofs.lemmas.List.{append_cancel_left, append_cancel_right}
 use Rattle.std.proofs.lemmas.List.Elements.{Contains-append_left, Contains-push, Contains-push_cases}
 use Rattle.energy_report.specs.declared.form.Period.{Period}
 use Rattle.run_schedule.specs.Periods.Names.{IsPeriodIn, file_of, spells, stem_of, suffix_of}
-use Rattle.run_schedule.specs.Periods.Led.{IsFileOf, IsLast, IsLed, IsToldBy, gives_way, other_length, rank, tells}
+use Rattle.run_schedule.specs.Periods.Led.{IsFileOf, IsLast, IsLed, IsReportedBy, gives_way, other_length, rank, reports}
 
 either : (a b : Bool) → (a || b) ≡ true → (a ≡ true) ⊎ (b ≡ true)
 either true b is = inl refl
@@ -24,14 +24,14 @@ or_left false b is = absurd (cc)
 
 -- If a file name has no period of the configured length, only the alternative length remains to be
 -- tested.
-pub told_by_other : (file : List ℕ) (length : Period) (name : List ℕ) (r : Option (Bor (List ℕ))) → IsPeriodIn file length name None
-    → IsPeriodIn file (other_length length) name r → IsToldBy file length name r
-told_by_other file length name (Some text) own is = record {
-  told = or_right (spells length text.now) (spells (other_length length) text.now) is.spelled;
+pub reported_by_other : (file : List ℕ) (length : Period) (name : List ℕ) (r : Option (Bor (List ℕ))) → IsPeriodIn file length name None
+    → IsPeriodIn file (other_length length) name r → IsReportedBy file length name r
+reported_by_other file length name (Some text) own is = record {
+  reported = or_right (spells length text.now) (spells (other_length length) text.now) is.spelled;
   named = is.named;
 }
-told_by_other file length name None own other = λ text is.
-    elim (either (spells length text) (spells (other_length length) text) is.told) as (λ _. ⊥) [
+reported_by_other file length name None own other = λ text is.
+    elim (either (spells length text) (spells (other_length length) text) is.reported) as (λ _. ⊥) [
       | inl spelled ↦ own text (record { spelled = spelled; named = is.named })
       | inr spelled ↦ other text (record { spelled = spelled; named = is.named })
     ]
@@ -42,20 +42,20 @@ same_text file text other both =
     let fronts : stem_of file ++ codes "-" ++ text ≡ stem_of file ++ codes "-" ++ other = append_cancel_right _ _ (suffix_of file) both in
     append_cancel_left (stem_of file ++ codes "-") text other fronts
 
-pub keeps_untold : {Z : Type 0} (file : List ℕ) (length : Period) (name : List ℕ) (led : Option (Vec ℕ Z)) → IsToldBy file length name None
+pub keeps_untold : {Z : Type 0} (file : List ℕ) (length : Period) (name : List ℕ) (led : Option (Vec ℕ Z)) → IsReportedBy file length name None
     → (names : List (List ℕ)) → IsLed file length names led → IsLed file length (names ++ name ∷ []) led
-keeps_untold file length name None untold names old = λ text told there.
+keeps_untold file length name None untold names old = λ text reported there.
     elim (Contains-push_cases names name (file_of file text) there) as (λ _. ⊥) [
-      | inl before ↦ old text told before
-      | inr same ↦ untold text (record { told = told; named = sym same })
+      | inl before ↦ old text reported before
+      | inr same ↦ untold text (record { reported = reported; named = sym same })
     ]
 keeps_untold file length name (Some led) untold names old = record {
-  told = old.told;
+  reported = old.reported;
   there = Contains-append_left names (name ∷ []) _ old.there;
-  last = λ other told there.
+  last = λ other reported there.
       elim (Contains-push_cases names name (file_of file other) there) as (λ _. rank length other ≤ rank length led.items) [
-        | inl before ↦ old.last other told before
-        | inr same ↦ absurd (untold other (record { told = told; named = sym same }))
+        | inl before ↦ old.last other reported before
+        | inr same ↦ absurd (untold other (record { reported = reported; named = sym same }))
       ];
 }
 
@@ -66,11 +66,11 @@ pub keeps_led : {Z : Type 0} (file : List ℕ) (length : Period) (name text : Li
     → gives_way led length text ≡ false → (names : List (List ℕ)) → IsLed file length names led → IsLed file length (names ++ name ∷ []) led
 keeps_led file length name text None is stays names old = absurd (cc)
 keeps_led file length name text (Some led) is stays names old = record {
-  told = old.told;
+  reported = old.reported;
   there = Contains-append_left names (name ∷ []) _ old.there;
-  last = λ other told there.
+  last = λ other reported there.
       elim (Contains-push_cases names name (file_of file other) there) as (λ _. rank length other ≤ rank length led.items) [
-        | inl before ↦ old.last other told before
+        | inl before ↦ old.last other reported before
         | inr same ↦ not_more length text other (rank length led.items) (same_text file text other (is.named ∙ same))
             (ltb-false (rank length led.items) (rank length text) stays)
       ];
@@ -82,20 +82,20 @@ below a b c first second = omega (arith, first, second)
 pub leads : {Z : Type 0} (file : List ℕ) (length : Period) (name text : List ℕ) (led : Option (Vec ℕ Z)) → IsFileOf file length name text
     → gives_way led length text ≡ true → (names : List (List ℕ)) → IsLed file length names led → IsLast file length (names ++ name ∷ []) text
 leads file length name text None is gives names old = record {
-  told = is.told;
+  reported = is.reported;
   there = subst (λ (n : List ℕ). Contains (names ++ name ∷ []) n) (sym is.named) (Contains-push names name);
-  last = λ other told there.
+  last = λ other reported there.
       elim (Contains-push_cases names name (file_of file other) there) as (λ _. rank length other ≤ rank length text) [
-        | inl before ↦ absurd (old other told before)
+        | inl before ↦ absurd (old other reported before)
         | inr same ↦ not_more length text other (rank length text) (same_text file text other (is.named ∙ same)) (omega arith)
       ];
 }
 leads file length name text (Some led) is gives names old = record {
-  told = is.told;
+  reported = is.reported;
   there = subst (λ (n : List ℕ). Contains (names ++ name ∷ []) n) (sym is.named) (Contains-push names name);
-  last = λ other told there.
+  last = λ other reported there.
       elim (Contains-push_cases names name (file_of file other) there) as (λ _. rank length other ≤ rank length text) [
-        | inl before ↦ below (rank length other) (rank length led.items) (rank length text) (old.last other told before)
+        | inl before ↦ below (rank length other) (rank length led.items) (rank length text) (old.last other reported before)
             (ltb-true (rank length led.items) (rank length text) gives)
         | inr same ↦ not_more length text other (rank length text) (same_text file text other (is.named ∙ same)) (omega arith)
       ];

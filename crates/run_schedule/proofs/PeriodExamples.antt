@@ -1,7 +1,7 @@
 -- Worked examples of file names and periods, computed from the definitions.
 use Rattle.std.proofs.Common.{◌≡◌, codes, nat_lt, true, false, refl}
 use Rattle.energy_report.specs.declared.form.Period.TheVariants as period
-use Rattle.run_schedule.specs.Periods.Led.{rank, tells}
+use Rattle.run_schedule.specs.Periods.Led.{rank, reports}
 use Rattle.run_schedule.specs.Periods.Names.{file_of, spells}
 use Rattle.run_schedule.specs.Periods.Plans.{is_later}
 
@@ -61,7 +61,7 @@ a_run_by_months_goes_on_in_a_later_year = refl
 a_run_by_years_goes_on_in_a_month_of_a_later_year : nat_lt (rank period.Year (codes "2026")) (rank period.Year (codes "2027-01")) ≡ true
 a_run_by_years_goes_on_in_a_month_of_a_later_year = refl
 
-days_are_of_no_run_by_months : tells period.Month (codes "2026-11-25") ≡ false
+days_are_of_no_run_by_months : reports period.Month (codes "2026-11-25") ≡ false
 days_are_of_no_run_by_months = refl
 
 a_month_is_not_later_than_its_year : is_later (codes "2026-11") (codes "2026") ≡ false

@@ -1,9 +1,9 @@
 //! Messages for operators: what a printed number means, and what a device lacks in the store.
 
 mod lacks;
+mod reported;
 mod sentences;
-mod told;
 
 pub use lacks::{DeviceLack, Lack, add_lacks};
+pub use reported::{MOST_REPORTED, Reported, ReportedNumber, Topic};
 pub use sentences::{append_refusal, write_held, write_lack};
-pub use told::{MOST_TOLD, ReportedNumber, Told, Topic};

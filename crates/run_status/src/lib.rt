@@ -7,7 +7,7 @@ mod monitor;
 mod status;
 
 pub use advice::{
-    DeviceLack, Lack, MOST_TOLD, ReportedNumber, Told, Topic, add_lacks, append_refusal,
+    DeviceLack, Lack, MOST_REPORTED, Reported, ReportedNumber, Topic, add_lacks, append_refusal,
     write_held, write_lack,
 };
 pub use monitor::{LineQueue, MOST_WAITING, RunMonitor, write_head, write_lines, write_sum};

@@ -1,5 +1,5 @@
 pub mod Replies
-pub mod Told
+pub mod Reported
 pub mod Written
 pub mod Scripts
 pub mod Held

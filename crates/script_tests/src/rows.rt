@@ -19,9 +19,9 @@ fn the_greatest_numbers_and_days_of_any_year_are_written(rt: HostRuntime) {
         start: u64::MAX,
         mwh: u64::MAX,
     };
-    let mut told = Vec::new(rt.alloc());
-    assert!(rt; write_interval(share, &mut told).is_ok());
-    assert!(rt; write_end(u64::MAX, &mut told).is_ok());
+    let mut reported = Vec::new(rt.alloc());
+    assert!(rt; write_interval(share, &mut reported).is_ok());
+    assert!(rt; write_end(u64::MAX, &mut reported).is_ok());
     for (year, month, of_month, count, mwh) in &DAYS {
         let day = Day::new(*year, *month, *of_month).ok();
         let total = DayTotal {
@@ -29,9 +29,9 @@ fn the_greatest_numbers_and_days_of_any_year_are_written(rt: HostRuntime) {
             count: *count,
             mwh: *mwh,
         };
-        assert!(rt; write_day(&total, &mut told).is_ok());
+        assert!(rt; write_day(&total, &mut reported).is_ok());
     }
-    assert!(rt; told.as_slice() == WRITTEN.as_bytes());
+    assert!(rt; reported.as_slice() == WRITTEN.as_bytes());
 }
 
 // A `Line` that is built from texts and numbers has the bytes of these texts and numbers, and a

@@ -11,9 +11,9 @@ abbrev pub next_moment : List ℕ → ℕ
 next_moment [] = 0
 next_moment (moment ∷ later) = moment
 
--- True if `late` states whether the clock's next time is after `until`.
-abbrev pub TellsLate : (until : ℕ) → (late : Bool) → (moments : List ℕ) → Type 0
-TellsLate until late moments = late ≡ nat_lt until (next_moment moments)
+-- The program's answer `late` to the question whether the clock's next time is after `until`.
+abbrev pub ReportsLate : (until : ℕ) → (late : Bool) → (moments : List ℕ) → Type 0
+ReportsLate until late moments = late ≡ nat_lt until (next_moment moments)
 
 -- The list of times after the clock returned the first. A clock repeats the last time of its list.
 abbrev pub later_moments : List ℕ → List ℕ
@@ -22,7 +22,7 @@ later_moments (moment ∷ []) = moment ∷ []
 later_moments (moment ∷ next ∷ later) = next ∷ later
 
 -- True if the clock returned the first of its known times, and will return the later times next.
-abbrev pub TellsMoment : Option (List ℕ) → Option (List ℕ) → ℕ → Type 0
-TellsMoment None new moment = Unit {0}
-TellsMoment (Some moments) new moment =
+abbrev pub ReportsMoment : Option (List ℕ) → Option (List ℕ) → ℕ → Type 0
+ReportsMoment None new moment = Unit {0}
+ReportsMoment (Some moments) new moment =
     (moment ≡ next_moment moments) × (new ≡ Some (later_moments moments))

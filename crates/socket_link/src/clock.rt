@@ -4,14 +4,14 @@ use std::time::{SystemTime, UNIX_EPOCH};
 /// A clock that returns whole seconds since 1970-01-01 UTC.
 pub trait Clock {
     ghost use Rattle.std.specs.Prelude.{ℕ, List, Option, None};
-    ghost use Rattle.socket_link.specs.Clocks.{TellsMoment};
+    ghost use Rattle.socket_link.specs.Clocks.{ReportsMoment};
 
     // The times that the clock will return, or `None` if they are not known in advance.
     ghost moments: { Self → Option (List ℕ) } = { λ _. None };
 
     /// Returns the current time, or 0 if the clock cannot be read.
     fn now(&mut self) -> u64
-        ensures { TellsMoment (moments self.old) (moments self.new) result };
+        ensures { ReportsMoment (moments self.old) (moments self.new) result };
 }
 
 /// The operating system's clock. Its time may be set back while the program runs.

@@ -16,7 +16,7 @@ pub struct DeadlineLink<'l, L: Link, C: Clock> {
 impl<'l, L: Link, C: Clock> DeadlineLink<'l, L, C> {
     ghost use Rattle.std.specs.Prelude.{◌≡◌, IfSome};
     ghost use Rattle.socket_link.specs.Beginnings.{IsFreshHaste, until_of};
-    ghost use Rattle.socket_link.specs.Clocks.{TellsLate};
+    ghost use Rattle.socket_link.specs.Clocks.{ReportsLate};
 
     /// Creates a link that works until the clock's time is after `until`, in seconds.
     pub fn new(link: &'l mut L, clock: &'l mut C, until: u64) -> DeadlineLink<'l, L, C>
@@ -33,7 +33,7 @@ impl<'l, L: Link, C: Clock> DeadlineLink<'l, L, C> {
 
     // Returns whether the clock's current time is after the deadline.
     fn is_late(&mut self) -> bool
-        ensures late { IfSome (C.moments self.old.clock.now) (TellsLate self.old.until result) }
+        ensures late { IfSome (C.moments self.old.clock.now) (ReportsLate self.old.until result) }
         ensures link { self.new.link.now ≡ self.old.link.now }
         ensures counts { self.new.counts ≡ self.old.counts }
     {

@@ -11,9 +11,9 @@ use Rattle.sqlite.specs.Held.{Held, state}
 use Rattle.sqlite.specs.Steps.{FailsToCommit}
 use Rattle.store_tables.specs.Content.{Content, AreTables, HasRows}
 use Rattle.store_tables.specs.Steps.{StepsTo, Turns}
-use Rattle.store_tables.specs.Asking.{AsksInside, TellsAnswer}
+use Rattle.store_tables.specs.Asking.{AsksInside, ReportsAnswer}
 use Rattle.store_tables.proofs.StepLemmas.{kept_then, undone_kept, uncommitted_kept}
-use Rattle.store_facts.specs.Going.{Goes, HasMade, Told, Commits, AreMade}
+use Rattle.store_facts.specs.Going.{Goes, HasMade, Reported, Commits, AreMade}
 
 both_ok : {X E : Type 0} {P Q R : Type 0} (r : Result X E) → (P → Q → R) → OnOk r P → OnOk r Q → OnOk r R
 both_ok (Ok x) f p q = f p q
@@ -30,13 +30,13 @@ of_steps old new r Makes one = record {
 -- If a query inside a transaction is Ok, the tables stay unchanged, and the answer follows from one
 -- table.
 pub of_answer : {S A D E X : Type 0} (g : Ghosts S) (old new : Held S) (tree : ℕ) (columns : X → Row) (Answers : List X → A → Type 0) (a : A)
-    → AsksInside {X = A} {E = D} g old new (Ok a) → TellsAnswer g old new tree columns (Ok a) Answers
-    → Goes {X = A} {E = E} (state g old) (state g new) (Ok a) (Told tree columns Answers a)
-of_answer g old new tree columns Answers a asks tells = record {
+    → AsksInside {X = A} {E = D} g old new (Ok a) → ReportsAnswer g old new tree columns (Ok a) Answers
+    → Goes {X = A} {E = E} (state g old) (state g new) (Ok a) (Reported tree columns Answers a)
+of_answer g old new tree columns Answers a asks reports = record {
   kept = λ clean inside content has. asks.kept clean content has;
   makes = λ clean inside content has.
       let still = asks.unchanged clean content has inside in
-      (still.0, (content, record { same = refl; answers = tells clean content has }, subst (λ d. AreTables d content) (sym still.1) has));
+      (still.0, (content, record { same = refl; answers = reports clean content has }, subst (λ d. AreTables d content) (sym still.1) has));
   survives = asks.survives;
 }
 
@@ -91,11 +91,11 @@ then_refused a b x d P Q one = record { kept = one.kept; makes = λ clean inside
 
 -- If a call satisfies `Goes`, it also satisfies `Goes` with a weaker postcondition, and with any
 -- other Ok value.
-pub told_less : {X Y D E : Type 0} (a b : State) (x : X) (y : Y) (P Q : Content → Content → Type 0) → ((content after : Content) → P content after → Q content after)
+pub reported_less : {X Y D E : Type 0} (a b : State) (x : X) (y : Y) (P Q : Content → Content → Type 0) → ((content after : Content) → P content after → Q content after)
     → Goes {X = X} {E = D} a b (Ok x) P → Goes {X = Y} {E = E} a b (Ok y) Q
-told_less a b x y P Q tells one = record {
+reported_less a b x y P Q reports one = record {
   kept = one.kept;
-  makes = λ clean inside content has. let h = one.makes clean inside content has in (h.0, (h.1.0, tells content h.1.0 h.1.1, h.1.2));
+  makes = λ clean inside content has. let h = one.makes clean inside content has in (h.0, (h.1.0, reports content h.1.0 h.1.1, h.1.2));
   survives = one.survives;
 }
 

@@ -39,7 +39,7 @@ pub record Commits {X E : Type 0} (old new : State) (result : Result X E)
   pub survives : Survives old new (AreMade old Makes)
 
 -- True if a query changed nothing, and its answer follows from the rows of one table.
-pub record Told {A X : Type 0} (tree : ℕ) (columns : X → Row) (Answers : List X → A → Type 0)
+pub record Reported {A X : Type 0} (tree : ℕ) (columns : X → Row) (Answers : List X → A → Type 0)
     (answer : A) (content after : Content) : Type 0 where
   pub same : after ≡ content
   pub answers : (rows : List X) → HasRows tree columns rows content → Answers rows answer

@@ -1,6 +1,6 @@
 //! The query for the installations at an accounting register.
 ghost use Rattle.store_tables.specs.Answer.{FirstFirst};
-ghost use Rattle.store_tables.specs.Asking.{Asks, Shows, TellsRows};
+ghost use Rattle.store_tables.specs.Asking.{Asks, Shows, ReportsRows};
 ghost use Rattle.store_tables.specs.Meters.Rows.{installed_columns, installed_place, installed_shown, is_at};
 ghost use Rattle.store_tables.specs.Meters.Trees.{installations};
 
@@ -13,7 +13,7 @@ pub fn register_meter_rows<S: Alter>(
     register: &str,
 ) -> Result<Vec<Row>, Error>
     ensures asks { Asks S.Store conn.old conn.new }
-    ensures shows { TellsRows S.Store conn.old conn.new installations installed_columns result
+    ensures shows { ReportsRows S.Store conn.old conn.new installations installed_columns result
         (Shows (is_at register.now) (FirstFirst installed_place) installed_shown) }
 {
     conn.query_all(

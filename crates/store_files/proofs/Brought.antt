@@ -162,8 +162,8 @@ module _ (layout : Layout) (zone : List ℕ) (content : Content) where
 
   -- If a result satisfies the contract `OpensFile`, it also satisfies the contract with another
   -- value in Ok.
-  pub told_as : {X Y E D : Type 0} (a b : State) (x : X) (y : Y) → OpensFile {X = X} {E = E} layout zone content a b (Ok x) → OpensFile {X = Y} {E = D} layout zone content a b (Ok y)
-  told_as a b x y it = record { ok = it.ok; err = tt; survives = it.survives }
+  pub reported_as : {X Y E D : Type 0} (a b : State) (x : X) (y : Y) → OpensFile {X = X} {E = E} layout zone content a b (Ok x) → OpensFile {X = Y} {E = D} layout zone content a b (Ok y)
+  reported_as a b x y it = record { ok = it.ok; err = tt; survives = it.survives }
 
   pub failed_as : {X Y E D : Type 0} (a b : State) (e : E) (d : D) → OpensFile {X = X} layout zone content a b (Err e) → OpensFile {X = Y} layout zone content a b (Err d)
   failed_as a b e d it = record { ok = tt; err = it.err; survives = it.survives }

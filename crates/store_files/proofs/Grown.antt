@@ -19,7 +19,7 @@ use Rattle.sqlite.specs.Listing.{understood}
 use Rattle.sqlite.specs.State.{State, HasCleanDisk, Survives, Writes, Executes, ExecutesInside}
 use Rattle.sqlite.proofs.Callers.{IsPlain, command_of, statement_of, runs_as}
 use Rattle.sqlite.specs.Tree.{Trees}
-use Rattle.store_tables.specs.Content.{Content, HasTree, AreApart, AreTablesIn, is_numbered, told}
+use Rattle.store_tables.specs.Content.{Content, HasTree, AreApart, AreTablesIn, is_numbered, reported}
 use Rattle.store_tables.specs.Steps.{StepsTo}
 use Rattle.store_tables.proofs.Tables.{went, same_value}
 use Rattle.store_tables.proofs.StepLemmas.{steps, goes_then}
@@ -119,8 +119,8 @@ module _ (n : ℕ) (text : List ℕ) (table : Table)
   grown old new it content has = record {
     schema = it.schema_is ∙ next;
     rows = λ t there. elim (place t there) [
-      | inl before ↦ subst (λ (rs : List Row). IsPermutation (map (told (is_numbered t)) rs) (content t)) (sym (kept schema.tables old.trees new.trees it.others t before)) (has.rows t before)
-      | inr last ↦ subst (λ k. IsPermutation (map (told (is_numbered k)) (new.trees k)) (content k)) (sym last)
+      | inl before ↦ subst (λ (rs : List Row). IsPermutation (map (reported (is_numbered t)) rs) (content t)) (sym (kept schema.tables old.trees new.trees it.others t before)) (has.rows t before)
+      | inr last ↦ subst (λ k. IsPermutation (map (reported (is_numbered k)) (new.trees k)) (content k)) (sym last)
           (rw (it.empty, has.none (next_tree schema) (has_whole books_schema.tables (suc n) (next_tree schema) (subst (HasTree (first_tables (suc n)).tables) last there)) (has_not schema.tables (next_tree schema) free)) (IsPermutation-refl []))
     ];
     apart = λ t there. elim (place t there) [

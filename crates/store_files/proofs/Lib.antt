@@ -6,4 +6,4 @@ mod Names
 mod Questions
 mod Ranges
 mod Brought
-mod Told
+mod Reported

@@ -5,7 +5,7 @@ use Rattle.sqlite.specs.declared.types.Value.TheVariants.{Null}
 use Rattle.sqlite.specs.Order.{Row}
 use Rattle.sqlite.specs.State.{State, Shown}
 use Rattle.sqlite.proofs.Callers.{reads_as, one_permutation}
-use Rattle.store_tables.specs.Content.{Content, HasTree, HasRows, AreTablesIn, told}
+use Rattle.store_tables.specs.Content.{Content, HasTree, HasRows, AreTablesIn, reported}
 use Rattle.store_tables.proofs.Laid.{Numbered, lay, laid_from}
 use Rattle.store_tables.proofs.Scans.{asked, passes, shows}
 use Rattle.store_tables.specs.Meters.Rows.{Installed, installed_columns}
@@ -17,9 +17,9 @@ use Rattle.store_files.specs.Meta.{Meta, meta_columns, meta_shown, IsMarked}
 use Rattle.store_files.specs.Upgrade.{meter_shown}
 use Rattle.store_files.proofs.Texts as text
 
-told_same : (rows : List Row) → map (told true) rows ≡ rows
-told_same [] = refl
-told_same (r ∷ rows) = ap (λ rs. r ∷ rs) (told_same rows)
+reported_same : (rows : List Row) → map (reported true) rows ≡ rows
+reported_same [] = refl
+reported_same (r ∷ rows) = ap (λ rs. r ∷ rs) (reported_same rows)
 
 all_pass : (rows : List Row) → filter (passes [] []) rows ≡ rows
 all_pass [] = refl
@@ -31,8 +31,8 @@ meta_there Second = inl refl
 meta_there Third = inl refl
 
 -- If a table has one row, a query on the table has one result row.
-one_row : (rows all : List Row) (m : Meta) → IsPermutation (map (told true) rows) all → IsPermutation (meta_columns m ∷ []) all → rows ≡ meta_columns m ∷ []
-one_row rows all m is marked = sym (told_same rows) ∙ one_permutation (meta_columns m) (map (told true) rows) (IsPermutation-trans _ _ _ marked (IsPermutation-sym _ _ is))
+one_row : (rows all : List Row) (m : Meta) → IsPermutation (map (reported true) rows) all → IsPermutation (meta_columns m ∷ []) all → rows ≡ meta_columns m ∷ []
+one_row rows all m is marked = sym (reported_same rows) ∙ one_permutation (meta_columns m) (map (reported true) rows) (IsPermutation-trans _ _ _ marked (IsPermutation-sym _ _ is))
 
 pub meta_answer : (layout : Layout) (old new : State) (content : Content) (m : Meta) (rows : List Row) → AreTablesIn (schema_of layout) old.now content → IsMarked m content → Shown text.meta_rows [] old new rows → rows ≡ meta_shown m ∷ []
 meta_answer layout old new content m rows has marked h =

@@ -2,7 +2,7 @@
 use Rattle.std.specs.Prelude.{◌≡◌, ℕ, [], map}
 use Rattle.std.specs.List.Sorted.{IsPermutation}
 use Rattle.sqlite.specs.Effect.{Database}
-use Rattle.store_tables.specs.Content.{Content, HasTree, AreApart, AreTablesIn, is_numbered, told}
+use Rattle.store_tables.specs.Content.{Content, HasTree, AreApart, AreTablesIn, is_numbered, reported}
 use Rattle.store_tables.specs.Schema.{books_schema}
 use Rattle.store_files.specs.Layouts.{first_tables}
 
@@ -11,7 +11,7 @@ use Rattle.store_files.specs.Layouts.{first_tables}
 pub record HasFirst (count : ℕ) (db : Database) (content : Content) : Type 0 where
   pub schema : db.schema ≡ first_tables count
   pub rows : (t : ℕ) → HasTree (first_tables count).tables t
-      → IsPermutation (map (told (is_numbered t)) (db.trees t)) (content t)
+      → IsPermutation (map (reported (is_numbered t)) (db.trees t)) (content t)
   pub apart : (t : ℕ) → HasTree (first_tables count).tables t → AreApart (db.trees t)
   pub none : (t : ℕ) → HasTree books_schema.tables t → (HasTree (first_tables count).tables t → ⊥)
       → content t ≡ []

@@ -31,7 +31,7 @@ pub record ReadsMeta (version : ℕ) (m : Meta) (result : Result Zone OpenFault)
 -- The result of opening a file, unless the database itself fails: the time zone, `NotOurs` for an
 -- unexpected version, or `Zone` for an invalid time zone. A file of version 3 with a valid time
 -- zone is always opened.
-pub record TellsOpening (version : ℕ) (m : Meta) (old new : State)
+pub record ReportsOpening (version : ℕ) (m : Meta) (old new : State)
     (result : Result Zone OpenFault) : Type 0 where
   pub other : m.version ≢ version
       → OnOk result ⊥ × IfErr result (λ e. (e ≡ NotOurs) ⊎ IsOwnFault old new e)
@@ -51,18 +51,18 @@ pub record FindsZone (layout : Layout) (content : Content) (old new : State)
   pub kept : KeepsCommit old new
   pub unchanged : OnOk result (IsUnchanged old new)
   pub survives : Survives old new (λ _. ⊥)
-  pub told : (m : Meta) → IsMarked m content → TellsOpening (version_of layout) m old new result
+  pub reported : (m : Meta) → IsMarked m content → ReportsOpening (version_of layout) m old new result
 
 -- The result of opening a file of a given layout over an open connection without uncommitted
 -- changes.
-abbrev pub TellsOfLayout : Layout → (old new : State) → Result Zone OpenFault → Type 0
-TellsOfLayout layout old new result =
+abbrev pub ReportsOfLayout : Layout → (old new : State) → Result Zone OpenFault → Type 0
+ReportsOfLayout layout old new result =
     (content : Content) → IsTrue old.is_open → old.now ≡ old.committed
     → AreTablesIn (schema_of layout) old.now content
-    → (m : Meta) → IsMarked m content → TellsOpening (version_of layout) m old new result
+    → (m : Meta) → IsMarked m content → ReportsOpening (version_of layout) m old new result
 
 -- The result of opening a file of any layout, which depends on the row of `meta`.
-abbrev pub TellsOfFile : (old new : State) → Result Zone OpenFault → Type 0
-TellsOfFile old new result =
+abbrev pub ReportsOfFile : (old new : State) → Result Zone OpenFault → Type 0
+ReportsOfFile old new result =
     (layout : Layout) (content : Content) → AreTablesIn (schema_of layout) old.committed content
-    → (m : Meta) → IsMarked m content → TellsOpening (version_of layout) m old new result
+    → (m : Meta) → IsMarked m content → ReportsOpening (version_of layout) m old new result

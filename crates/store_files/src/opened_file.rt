@@ -11,7 +11,7 @@ ghost use Rattle.store_files.specs.Meta.{Meta, meta_shown};
 ghost use Rattle.store_files.specs.Zones.{IsZone};
 ghost use Rattle.store_files.specs.Upgrade.{OpensFile, OpensAnyFile, IsOpenTo};
 ghost use Rattle.store_files.specs.OpenedFile.{ShowsMeta, ReadsMeta, FindsZone};
-ghost use Rattle.store_files.specs.OpenedFile.{TellsOfLayout, TellsOfFile};
+ghost use Rattle.store_files.specs.OpenedFile.{ReportsOfLayout, ReportsOfFile};
 ghost use Rattle.store_tables.specs.Failing.{IsStoreError};
 
 use crate::faults::{OpenFault, fault_of};
@@ -68,7 +68,7 @@ fn read_zone_text(row: &Row) -> Result<Zone, OpenFault>
 /// Reads the time zone from the only row of `meta`. Returns `NotOurs` for an unexpected version, or
 /// for any other number of rows.
 fn zone_in(rows: &[Row], version: u64) -> Result<Zone, OpenFault>
-    ensures tells { (m : Meta) → rows.now ≡ meta_shown m ∷ [] → ReadsMeta version m result }
+    ensures reports { (m : Meta) → rows.now ≡ meta_shown m ∷ [] → ReadsMeta version m result }
 {
     match rows {
         [row] => {
@@ -118,8 +118,8 @@ fn open_settled<S: Alter>(conn: &mut Connection<S>, layout: Layout) -> Result<Zo
     requires autocommit { conn.old.in_transaction ≡ false }
     ensures autocommit { conn.new.in_transaction ≡ false }
     ensures clean { HasCleanDisk (state S.Store conn.new) → HasCleanDisk (state S.Store conn.old) }
-    ensures told { HasCleanDisk (state S.Store conn.new)
-        → TellsOfLayout layout (state S.Store conn.old) (state S.Store conn.new) result }
+    ensures reported { HasCleanDisk (state S.Store conn.new)
+        → ReportsOfLayout layout (state S.Store conn.old) (state S.Store conn.new) result }
     ensures opened { HasCleanDisk (state S.Store conn.new) → (zone : _) (content : Content)
         → IsOpenTo layout zone content (state S.Store conn.old)
         → OpensFile layout zone content (state S.Store conn.old) (state S.Store conn.new) result }
@@ -137,8 +137,8 @@ fn open_as<S: Alter>(conn: &mut Connection<S>, found: Layout) -> Result<Zone, Op
         → (state S.Store conn.old).now ≡ (state S.Store conn.old).committed }
     ensures autocommit { conn.new.in_transaction ≡ false }
     ensures clean { HasCleanDisk (state S.Store conn.new) → HasCleanDisk (state S.Store conn.old) }
-    ensures told { HasCleanDisk (state S.Store conn.new) → IsTrue (state S.Store conn.old).is_open
-        → TellsOfFile (state S.Store conn.old) (state S.Store conn.new) result }
+    ensures reported { HasCleanDisk (state S.Store conn.new) → IsTrue (state S.Store conn.old).is_open
+        → ReportsOfFile (state S.Store conn.old) (state S.Store conn.new) result }
     ensures opened { HasCleanDisk (state S.Store conn.new)
         → OpensAnyFile (state S.Store conn.old) (state S.Store conn.new) result }
 {
@@ -163,9 +163,9 @@ pub fn open<S: Alter>(conn: &mut Connection<S>) -> Result<Zone, OpenFault>
         → (result ≡ Err OpenFault.NotOurs) × (conn.new ≡ conn.old) }
     ensures autocommit { conn.new.in_transaction ≡ conn.old.in_transaction }
     ensures clean { HasCleanDisk (state S.Store conn.new) → HasCleanDisk (state S.Store conn.old) }
-    ensures told { HasCleanDisk (state S.Store conn.new) → conn.old.in_transaction ≡ false
+    ensures reported { HasCleanDisk (state S.Store conn.new) → conn.old.in_transaction ≡ false
         → IsTrue (state S.Store conn.old).is_open
-        → TellsOfFile (state S.Store conn.old) (state S.Store conn.new) result }
+        → ReportsOfFile (state S.Store conn.old) (state S.Store conn.new) result }
     ensures opened { HasCleanDisk (state S.Store conn.new)
         → OpensAnyFile (state S.Store conn.old) (state S.Store conn.new) result }
 {

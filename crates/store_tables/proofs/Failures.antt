@@ -126,9 +126,9 @@ module _ (schema : Schema) (sql : List ℕ) (params : Row) (suits : Suits schema
       absurd (let f = subst IsSome bare.0 late.2 in cc)
 
 -- A result that satisfies a stronger postcondition also satisfies a weaker one.
-pub told : {A : Type 0} (r : Result A Error) (P Q : A → Type 0) (R T : Error → Type 0) → ((a : A) → P a → Q a) → ((e : Error) → R e → T e) → IfOk r P → IfErr r R → MatchResult r Q T
-told (Ok a) P Q R T tells fails ok err = tells a ok
-told (Err e) P Q R T tells fails ok err = fails e err
+pub reported : {A : Type 0} (r : Result A Error) (P Q : A → Type 0) (R T : Error → Type 0) → ((a : A) → P a → Q a) → ((e : Error) → R e → T e) → IfOk r P → IfErr r R → MatchResult r Q T
+reported (Ok a) P Q R T reports fails ok err = reports a ok
+reported (Err e) P Q R T reports fails ok err = fails e err
 
 -- A failed query satisfies its postcondition if its error satisfies the part about errors.
 pub failed_on : {A : Type 0} (P : A → Type 0) (Q : Error → Type 0) (e : Error) (r : Result A Error) → IsErrAnd r (λ d. d ≡ e) → Q e → MatchResult r P Q

@@ -8,7 +8,7 @@ use Rattle.sqlite.specs.Order.{Row}
 use Rattle.sqlite.specs.Tree.{Trees}
 use Rattle.sqlite.specs.Table.{Table}
 use Rattle.sqlite.specs.Schema.{Schema}
-use Rattle.store_tables.specs.Content.{HasTree, Content, is_numbered, told, with_rows, AreApart}
+use Rattle.store_tables.specs.Content.{HasTree, Content, is_numbered, reported, with_rows, AreApart}
 
 pub frame : (tables : List Table) (k : ℕ) (db next : Trees) → AllByRecursion (λ t. t.tree ≢ k → next t.tree ≡ db t.tree) tables → (t : ℕ) → HasTree tables t → t ≢ k → next t ≡ db t
 frame [] k db next all t has apart = absurd has
@@ -21,15 +21,15 @@ same t k e = grind (arith, nat_tests)
 other : (t k : ℕ) → (t == k) ≡ false → t ≢ k
 other t k e is = grind (arith, nat_tests)
 
-abbrev pub Told : Trees → Content → ℕ → Type 0
-Told db content t = IsPermutation (map (told (is_numbered t)) (db t)) (content t)
+abbrev pub Reported : Trees → Content → ℕ → Type 0
+Reported db content t = IsPermutation (map (reported (is_numbered t)) (db t)) (content t)
 
 module _ (schema : Schema) where
-  pub framed : (k : ℕ) (db next : Trees) (rows : List Row) (content : Content) → ((t : ℕ) → HasTree schema.tables t → t ≢ k → next t ≡ db t) → IsPermutation (map (told (is_numbered k)) (next k)) rows
-      → ((t : ℕ) → HasTree schema.tables t → Told db content t) → (t : ℕ) → HasTree schema.tables t → Told next (with_rows k rows content) t
+  pub framed : (k : ℕ) (db next : Trees) (rows : List Row) (content : Content) → ((t : ℕ) → HasTree schema.tables t → t ≢ k → next t ≡ db t) → IsPermutation (map (reported (is_numbered k)) (next k)) rows
+      → ((t : ℕ) → HasTree schema.tables t → Reported db content t) → (t : ℕ) → HasTree schema.tables t → Reported next (with_rows k rows content) t
   framed k db next rows content stay here has t there = elim (cases_Bool (t == k)) [
-    | inl is ↦ rw is (subst (λ n. IsPermutation (map (told (is_numbered n)) (next n)) rows) (sym (same t k is)) here)
-    | inr off ↦ rw off (subst (λ (rs : List Row). IsPermutation (map (told (is_numbered t)) rs) (content t)) (sym (stay t there (other t k off))) (has t there))
+    | inl is ↦ rw is (subst (λ n. IsPermutation (map (reported (is_numbered n)) (next n)) rows) (sym (same t k is)) here)
+    | inr off ↦ rw off (subst (λ (rs : List Row). IsPermutation (map (reported (is_numbered t)) rs) (content t)) (sym (stay t there (other t k off))) (has t there))
   ]
 
   pub framed_apart : (k : ℕ) (db next : Trees) → ((t : ℕ) → HasTree schema.tables t → t ≢ k → next t ≡ db t) → AreApart (next k) → ((t : ℕ) → HasTree schema.tables t → AreApart (db t)) → (t : ℕ) → HasTree schema.tables t → AreApart (next t)

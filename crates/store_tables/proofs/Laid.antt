@@ -7,7 +7,7 @@ use Rattle.sqlite.specs.declared.types.Value.TheVariants.{Null, Int}
 use Rattle.sqlite.specs.Order.{Row}
 use Rattle.sqlite.specs.Tree.{rowid}
 use Rattle.sqlite_keyed.proofs.ListLemmas.{map-map, filter-map, IsPermutation-filter}
-use Rattle.store_tables.specs.Content.{told, id_of, changed_where, without_where}
+use Rattle.store_tables.specs.Content.{reported, id_of, changed_where, without_where}
 use Rattle.store_tables.proofs.Permuted.{unmapped}
 use Rattle.store_tables.proofs.Edits.{changed}
 
@@ -17,9 +17,9 @@ abbrev pub laid : Bool → ℤ → Row → Row
 laid true n columns = columns
 laid false n columns = Int n ∷ columns
 
-pub told_laid : (numbered : Bool) (n : ℤ) (columns : Row) → told numbered (laid numbered n columns) ≡ columns
-told_laid true n columns = refl
-told_laid false n columns = refl
+pub reported_laid : (numbered : Bool) (n : ℤ) (columns : Row) → reported numbered (laid numbered n columns) ≡ columns
+reported_laid true n columns = refl
+reported_laid false n columns = refl
 
 abbrev pub Numbered : Type 0 → Type 0
 Numbered X = ℤ × X
@@ -34,15 +34,15 @@ module _ {X : Type 0} (numbered : Bool) (columns : X → Row) where
     pub rows : kept ≡ map lay all
     pub same : IsPermutation (map (λ (z : Numbered X). z.1) all) xs
 
-  stored : (r : Row) (x : X) → rowid r ≡ Int (id_of r) → told numbered r ≡ columns x → r ≡ laid numbered (id_of r) (columns x)
+  stored : (r : Row) (x : X) → rowid r ≡ Int (id_of r) → reported numbered r ≡ columns x → r ≡ laid numbered (id_of r) (columns x)
   stored = go numbered
     where
-      go : (b : Bool) (r : Row) (x : X) → rowid r ≡ Int (id_of r) → told b r ≡ columns x → r ≡ laid b (id_of r) (columns x)
+      go : (b : Bool) (r : Row) (x : X) → rowid r ≡ Int (id_of r) → reported b r ≡ columns x → r ≡ laid b (id_of r) (columns x)
       go true r x keyed is = is
       go false [] x keyed is = absurd (let e : Null ≡ Int (id_of []) = keyed in cc)
       go false (v ∷ vs) x keyed is = ap₂ ◌∷◌ keyed is
 
-  paired : (rows : List Row) (ys : List X) → AllByRecursion (λ r. rowid r ≡ Int (id_of r)) rows → map (told numbered) rows ≡ map columns ys
+  paired : (rows : List Row) (ys : List X) → AllByRecursion (λ r. rowid r ≡ Int (id_of r)) rows → map (reported numbered) rows ≡ map columns ys
       → (all : List (Numbered X)) × (rows ≡ map lay all) × (map (λ (z : Numbered X). z.1) all ≡ ys)
   paired [] [] keyed is = ([], refl, refl)
   paired [] (y ∷ ys) keyed is = absurd (let e = is in cc)
@@ -51,19 +51,19 @@ module _ {X : Type 0} (numbered : Bool) (columns : X → Row) where
       let rest = paired rows ys keyed.1 cc in
       ((id_of r, y) ∷ rest.0, ap₂ ◌∷◌ (stored r y keyed.0 cc) rest.1, ap (λ zs. y ∷ zs) rest.2)
 
-  pub laid_from : (rows cols : List Row) (xs : List X) → AllByRecursion (λ r. rowid r ≡ Int (id_of r)) rows → IsPermutation (map (told numbered) rows) cols → IsPermutation (map columns xs) cols → IsLaid rows xs
-  laid_from rows cols xs keyed told_as has =
-      let found = unmapped columns xs (map (told numbered) rows) (IsPermutation-trans _ _ _ has (IsPermutation-sym _ _ told_as)) in
+  pub laid_from : (rows cols : List Row) (xs : List X) → AllByRecursion (λ r. rowid r ≡ Int (id_of r)) rows → IsPermutation (map (reported numbered) rows) cols → IsPermutation (map columns xs) cols → IsLaid rows xs
+  laid_from rows cols xs keyed reported_as has =
+      let found = unmapped columns xs (map (reported numbered) rows) (IsPermutation-trans _ _ _ has (IsPermutation-sym _ _ reported_as)) in
       let all = paired rows found.0 keyed found.2 in
       record { all = all.0; rows = all.1; same = subst (λ ys. IsPermutation ys xs) (sym all.2) (IsPermutation-sym _ _ found.1) }
 
-  told_all : (all : List (Numbered X)) → map (told numbered) (map lay all) ≡ map columns (map (λ (z : Numbered X). z.1) all)
-  told_all [] = refl
-  told_all (z ∷ all) = ap₂ ◌∷◌ (told_laid numbered z.0 (columns z.1)) (told_all all)
+  reported_all : (all : List (Numbered X)) → map (reported numbered) (map lay all) ≡ map columns (map (λ (z : Numbered X). z.1) all)
+  reported_all [] = refl
+  reported_all (z ∷ all) = ap₂ ◌∷◌ (reported_laid numbered z.0 (columns z.1)) (reported_all all)
 
-  pub laid_told : (rows : List Row) (xs : List X) → IsLaid rows xs → IsPermutation (map columns xs) (map (told numbered) rows)
-  laid_told rows xs h =
-      subst (IsPermutation (map columns xs)) (sym (ap (map (told numbered)) h.rows ∙ told_all h.all)) (IsPermutation-map columns _ _ (IsPermutation-sym _ _ h.same))
+  pub laid_reported : (rows : List Row) (xs : List X) → IsLaid rows xs → IsPermutation (map columns xs) (map (reported numbered) rows)
+  laid_reported rows xs h =
+      subst (IsPermutation (map columns xs)) (sym (ap (map (reported numbered)) h.rows ∙ reported_all h.all)) (IsPermutation-map columns _ _ (IsPermutation-sym _ _ h.same))
 
   pub laid_permuted : (rows more : List Row) (xs : List X) → IsPermutation rows more → IsLaid rows xs → IsLaid more xs
   laid_permuted rows more xs moved h =
@@ -73,20 +73,20 @@ module _ {X : Type 0} (numbered : Bool) (columns : X → Row) where
   pub laid_more : (rows : List Row) (xs : List X) (n : ℤ) (x : X) → IsLaid rows xs → IsLaid (laid numbered n (columns x) ∷ rows) (x ∷ xs)
   laid_more rows xs n x h = record { all = (n, x) ∷ h.all; rows = ap (λ rs. laid numbered n (columns x) ∷ rs) h.rows; same = IsPermutation-cons x _ _ h.same }
 
-  module _ (test : Row → Bool) (p : X → Bool) (tells : (n : ℤ) (x : X) → test (laid numbered n (columns x)) ≡ p x) where
+  module _ (test : Row → Bool) (p : X → Bool) (reports : (n : ℤ) (x : X) → test (laid numbered n (columns x)) ≡ p x) where
     -- The stored rows that pass `test` are the stored rows of the values that pass `p`.
     chosen : (all : List (Numbered X)) → filter test (map lay all) ≡ map lay (filter (λ (z : Numbered X). p z.1) all)
     chosen [] = refl
     chosen (z ∷ all) = elim (cases_Bool (p z.1)) [
-      | inl yes_p ↦ rw (tells z.0 z.1, yes_p) (ap (λ rs. lay z ∷ rs) (chosen all))
-      | inr no_p ↦ rw (tells z.0 z.1, no_p) (chosen all)
+      | inl yes_p ↦ rw (reports z.0 z.1, yes_p) (ap (λ rs. lay z ∷ rs) (chosen all))
+      | inr no_p ↦ rw (reports z.0 z.1, no_p) (chosen all)
     ]
 
     others : (all : List (Numbered X)) → filter (λ r. not (test r)) (map lay all) ≡ map lay (filter (λ (z : Numbered X). not (p z.1)) all)
     others [] = refl
     others (z ∷ all) = elim (cases_Bool (p z.1)) [
-      | inl yes_p ↦ rw (tells z.0 z.1, yes_p) (others all)
-      | inr no_p ↦ rw (tells z.0 z.1, no_p) (ap (λ rs. lay z ∷ rs) (others all))
+      | inl yes_p ↦ rw (reports z.0 z.1, yes_p) (others all)
+      | inr no_p ↦ rw (reports z.0 z.1, no_p) (ap (λ rs. lay z ∷ rs) (others all))
     ]
 
     pub laid_chosen : (rows : List Row) (xs : List X) → IsLaid rows xs → IsLaid (filter test rows) (filter p xs)
@@ -109,8 +109,8 @@ module _ {X : Type 0} (numbered : Bool) (columns : X → Row) where
 
       one_changed : (z : Numbered X) → changed test made (lay z) ≡ lay (z.0, changes z.1)
       one_changed z = elim (cases_Bool (p z.1)) [
-        | inl yes_p ↦ rw (tells z.0 z.1, yes_p) (makes z.0 z.1)
-        | inr no_p ↦ rw (tells z.0 z.1, no_p) refl
+        | inl yes_p ↦ rw (reports z.0 z.1, yes_p) (makes z.0 z.1)
+        | inr no_p ↦ rw (reports z.0 z.1, no_p) refl
       ]
 
       all_changed : (all : List (Numbered X)) → map (changed test made) (map lay all) ≡ map lay (map (λ (z : Numbered X). (z.0, changes z.1)) all)

@@ -16,7 +16,7 @@ use Rattle.store_tables.specs.Content.{Content, AreTables, HasRows}
 use Rattle.store_tables.specs.Failing.{IsStoreError, IsFault}
 use Rattle.store_tables.proofs.Failures.{row_fault}
 use Rattle.store_tables.specs.Columns.{whole_in, first_of, first_in, or_damaged, and_then}
-use Rattle.store_tables.specs.Asking.{Asks, TellsAnswer, ShowsFirst, ReadsRow, LooksUp}
+use Rattle.store_tables.specs.Asking.{Asks, ReportsAnswer, ShowsFirst, ReadsRow, LooksUp}
 
 module _ {S A X : Type 0} (g : Ghosts S) (old new : Held S) (tree : ℕ) (columns : X → Row) (IsSound : X → Type 0) (Answers : List X → A → Type 0) (asks : Asks g old new) where
   -- A look-up whose query failed returns the error of the query.
@@ -31,7 +31,7 @@ module _ {S A X : Type 0} (g : Ghosts S) (old new : Held S) (tree : ℕ) (column
   }
 
 module _ {S A X : Type 0} (g : Ghosts S) (old new : Held S) (tree : ℕ) (columns : X → Row) (IsSound : X → Type 0) (asks : Asks g old new) (passes : X → Bool) (Later : X → X → Type 0) (shown : X → Row)
-    (items : List Row) (shows : TellsAnswer {A = List Row} g old new tree columns (Ok items) (ShowsFirst passes Later shown)) (Answers : List X → Option A → Type 0) where
+    (items : List Row) (shows : ReportsAnswer {A = List Row} g old new tree columns (Ok items) (ShowsFirst passes Later shown)) (Answers : List X → Option A → Type 0) where
   is_empty : (rows : List Row) → slice_get rows 0 ≡ None → rows ≡ []
   is_empty [] e = refl
   is_empty (r ∷ rows) e = absurd (let f = e in cc)
@@ -46,21 +46,21 @@ module _ {S A X : Type 0} (g : Ghosts S) (old new : Held S) (tree : ℕ) (column
 
   -- A look-up whose query shows no row returns None.
   pub looked_none : slice_get items 0 ≡ None → ((xs found : List X) → AreFound passes Later xs found → slice_get found 0 ≡ None → Answers xs None) → LooksUp g old new tree columns IsSound (Ok None) Answers
-  looked_none is tells = record {
+  looked_none is reports = record {
     asks = asks;
-    answer = λ clean content has rows of. let it = shows clean content has rows of in tells rows it.0 it.1 (none_shown it.0 (sym (is_empty items is) ∙ it.2));
+    answer = λ clean content has rows of. let it = shows clean content has rows of in reports rows it.0 it.1 (none_shown it.0 (sym (is_empty items is) ∙ it.2));
     fault = λ clean content has rows of. tt;
   }
 
   -- A look-up whose first row can be read returns the value in this row.
   pub looked_some : (IsSeen : X → A → Type 0) (row : Row) (a : A) → slice_get items 0 ≡ Some row → ReadsRow row shown IsSeen IsSound (Ok a)
       → ((xs found : List X) (x : X) → AreFound passes Later xs found → slice_get found 0 ≡ Some x → IsSeen x a → Answers xs (Some a)) → LooksUp g old new tree columns IsSound (Ok (Some a)) Answers
-  looked_some IsSeen row a is reads tells = record {
+  looked_some IsSeen row a is reads reports = record {
     asks = asks;
     answer = λ clean content has rows of.
         let it = shows clean content has rows of in
         let one = some_shown row it.0 is it.2 in
-        tells rows it.0 one.0 it.1 one.1 (reads.read one.0 one.2);
+        reports rows it.0 one.0 it.1 one.1 (reads.read one.0 one.2);
     fault = λ clean content has rows of. tt;
   }
 
@@ -87,7 +87,7 @@ module _ {S A X : Type 0} (g : Ghosts S) (old new : Held S) (tree : ℕ) (column
 -- ---- the integer in the first column of the first row
 
 module _ {S X : Type 0} (g : Ghosts S) (old new : Held S) (tree : ℕ) (columns : X → Row) (IsSound : X → Type 0) (asks : Asks g old new) (passes : X → Bool) (Later : X → X → Type 0) (shown : X → Row)
-    (items : List Row) (shows : TellsAnswer {A = List Row} g old new tree columns (Ok items) (ShowsFirst passes Later shown)) (Answers : List X → Option ℕ → Type 0) (low high : ℕ) (of : X → ℕ)
+    (items : List Row) (shows : ReportsAnswer {A = List Row} g old new tree columns (Ok items) (ShowsFirst passes Later shown)) (Answers : List X → Option ℕ → Type 0) (low high : ℕ) (of : X → ℕ)
     (reads : (row : Row) (r : Result ℕ RowFault) → r ≡ or_damaged (whole_in low high (column row 0)) → ReadsRow row shown (λ x n. n ≡ of x) IsSound r)
     (none : (xs found : List X) → AreFound passes Later xs found → slice_get found 0 ≡ None → Answers xs None)
     (some : (xs found : List X) (x : X) (n : ℕ) → AreFound passes Later xs found → slice_get found 0 ≡ Some x → n ≡ of x → Answers xs (Some n)) where

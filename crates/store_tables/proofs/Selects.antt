@@ -56,7 +56,7 @@ module _ {X : Type 0} (cmp : X → X → Ordering) (total : IsTotalOrder cmp) wh
 -- ---- SELECT with WHERE, ORDER BY and LIMIT
 
 module _ {X : Type 0} (tree : ℕ) (tests project : List Term) (order : List (Term × Key)) (limit : Term) (params : Row) (columns : X → Row) (p : X → Bool) (shown : X → Row) (R : X → X → Type 0)
-    (tells : (n : ℤ) (x : X) → passes params tests (laid (is_numbered tree) n (columns x)) ≡ p x) (tells_columns : (n : ℤ) (x : X) → shows params project (laid (is_numbered tree) n (columns x)) ≡ shown x)
+    (reports : (n : ℤ) (x : X) → passes params tests (laid (is_numbered tree) n (columns x)) ≡ p x) (reports_columns : (n : ℤ) (x : X) → shows params project (laid (is_numbered tree) n (columns x)) ≡ shown x)
     (ranks : (m n : ℤ) (x y : X) → is_gt (output_cmp (scan tree tests project order limit) (output (scan tree tests project order limit) (env params (laid (is_numbered tree) m (columns x))))
     (output (scan tree tests project order limit) (env params (laid (is_numbered tree) n (columns y))))) ≡ false → R x y) where
   abbrev query : Query
@@ -71,12 +71,12 @@ module _ {X : Type 0} (tree : ℕ) (tests project : List Term) (order : List (Te
 
   shown_all : (all : List (Numbered X)) → map (λ (o : Output). o.1) (map out all) ≡ map shown (map (λ (z : Numbered X). z.1) all)
   shown_all [] = refl
-  shown_all (z ∷ all) = ap (λ r. r ∷ map (λ (o : Output). o.1) (map out all)) (tells_columns z.0 z.1) ∙ ap (λ rs. shown z.1 ∷ rs) (shown_all all)
+  shown_all (z ∷ all) = ap (λ r. r ∷ map (λ (o : Output). o.1) (map out all)) (reports_columns z.0 z.1) ∙ ap (λ rs. shown z.1 ∷ rs) (shown_all all)
 
   pub selected : (db : Trees) (rows : List Row) (xs : List X) → IsLaid (is_numbered tree) columns (db tree) xs → IsAnswer query (overlay db []) params rows
       → (found : List X) × AreFound p R xs found × (rows ≡ page query params (map shown found))
   selected db rows xs lies a =
-      let chosen = laid_chosen (is_numbered tree) columns (passes params tests) p tells (db tree) xs lies in
+      let chosen = laid_chosen (is_numbered tree) columns (passes params tests) p reports (db tree) xs lies in
       let kept : a.kept ≡ map out chosen.all = kept_are params tree tests project order limit db rows a ∙ (ap (map (λ r. output query (env params r))) chosen.rows ∙ outs chosen.all) in
       let moved = unmapped out chosen.all a.ordered (subst (λ os. IsPermutation os a.ordered) kept a.same) in
       let up = ascending_weaker _ (λ (z w : Numbered X). R z.1 w.1) (λ (z w : Numbered X) le. ranks z.0 w.0 z.1 w.1 le) moved.0

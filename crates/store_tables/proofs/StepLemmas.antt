@@ -98,7 +98,7 @@ answered a b x y P one = record { kept = one.kept; inside = one.inside; rows = o
 
 -- A step that satisfies a stronger postcondition also satisfies a weaker one.
 pub weaker : {X E : Type 0} (a b : State) (r : Result X E) (P Q : Database → Database → Type 0) → (P a.now b.now → Q a.now b.now) → StepsTo a b r P → StepsTo a b r Q
-weaker a b r P Q tells one = record { kept = one.kept; inside = one.inside; rows = λ clean inside. on_ok r tells (one.rows clean inside); survives = one.survives }
+weaker a b r P Q reports one = record { kept = one.kept; inside = one.inside; rows = λ clean inside. on_ok r reports (one.rows clean inside); survives = one.survives }
 
 pub not_run_kept : (old new : State) (sql : List ℕ) (params : Row) (e : Error) → IsNotRun old new sql params e → KeepsCommit old new
 unfolding IsNotRun

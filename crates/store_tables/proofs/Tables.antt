@@ -17,10 +17,10 @@ use Rattle.sqlite_schema.specs.declared.schema.Reference.{Reference}
 use Rattle.sqlite_schema.specs.Rules.{parent_key}
 use Rattle.sqlite_rules.specs.Action.{works, work_by, pairs, deed_for}
 use Rattle.store_tables.specs.Schema.{books_schema}
-use Rattle.store_tables.specs.Content.{HasTree, AreApart, Edits, id_of, is_numbered, told, with_rows}
+use Rattle.store_tables.specs.Content.{HasTree, AreApart, Edits, id_of, is_numbered, reported, with_rows}
 use Rattle.store_tables.specs.Steps.{TurnsIn}
 use Rattle.store_tables.proofs.Frames.{framed, framed_apart, with_here, with_others}
-use Rattle.store_tables.proofs.Laid.{IsLaid, laid_from, laid_told}
+use Rattle.store_tables.proofs.Laid.{IsLaid, laid_from, laid_reported}
 
 either : (b : Bool) (x : Value) → cond b x x ≡ x
 either true x = refl
@@ -64,12 +64,12 @@ pub record Rewrites (form : Schema) (k : ℕ) (old new : Database) : Type 0 wher
 pub turns : {X : Type 0} (form : Schema) (k : ℕ) (columns : X → Row) (edit : List X → List X) (old new : Database) → HasTree form.tables k → Rewrites form k old new
     → (AreApart (old.trees k) → (xs : List X) → IsLaid (is_numbered k) columns (old.trees k) xs → IsLaid (is_numbered k) columns (new.trees k) (edit xs)) → TurnsIn form (Edits k columns edit) old new
 turns form k columns edit old new there rewrites lays content has =
-    let here = map (told (is_numbered k)) (new.trees k) in
+    let here = map (reported (is_numbered k)) (new.trees k) in
     let apart = has.apart k there in (
       with_rows k here content,
       record {
         rows = λ xs of. subst (IsPermutation (map columns (edit xs))) (sym (with_here k here content))
-            (laid_told (is_numbered k) columns (new.trees k) (edit xs) (lays apart xs (laid_from (is_numbered k) columns (old.trees k) (content k) xs apart.keyed (has.rows k there) of)));
+            (laid_reported (is_numbered k) columns (new.trees k) (edit xs) (lays apart xs (laid_from (is_numbered k) columns (old.trees k) (content k) xs apart.keyed (has.rows k there) of)));
         others = with_others k here content;
       },
       record {

@@ -102,7 +102,7 @@ module _ (t : Table) (at : ℕ) (place : slice_get books_schema.tables at ≡ So
         }
 
     -- The effect of UPDATE .. SET .. WHERE .. on the rows of a table.
-    module _ {X : Type 0} (columns : X → Row) (p : X → Bool) (f : X → X) (tells : (n : ℤ) (x : X) → chosen (laid (is_numbered k) n (columns x)) ≡ p x)
+    module _ {X : Type 0} (columns : X → Row) (p : X → Bool) (f : X → X) (reports : (n : ℤ) (x : X) → chosen (laid (is_numbered k) n (columns x)) ≡ p x)
         (makes : (n : ℤ) (x : X) → made (laid (is_numbered k) n (columns x)) ≡ laid (is_numbered k) n (columns (f x))) (keeps : (r : Row) → rowid r ≡ Int (id_of r) → rowid (made r) ≡ rowid r) where
       pub updates : (old new : State) (text : List ℕ) (r : Result ℕ Error) → command_of (understood books_schema text) ≡ Update at (record { lets = []; body = query }) → IsPlain (understood books_schema text)
           → Executes text params old new r → OnOk r (Turns (Edits k columns (changed_where p f)) old.now new.now)
@@ -110,7 +110,7 @@ module _ (t : Table) (at : ℕ) (place : slice_get books_schema.tables at ≡ So
       updates old new text (Ok count) is plain h = λ content has.
           let does = changes keeps old new text count has.schema is plain h in
           turns books_schema k columns (changed_where p f) old.now new.now (tree_at books_schema.tables at table place) does.rewrites
-          (λ apart xs lies. laid_permuted (is_numbered k) columns _ (new.now.trees k) (changed_where p f xs) (does.rows apart) (laid_changed (is_numbered k) columns chosen p tells made f makes (old.now.trees k) xs lies)) content has
+          (λ apart xs lies. laid_permuted (is_numbered k) columns _ (new.now.trees k) (changed_where p f xs) (does.rows apart) (laid_changed (is_numbered k) columns chosen p reports made f makes (old.now.trees k) xs lies)) content has
 
   -- ---- DELETE
 
@@ -159,8 +159,8 @@ module _ (t : Table) (at : ℕ) (place : slice_get books_schema.tables at ≡ So
   pub deletes : {X : Type 0} (columns : X → Row) (p : X → Bool) → ((n : ℤ) (x : X) → chosen (laid (is_numbered k) n (columns x)) ≡ p x) → (old new : State) (text : List ℕ) (r : Result ℕ Error)
       → command_of (understood books_schema text) ≡ Delete at (record { lets = []; body = gone_query }) → IsPlain (understood books_schema text)
       → Executes text params old new r → OnOk r (Turns (Edits k columns (without_where p)) old.now new.now)
-  deletes columns p tells old new text (Err why) is plain h = tt
-  deletes columns p tells old new text (Ok count) is plain h = λ content has.
+  deletes columns p reports old new text (Err why) is plain h = tt
+  deletes columns p reports old new text (Ok count) is plain h = λ content has.
       let does = goes old new text count has.schema is plain h in
       turns books_schema k columns (without_where p) old.now new.now (tree_at books_schema.tables at table place) does.rewrites
-      (λ apart xs lies. subst (λ rs. IsLaid (is_numbered k) columns rs (without_where p xs)) (sym (does.rows apart)) (laid_others (is_numbered k) columns chosen p tells (old.now.trees k) xs lies)) content has
+      (λ apart xs lies. subst (λ rs. IsLaid (is_numbered k) columns rs (without_where p xs)) (sym (does.rows apart)) (laid_others (is_numbered k) columns chosen p reports (old.now.trees k) xs lies)) content has

@@ -47,20 +47,20 @@ ShowsFirst {X} passes Later shown rows answer =
 
 -- True if an Ok answer of a query follows from the rows of one table, and an error has a cause in
 -- `IsStoreError`.
-abbrev pub TellsAnswer : {S A X : Type 0} → Ghosts S → (old new : Held S) → (tree : ℕ)
+abbrev pub ReportsAnswer : {S A X : Type 0} → Ghosts S → (old new : Held S) → (tree : ℕ)
     → (columns : X → Row) → (result : Result A Error) → (Answers : List X → A → Type 0) → Type 0
-TellsAnswer {S} {A} {X} g old new tree columns result Answers =
+ReportsAnswer {S} {A} {X} g old new tree columns result Answers =
     HasCleanDisk (state g new) → (content : Content) → AreTables (state g old).now content
     → (rows : List X) → HasRows tree columns rows content
     → MatchResult result (Answers rows) (IsStoreError (state g old) (state g new))
 
 -- True if the rows of an Ok answer follow from the rows of one table, and an error has a cause in
 -- `IsStoreError`.
-abbrev pub TellsRows : {S X Z : Type 0} → Ghosts S → (old new : Held S) → (tree : ℕ)
+abbrev pub ReportsRows : {S X Z : Type 0} → Ghosts S → (old new : Held S) → (tree : ℕ)
     → (columns : X → Row) → (result : Result (Vec Row Z) Error)
     → (Answers : List X → List Row → Type 0) → Type 0
-TellsRows {S} {X} {Z} g old new tree columns result Answers =
-    TellsAnswer g old new tree columns result (λ rows answer. Answers rows answer.items)
+ReportsRows {S} {X} {Z} g old new tree columns result Answers =
+    ReportsAnswer g old new tree columns result (λ rows answer. Answers rows answer.items)
 
 -- True if a reader returns the value that a result row encodes. The reader reports `Damaged` only
 -- for a value out of its range. The only other fault is out of memory.

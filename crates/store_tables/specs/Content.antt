@@ -28,9 +28,9 @@ abbrev pub is_numbered : ℕ → Bool
 is_numbered t = list_any (λ n. n == t) (0 ∷ 1 ∷ 5 ∷ 7 ∷ 11 ∷ 12 ∷ 13 ∷ [])
 
 -- The columns of a stored row, without the rowid if SQLite chose the rowid.
-abbrev pub told : Bool → Row → Row
-told true row = row
-told false row = drop 1 row
+abbrev pub reported : Bool → Row → Row
+reported true row = row
+reported false row = drop 1 row
 
 -- The rowid of a stored row, as an integer.
 abbrev pub id_of : Row → ℤ
@@ -49,7 +49,7 @@ pub record AreApart (rows : List Row) : Type 0 where
 pub record AreTablesIn (form : Schema) (db : Database) (content : Content) : Type 0 where
   pub schema : db.schema ≡ form
   pub rows : (t : ℕ) → HasTree form.tables t
-      → IsPermutation (map (told (is_numbered t)) (db.trees t)) (content t)
+      → IsPermutation (map (reported (is_numbered t)) (db.trees t)) (content t)
   pub apart : (t : ℕ) → HasTree form.tables t → AreApart (db.trees t)
   pub sound : IsDatabase db
 

@@ -1,5 +1,5 @@
 pub mod Standing
-pub mod Told
+pub mod Reported
 pub mod CarriesLemmas
 pub mod JoinsLemmas
 pub mod LogFrames

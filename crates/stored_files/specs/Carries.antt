@@ -1,2 +1,2 @@
-pub mod ToldZone
+pub mod ReportedZone
 pub mod GoingOn

@@ -13,7 +13,7 @@ use Rattle.office_store.specs.Database.{HoldsAlone}
 -- transaction, the database had no records, and a crash would have left no records.
 pub record IsMade {S : Type 0} (g : Ghosts S) (zone : List ℕ) (from : Held S) : Type 0 where
   pub made : Held S
-  pub told : Zone
-  pub does : let end : Result Zone OpenFault = Ok told in
+  pub reported : Zone
+  pub does : let end : Result Zone OpenFault = Ok reported in
       TransactsTo (state g from) (state g made) end (Makes zone)
   pub none : HoldsAlone g zone made []

@@ -7,7 +7,7 @@ ghost use Rattle.store_tables.specs.Content.{Content};
 ghost use Rattle.store_files.specs.declared.layouts.Layout.{Layout as TheLayout};
 ghost use Rattle.store_files.specs.Layouts.{IsNamedAs};
 ghost use Rattle.table_audit.specs.Looking.{HoldsTables, OnlyLooks};
-ghost use Rattle.table_audit.specs.Polls.{TellsTables};
+ghost use Rattle.table_audit.specs.Polls.{ReportsTables};
 ghost use Rattle.table_audit.specs.Texts.{with_findings};
 ghost use Rattle.table_seals.specs.Filing.{FilesMeters, HasUnfiledMeter};
 ghost use Rattle.table_seals.specs.Joins.{after_next, joins_after, known_as, known_of};
@@ -83,8 +83,8 @@ pub fn audit_stored<S: Alter>(
         → result ≡ Err AuditFault.NotOurs }
     ensures looks { connection.old.in_transaction ≡ false
         → OnlyLooks S.Store connection.old connection.new }
-    ensures tells { HasCleanDisk (state S.Store connection.new) → (content : Content)
-        → HoldsTables S.Store connection.old content → IfOk result (TellsTables content) }
+    ensures reports { HasCleanDisk (state S.Store connection.new) → (content : Content)
+        → HoldsTables S.Store connection.old content → IfOk result (ReportsTables content) }
 {
     check_ours(connection)?;
     match audit_tables(alloc, connection) {
@@ -100,7 +100,7 @@ pub fn write_audit<W: Write>(
     output: &mut W,
 ) -> Result<bool, AuditFault>
     ensures fine { IfOk result (λ fine. IsTrue fine ↔ (findings.now.first.items ≡ [])) }
-    ensures told { OnOk result (Appends (W.contents output.old) (W.contents output.new)
+    ensures reported { OnOk result (Appends (W.contents output.old) (W.contents output.new)
         (with_findings [] findings.now)) }
 {
     let mut text = Vec::new(alloc);
@@ -125,7 +125,7 @@ pub fn meters_stored<'a, S: Alter>(
         → result ≡ Err AuditFault.NotOurs }
     ensures looks { connection.old.in_transaction ≡ false
         → OnlyLooks S.Store connection.old connection.new }
-    ensures tells { HasCleanDisk (state S.Store connection.new) → (content : Content)
+    ensures reports { HasCleanDisk (state S.Store connection.new) → (content : Content)
         → HoldsTables S.Store connection.old content
         → IfOk result (λ meters. FilesMeters file.now content (Some meters)) }
     ensures unread { HasCleanDisk (state S.Store connection.new) → (content : Content)
@@ -180,7 +180,7 @@ pub fn write_joins<W: Write>(
     output: &mut W,
 ) -> Result<bool, AuditFault>
     ensures fine { IfOk result (λ fine. IsTrue fine ↔ (lines.now ≡ [])) }
-    ensures told { OnOk result (Appends (W.contents output.old) (W.contents output.new)
+    ensures reported { OnOk result (Appends (W.contents output.old) (W.contents output.new)
         (joined_text lines.now)) }
 {
     let mut said = Vec::new(alloc);

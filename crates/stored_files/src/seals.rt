@@ -7,7 +7,7 @@ ghost use Rattle.store_tables.specs.Content.{Content};
 ghost use Rattle.store_files.specs.declared.layouts.Layout.{Layout as TheLayout};
 ghost use Rattle.store_files.specs.Layouts.{IsNamedAs};
 ghost use Rattle.table_audit.specs.Looking.{HoldsTables, OnlyLooks};
-ghost use Rattle.table_seals.specs.Checking.{IsAsSealed, TellsTables};
+ghost use Rattle.table_seals.specs.Checking.{IsAsSealed, ReportsTables};
 ghost use Rattle.table_seals.specs.Reading.{AreTablesSealable};
 ghost use Rattle.table_seals.specs.Sealed.{SealedTables, sealed_tables_of};
 ghost use Rattle.table_seals.specs.Sealing.{SealsTables, CannotBeSealed};
@@ -31,7 +31,7 @@ pub fn seal_stored<S: Alter>(
         → result ≡ Err AuditFault.NotOurs }
     ensures looks { connection.old.in_transaction ≡ false
         → OnlyLooks S.Store connection.old connection.new }
-    ensures tells { HasCleanDisk (state S.Store connection.new) → (content : Content)
+    ensures reports { HasCleanDisk (state S.Store connection.new) → (content : Content)
         → HoldsTables S.Store connection.old content
         → IfOk result (λ seal. SealsTables content (Some seal)) }
     ensures unsealed { HasCleanDisk (state S.Store connection.new) → (content : Content)
@@ -71,10 +71,10 @@ pub fn check_stored_seal<S: Alter>(
         → result ≡ Err AuditFault.NotOurs }
     ensures looks { connection.old.in_transaction ≡ false
         → OnlyLooks S.Store connection.old connection.new }
-    ensures tells { HasCleanDisk (state S.Store connection.new) → (content : Content)
+    ensures reports { HasCleanDisk (state S.Store connection.new) → (content : Content)
         → HoldsTables S.Store connection.old content
         → IfOk result (λ checked. (seal : SealedTables) × (text.now ≡ seal_text seal)
-        × TellsTables seal content checked) }
+        × ReportsTables seal content checked) }
     ensures no_seal { (seal : SealedTables) → AreTablesSealable seal
         → text.now ≡ seal_text seal → result ≢ Err AuditFault.NoSeal }
 {
@@ -97,7 +97,7 @@ pub fn write_checked<W: Write>(
     output: &mut W,
 ) -> Result<bool, AuditFault>
     ensures fine { IfOk result (λ fine. IsTrue fine ↔ IsAsSealed checked.now) }
-    ensures told { OnOk result (Appends (W.contents output.old) (W.contents output.new)
+    ensures reported { OnOk result (Appends (W.contents output.old) (W.contents output.new)
         (checked_text checked.now)) }
 {
     let mut text = Vec::new(alloc);

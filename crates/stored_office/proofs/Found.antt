@@ -26,12 +26,12 @@ pub over : {S : Type 0} (g : Ghosts S) (past : History) (books : SqlBooks S g) (
     → HoldsAlone g zone books.connection (facts_of past)
     → beneath found ≡ books → StandsAs (ledger_beneath g books) (ledger_in g found)
     → (BooksStand (ledger_in g found) past → (ledger_in g left).is_clean → Does found left) → OverBooks g past Does
-over {S = S} g past books found left Does zone is alone same meant tells = record {
+over {S = S} g past books found left Does zone is alone same meant reports = record {
   zone = zone;
   found = found;
   holds = subst (λ (b : SqlBooks S g). HoldsAlone g zone b.connection (facts_of past)) (sym same) alone;
   left = left;
   does = λ clean.
-      tells (stands_so (ledger_beneath g books) (ledger_in g found) past meant
+      reports (stands_so (ledger_beneath g books) (ledger_in g found) past meant
       (stands_alone g zone books.connection books.failures books.zone past is alone)) clean;
 }

@@ -64,7 +64,7 @@ chain_is_one word base other_base models others end other_end chain other =
     let same : (models ≡ others) × (end ≡ other_end) = same_models word (base + 2) models others end other_end chain.lawful.follow other_follow (omega arith) in
     (bases, same.0, same.1)
 
--- The end of a chain has no fault.
+-- A chain that ends with the end mark 0xFFFF has no fault at that mark.
 no_lack_at_end : (word : Words) (count end : ℕ) → word end ≡ Some 0xFFFF → end ≤ 65535 → first_lack word count end ≡ None
 no_lack_at_end word count end ends inside =
     let in_space : nat_lt 65535 end ≡ false = le-ltb 65535 end inside in

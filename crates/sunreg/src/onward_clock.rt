@@ -26,7 +26,7 @@ impl<C: Clock + Drop> OnwardClock<C> {
 
 impl<C: Clock + Drop> Clock for OnwardClock<C> {
     fn now(&mut self) -> u64 {
-        let told = self.clock.now();
-        self.time.read(told)
+        let reported = self.clock.now();
+        self.time.read(reported)
     }
 }

@@ -10,10 +10,10 @@ use Rattle.meter_audit.specs.declared.faults.RowFault.{RowFault}
 use Rattle.meter_audit.specs.declared.progress.Progress.{Progress}
 use Rattle.meter_audit.specs.declared.rows.TableRow.{TableRow}
 use Rattle.meter_audit.specs.Rows.{opening_row, later_rows}
-use Rattle.meter_audit.specs.Fitting.{AreTold, Tables, AreFine}
+use Rattle.meter_audit.specs.Fitting.{AreReported, Tables, AreFine}
 use Rattle.meter_audit.specs.Passing.{MayBeChecked, passed}
 use Rattle.meter_audit.specs.Going.{HasGone, GoesOver, Agrees, FinishedIsFine, RefusedIsNotFine}
-use Rattle.meter_audit.proofs.Apart.{same_head, told_more}
+use Rattle.meter_audit.proofs.Apart.{same_head, reported_more}
 use Rattle.store_tables.specs.declared.meters.rows.InstallationRow.{InstallationRow}
 use Rattle.table_audit.specs.Lawful.{last_shown, IsOpenedBy, tables_from, IsLawful, RestAgrees}
 
@@ -21,7 +21,7 @@ use Rattle.table_audit.specs.Lawful.{last_shown, IsOpenedBy, tables_from, IsLawf
 
 pub gone_more : (meter : Installed) (rows : List TableRow) (i : ℕ) (d : TableRow) (new : Progress) → i < length rows
     → HasGone meter (get_or rows i d ∷ reverse (take i rows)) [] new → HasGone meter (reverse (take (i + 1) rows)) [] new
-gone_more meter rows i d new lt gone = subst (λ (told : List TableRow). HasGone meter told [] new) (sym (told_more rows i d lt)) gone
+gone_more meter rows i d new lt gone = subst (λ (reported : List TableRow). HasGone meter reported [] new) (sym (reported_more rows i d lt)) gone
 
 -- If index `i` is in a list of rows, then the reversed list is the rows after `i`, row `i`, and the
 -- rows before `i`.
@@ -29,18 +29,18 @@ split_at : (rows : List TableRow) (i : ℕ) (d : TableRow) → i < length rows
     → reverse rows ≡ reverse (drop (i + 1) rows) ++ get_or rows i d ∷ reverse (take i rows)
 split_at rows i d lt =
     ap (λ (rs : List TableRow). reverse rs) (sym (take-append-drop (i + 1) rows)) ∙ reverse-append (take (i + 1) rows) (drop (i + 1) rows)
-    ∙ ap (λ (rs : List TableRow). reverse (drop (i + 1) rows) ++ rs) (told_more rows i d lt)
+    ∙ ap (λ (rs : List TableRow). reverse (drop (i + 1) rows) ++ rs) (reported_more rows i d lt)
 
 pub refused_there : RefusedIsNotFine → (meter : Installed) (rows : List TableRow) (i : ℕ) (d : TableRow) (progress : Progress) (fault : RowFault)
     → MayBeChecked meter → i < length rows → HasGone meter (reverse (take i rows)) [] progress
-    → passed meter progress.check (get_or rows i d) ≡ Err fault → AreTold meter (reverse rows) → ⊥
-refused_there law meter rows i d progress fault may lt gone refused told =
+    → passed meter progress.check (get_or rows i d) ≡ Err fault → AreReported meter (reverse rows) → ⊥
+refused_there law meter rows i d progress fault may lt gone refused reported =
     law meter (reverse (take i rows)) (reverse (drop (i + 1) rows)) [] progress (get_or rows i d) fault may.installed gone refused
-    (subst (AreTold meter) (split_at rows i d lt) told)
+    (subst (AreReported meter) (split_at rows i d lt) reported)
 
 pub refused_so : RefusedIsNotFine → (meter : Installed) (rows : List TableRow) (i : ℕ) (d : TableRow) (old new : Progress) (o : Option RowFault)
     (fault : RowFault) → MayBeChecked meter → i < length rows → HasGone meter (reverse (take i rows)) [] old
-    → o ≡ Some fault → GoesOver meter old (get_or rows i d) new o → AreTold meter (reverse rows) → ⊥
+    → o ≡ Some fault → GoesOver meter old (get_or rows i d) new o → AreReported meter (reverse rows) → ⊥
 refused_so law meter rows i d old new o fault may lt gone is goes =
     refused_there law meter rows i d old fault may lt gone (subst (GoesOver meter old (get_or rows i d) new) is goes)
 
@@ -83,7 +83,7 @@ opening_last entries opening later last first is =
 record HasOpened (range : ℕ) (row : InstallationRow) (voids : List ℕ) (entries : List TableRow) (shares : List Share) (meter : Installed)
     (later : List TableRow) : Type 0 where
   fine : AreFine meter (tables_from entries shares row)
-  told : reverse entries ≡ reverse later ++ opening_row meter.opening ∷ []
+  reported : reverse entries ≡ reverse later ++ opening_row meter.opening ∷ []
 
 has_opened : (range : ℕ) (row : InstallationRow) (voids : List ℕ) (entries : List TableRow) (shares : List Share) (meter : Installed)
     (opening : TableRow) (later : List TableRow) → entries ≡ opening ∷ later → IsOpenedBy range row.ceiling opening meter
@@ -95,7 +95,7 @@ has_opened range row voids entries shares meter opening later first opened lawfu
     let same : lawful.meter ≡ meter = same_meter range row.ceiling opening lawful.meter meter by opened in
     record {
       fine = subst (λ (m : Installed). AreFine m (tables_from entries shares row)) same lawful.fine;
-      told = opening_last entries opening later meter.opening first opened.opening_is;
+      reported = opening_last entries opening later meter.opening first opened.opening_is;
     }
 
 pub not_opened : (range : ℕ) (row : InstallationRow) (voids : List ℕ) (entries : List TableRow) (shares : List Share)
@@ -113,18 +113,18 @@ no_entry range row voids entries shares none lawful =
     let both : [] ≡ lawful.opening ∷ lawful.later = sym none ∙ lawful.first in absurd (cc)
 
 -- If no journal gives the entries after the opening, then the meter's rows are not lawful.
-pub not_told : (range : ℕ) (row : InstallationRow) (voids : List ℕ) (entries : List TableRow) (shares : List Share) (meter : Installed)
+pub not_reported : (range : ℕ) (row : InstallationRow) (voids : List ℕ) (entries : List TableRow) (shares : List Share) (meter : Installed)
     (opening : TableRow) (later : List TableRow) → entries ≡ opening ∷ later → IsOpenedBy range row.ceiling opening meter
-    → (AreTold meter (reverse later) → ⊥) → IsLawful range row voids entries shares → ⊥
-not_told range row voids entries shares meter opening later first opened none lawful =
+    → (AreReported meter (reverse later) → ⊥) → IsLawful range row voids entries shares → ⊥
+not_reported range row voids entries shares meter opening later first opened none lawful =
     let h = has_opened range row voids entries shares meter opening later first opened lawful in
     let rows : List EntryRow = h.fine.rows in
     let both : reverse later ++ opening_row meter.opening ∷ [] ≡ later_rows meter rows ++ opening_row meter.opening ∷ [] =
-    sym h.told ∙ ap (λ (t : Tables). t.entries) h.fine.are in
+    sym h.reported ∙ ap (λ (t : Tables). t.entries) h.fine.are in
     none (record {
       rows = rows;
       fit = h.fine.fit;
-      told_is = append_cancel_right (reverse later) (later_rows meter rows) (opening_row meter.opening ∷ []) both;
+      reported_is = append_cancel_right (reverse later) (later_rows meter rows) (opening_row meter.opening ∷ []) both;
     })
 
 -- ---- a meter's rows after the check of all its entries
@@ -136,7 +136,7 @@ pub rest_is_lawful : FinishedIsFine → (range : ℕ) (row : InstallationRow) (v
     → IsLawful range row voids entries shares
 rest_is_lawful law range row voids entries shares meter opening later progress first may opened gone agrees =
     let tables : Tables = tables_from entries shares row in
-    let told : tables.entries ≡ reverse later ++ opening_row meter.opening ∷ [] =
+    let reported : tables.entries ≡ reverse later ++ opening_row meter.opening ∷ [] =
     opening_last entries opening later meter.opening first opened.opening_is in
     record {
       opening = opening;
@@ -145,7 +145,7 @@ rest_is_lawful law range row voids entries shares meter opening later progress f
       meter = meter;
       may = may;
       opened = opened;
-      fine = (law meter (reverse later) [] progress tables gone told).1 (record {
+      fine = (law meter (reverse later) [] progress tables gone reported).1 (record {
         intervals = agrees.intervals;
         last = agrees.stands.last;
         total = agrees.stands.total;
@@ -162,7 +162,7 @@ pub lawful_rest : FinishedIsFine → (range : ℕ) (row : InstallationRow) (void
 lawful_rest law range row voids entries shares meter opening later progress first opened gone lawful =
     let tables : Tables = tables_from entries shares row in
     let h = has_opened range row voids entries shares meter opening later first opened lawful in
-    let agrees : Agrees tables [] progress = (law meter (reverse later) [] progress tables gone h.told).0 h.fine in
+    let agrees : Agrees tables [] progress = (law meter (reverse later) [] progress tables gone h.reported).0 h.fine in
     record {
       named = lawful.named;
       intervals = agrees.intervals;

@@ -16,7 +16,7 @@ use Rattle.table_audit.specs.declared.differences.PollFault.TheVariants.{OutOfRa
 use Rattle.table_audit.specs.declared.poll_rows.OutcomeRow.{OutcomeRow}
 use Rattle.table_audit.specs.declared.poll_rows.PollRow.{PollRow}
 use Rattle.table_audit.specs.declared.poll_rows.RunRows.{RunRows}
-use Rattle.table_audit.specs.PollDifferences.{each_of, number_in, unread, unread_poll, unread_outcome, number_by, number_of, gap, rises, told_at, next_after, told_by, after_by, order_of, began_by, began, early_by, early, first_number, last_number, values_of, turns_of, differences_of_run, differences_of_runs}
+use Rattle.table_audit.specs.PollDifferences.{each_of, number_in, unread, unread_poll, unread_outcome, number_by, number_of, gap, rises, reported_at, next_after, reported_by, after_by, order_of, began_by, began, early_by, early, first_number, last_number, values_of, turns_of, differences_of_run, differences_of_runs}
 use Rattle.table_audit.specs.PollReading.{poll_in, outcome_in}
 use Rattle.table_audit.specs.Polls.{are_numbered, is_begun, has_begun, IsFineRun, AreFineRuns}
 use Rattle.table_audit.specs.Reading.{all_in}
@@ -41,16 +41,16 @@ each_done differs rows i found all past so_far =
     sym (append_none found) ∙ sym (ap (λ (rs : List Row). found ++ each_of differs rs) (drop_of_length-le rows past)) ∙ so_far
 
 pub order_more : (rows : List Row) (i : ℕ) (row : Row) (last before next : ℕ) (found new all : List Difference) → i < length rows → row ≡ get_or rows i row
-    → found ++ order_of before last (drop i rows) ≡ all → new ≡ found ++ told_by before last (number_of row) → next ≡ after_by before last (number_of row)
+    → found ++ order_of before last (drop i rows) ≡ all → new ≡ found ++ reported_by before last (number_of row) → next ≡ after_by before last (number_of row)
     → new ++ order_of next last (drop (i + 1) rows) ≡ all
 order_more rows i row last before next found new all inside is so_far put after =
-    let one : order_of before last (drop i rows) ≡ told_by before last (number_of row) ++ order_of next last (drop (i + 1) rows) =
+    let one : order_of before last (drop i rows) ≡ reported_by before last (number_of row) ++ order_of next last (drop (i + 1) rows) =
     ap (λ (rs : List Row). order_of before last rs) (drop-cons rows i row inside)
-    ∙ ap (λ (r : Row). told_by before last (number_of r) ++ order_of (after_by before last (number_of r)) last (drop (suc i) rows)) (sym is)
-    ∙ ap (λ n. told_by before last (number_of row) ++ order_of (after_by before last (number_of row)) last (drop n rows)) (sym (add-one i))
-    ∙ ap (λ n. told_by before last (number_of row) ++ order_of n last (drop (i + 1) rows)) (sym after) in
+    ∙ ap (λ (r : Row). reported_by before last (number_of r) ++ order_of (after_by before last (number_of r)) last (drop (suc i) rows)) (sym is)
+    ∙ ap (λ n. reported_by before last (number_of row) ++ order_of (after_by before last (number_of row)) last (drop n rows)) (sym (add-one i))
+    ∙ ap (λ n. reported_by before last (number_of row) ++ order_of n last (drop (i + 1) rows)) (sym after) in
     ap (λ (l : List Difference). l ++ order_of next last (drop (i + 1) rows)) put
-    ∙ append_assoc found (told_by before last (number_of row)) (order_of next last (drop (i + 1) rows))
+    ∙ append_assoc found (reported_by before last (number_of row)) (order_of next last (drop (i + 1) rows))
     ∙ ap (λ (l : List Difference). found ++ l) (sym one) ∙ so_far
 
 pub order_done : (rows : List Row) (i last next : ℕ) (found new all : List Difference) → length rows ≤ i
@@ -146,7 +146,7 @@ record IsNext (next last n : ℕ) : Type 0 where
   is : n ≡ next
   inside : n ≤ last
 
-is_next : (next last n : ℕ) → told_at next last n ≡ [] → IsNext next last n
+is_next : (next last n : ℕ) → reported_at next last n ≡ [] → IsNext next last n
 is_next next last n none =
     let two = else_none (rises next last n) (gap next n) (Poll n OutOfOrder) [] none in
     let tests = and_both (nat_le next n) (nat_le n last) two.0 in
@@ -158,7 +158,7 @@ rises_so : (next last n : ℕ) → IsNext next last n → rises next last n ≡ 
 rises_so next last n one =
     let is = one.is in both_and (nat_le next n) (nat_le n last) (le_is next n (omega (arith, is))) (le_is n last one.inside)
 
-next_none : (next last n : ℕ) → IsNext next last n → told_at next last n ≡ []
+next_none : (next last n : ℕ) → IsNext next last n → reported_at next last n ≡ []
 next_none next last n one =
     let is = one.is in
     ap (λ (b : Bool). let ds : List Difference = if b then gap next n else Poll n OutOfOrder ∷ [] in ds) (rises_so next last n one)
@@ -169,9 +169,9 @@ then_next next last n one =
     ap (λ (b : Bool). let m : ℕ = if b then n + 1 else next in m) (rises_so next last n one) ∙ ap (λ m. m + 1) one.is
 
 order_at : (next last : ℕ) (row : Row) (rows : List Row) (poll : PollRow) → poll_in row ≡ Ok poll
-    → order_of next last (row ∷ rows) ≡ told_at next last poll.number ++ order_of (next_after next last poll.number) last rows
+    → order_of next last (row ∷ rows) ≡ reported_at next last poll.number ++ order_of (next_after next last poll.number) last rows
 order_at next last row rows poll read =
-    ap (λ (q : Result PollRow RowFault). told_by next last (number_by row q) ++ order_of (after_by next last (number_by row q)) last rows) read
+    ap (λ (q : Result PollRow RowFault). reported_by next last (number_by row q) ++ order_of (after_by next last (number_by row q)) last rows) read
 
 order_none : (next last : ℕ) (rows : List Row) (polls : List PollRow) → all_in poll_in rows ≡ Ok polls → order_of next last rows ≡ [] → are_numbered next last polls ≡ true
 order_none next last [] polls h none =
@@ -181,7 +181,7 @@ order_none next last (row ∷ rows) polls h none =
     let one = then_read (poll_in row) _ polls h in
     let two = then_read (all_in poll_in rows) _ polls one.2 in
     let n = one.0.number in
-    let none_at = both_none (told_at next last n) (order_of (next_after next last n) last rows) (sym (order_at next last row rows one.0 one.1) ∙ none) in
+    let none_at = both_none (reported_at next last n) (order_of (next_after next last n) last rows) (sym (order_at next last row rows one.0 one.1) ∙ none) in
     let it = is_next next last n none_at.0 in
     let is = it.is in
     let inside = it.inside in

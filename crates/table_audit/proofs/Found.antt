@@ -18,13 +18,13 @@ pub never : (P : Type 0) → (P → ⊥) → IsTrue false ↔ P
 never P none = (λ f. absurd (let e : false ≡ Rattle.std.proofs.Common.true = f in cc), λ h. absurd (none h))
 
 -- If a Boolean decides a property, then it also decides an equivalent property.
-pub told_by : {E P Q : Type 0} (r : Result Bool E) → IfOk r (λ b. IsTrue b ↔ P) → ((b : Bool) → IsTrue b ↔ P → IsTrue b ↔ Q)
+pub reported_by : {E P Q : Type 0} (r : Result Bool E) → IfOk r (λ b. IsTrue b ↔ P) → ((b : Bool) → IsTrue b ↔ P → IsTrue b ↔ Q)
     → IfOk r (λ b. IsTrue b ↔ Q)
-told_by (Ok b) h both = both b h
-told_by (Err e) h both = tt
+reported_by (Ok b) h both = both b h
+reported_by (Err e) h both = tt
 
-pub told_too : {E P Q : Type 0} (r : Result Bool E) → IfOk r (λ b. IsTrue b ↔ P) → (P → Q) → (Q → P) → IfOk r (λ b. IsTrue b ↔ Q)
-told_too r h to from = told_by r h (λ b same. (λ is. to (same.0 is), λ q. same.1 (from q)))
+pub reported_too : {E P Q : Type 0} (r : Result Bool E) → IfOk r (λ b. IsTrue b ↔ P) → (P → Q) → (Q → P) → IfOk r (λ b. IsTrue b ↔ Q)
+reported_too r h to from = reported_by r h (λ b same. (λ is. to (same.0 is), λ q. same.1 (from q)))
 
 -- If parsing the rows returned values, then these are the values of all given rows.
 pub what_was_read : {X Z : Type 0} (read : Row → Result X RowFault) (given rows : List Row) (o : Option (Vec X Z)) (found : Vec X Z)
@@ -53,7 +53,7 @@ module _ (row : InstallationRow) (rows : MeterRows) where
       → all_in range_in rows.ranges.items ≡ Ok (range ∷ []) → all_in place_in rows.voids.items ≡ Ok voids
       → all_in (entry_in voids) rows.entries.items ≡ Ok entries → all_in share_in rows.intervals.items ≡ Ok shares
       → IsTrue b ↔ IsLawful range row voids entries shares → IsTrue b ↔ IsFine row rows
-  fine_as_read range voids entries shares b r v e s told = (
+  fine_as_read range voids entries shares b r v e s reported = (
     λ is.
         record {
           range = range;
@@ -64,7 +64,7 @@ module _ (row : InstallationRow) (rows : MeterRows) where
           voids_read = v;
           entries_read = e;
           shares_read = s;
-          lawful = told.0 is;
+          lawful = reported.0 is;
         },
     λ fine.
         let same_range : fine.range ≡ range = same_head fine.range range [] [] (ok_is (sym fine.range_read ∙ r)) in
@@ -72,7 +72,7 @@ module _ (row : InstallationRow) (rows : MeterRows) where
         let same_entries : fine.entries ≡ entries =
         ok_is (sym fine.entries_read ∙ ap (λ (vs : List ℕ). all_in (entry_in vs) rows.entries.items) voided ∙ e) in
         let same_shares : fine.shares ≡ shares = ok_is (sym fine.shares_read ∙ s) in
-        told.1
+        reported.1
         (subst (λ ss. IsLawful range row voids entries ss) same_shares
         (subst (λ es. IsLawful range row voids es fine.shares) same_entries
         (subst (λ vs. IsLawful range row vs fine.entries fine.shares) voided
@@ -86,8 +86,8 @@ module _ (row : InstallationRow) (rows : MeterRows) where
       → all_in range_in rows.ranges.items ≡ Ok (range ∷ []) → all_in place_in rows.voids.items ≡ Ok voids
       → all_in (entry_in named) rows.entries.items ≡ Ok entries → all_in share_in rows.intervals.items ≡ Ok shares
       → IsTrue b ↔ IsLawful range row vs es ss → IsTrue b ↔ IsFine row rows
-  fine_found range voids named vs entries es shares ss b n_is v_is e_is s_is r v e s told =
+  fine_found range voids named vs entries es shares ss b n_is v_is e_is s_is r v e s reported =
       fine_as_read range voids entries shares b r v (ap (λ (xs : List ℕ). all_in (entry_in xs) rows.entries.items) (sym n_is) ∙ e) s
       (subst (λ x. IsTrue b ↔ IsLawful range row voids entries x) s_is
       (subst (λ x. IsTrue b ↔ IsLawful range row voids x ss) e_is
-      (subst (λ x. IsTrue b ↔ IsLawful range row x es ss) v_is told)))
+      (subst (λ x. IsTrue b ↔ IsLawful range row x es ss) v_is reported)))

@@ -7,7 +7,7 @@ use Rattle.store_tables.specs.Content.{Content}
 use Rattle.table_audit.specs.declared.differences.TheConstants.{MOST}
 use Rattle.table_audit.specs.declared.findings.Counts.{Counts}
 use Rattle.table_audit.specs.declared.findings.Findings.{Findings}
-use Rattle.table_audit.specs.Meters.{LookedAt, row_of, IsLookedUp, IsFineAt, AreFineFrom, none_counted, counted, counted_from, TellsRow, TellsRows}
+use Rattle.table_audit.specs.Meters.{LookedAt, row_of, IsLookedUp, IsFineAt, AreFineFrom, none_counted, counted, counted_from, ReportsRow, ReportsRows}
 
 -- ---- the audit of one more row of `installations`
 
@@ -43,18 +43,18 @@ counted_more counts (y ∷ ys) x = counted_more (counted y.rows counts) ys x
 pub none_few : (found : Findings) → found.first.items ≡ [] → length found.first.items ≤ MOST
 none_few found none = let long : length found.first.items ≡ 0 = ap length none in omega (arith, long)
 
-pub none_told : (rows : List Row) (content : Content) (found : Findings) → found.first.items ≡ [] → found.counts ≡ none_counted → TellsRows (take 0 rows) content found
-none_told rows content found none counts = record {
+pub none_reported : (rows : List Row) (content : Content) (found : Findings) → found.first.items ≡ [] → found.counts ≡ none_counted → ReportsRows (take 0 rows) content found
+none_reported rows content found none counts = record {
   looked = [];
   each = refl;
   theirs = tt;
-  told = (λ _. tt, λ _. none);
+  reported = (λ _. tt, λ _. none);
   counts = counts;
 }
 
-pub one_more_told : (content : Content) (rows : List Row) (i place : ℕ) (row : Row) (old new : Findings) → i < length rows → row ≡ get_or rows i row → place ≡ i + 1
-    → TellsRows (take i rows) content old → TellsRow content place row old new → TellsRows (take (i + 1) rows) content new
-one_more_told content rows i place row old new lt is placed before one =
+pub one_more_reported : (content : Content) (rows : List Row) (i place : ℕ) (row : Row) (old new : Findings) → i < length rows → row ≡ get_or rows i row → place ≡ i + 1
+    → ReportsRows (take i rows) content old → ReportsRow content place row old new → ReportsRows (take (i + 1) rows) content new
+one_more_reported content rows i place row old new lt is placed before one =
     let x : LookedAt = record { row = row; rows = one.rows } in
     let long : length before.looked ≡ i =
     sym (length-map before.looked row_of) ∙ ap (λ (rs : List Row). length rs) before.each ∙ length-take-le i rows (omega (arith, lt)) in
@@ -64,16 +64,16 @@ one_more_told content rows i place row old new lt is placed before one =
       each = map-append row_of before.looked (x ∷ []) ∙ ap (λ (rs : List Row). rs ++ row ∷ []) before.each
           ∙ ap (λ (r : Row). take i rows ++ r ∷ []) is ∙ sym (take_more rows i row lt);
       theirs = all_more (IsLookedUp content) before.looked x before.theirs one.theirs;
-      told = (
+      reported = (
         λ none.
-            let two = one.told.0 none in
-            fine_more 1 before.looked x (before.told.0 two.0) (subst (λ (n : ℕ). IsFineAt n row one.rows) there two.1),
+            let two = one.reported.0 none in
+            fine_more 1 before.looked x (before.reported.0 two.0) (subst (λ (n : ℕ). IsFineAt n row one.rows) there two.1),
         λ fine.
             let two = fine_less 1 before.looked x fine in
-            one.told.1 (before.told.1 two.0, subst (λ (n : ℕ). IsFineAt n row one.rows) (sym there) two.1),
+            one.reported.1 (before.reported.1 two.0, subst (λ (n : ℕ). IsFineAt n row one.rows) (sym there) two.1),
       );
       counts = one.counts ∙ ap (counted one.rows) before.counts ∙ sym (counted_more none_counted before.looked x);
     }
 
-pub all_told : (content : Content) (rows : List Row) (i : ℕ) (found : Findings) → length rows ≤ i → TellsRows (take i rows) content found → TellsRows rows content found
-all_told content rows i found le told = subst (λ (rs : List Row). TellsRows rs content found) (take_all i rows le) told
+pub all_reported : (content : Content) (rows : List Row) (i : ℕ) (found : Findings) → length rows ≤ i → ReportsRows (take i rows) content found → ReportsRows rows content found
+all_reported content rows i found le reported = subst (λ (rs : List Row). ReportsRows rs content found) (take_all i rows le) reported

@@ -99,8 +99,8 @@ module _ {S : Type 0} (g : Ghosts S) (old mid : Held S) where
       pub asked : {A : Type 0} (a : A) (Says : Content → A → Type 0)
           → (HasCleanDisk (state g new) → (content : Content) → AreTables (state g mid).now content → Says content a)
           → Finds g old new (Ok a) Says
-      asked a Says tells = record {
-        answer = λ content holds clean. tells clean content (seen content holds (asks.clean clean));
+      asked a Says reports = record {
+        answer = λ content holds clean. reports clean content (seen content holds (asks.clean clean));
         fault = λ content holds clean. tt;
         looks = looks_asked;
       }
@@ -128,10 +128,10 @@ both_ok (Err e) f h = tt
 -- After two consecutive queries, both results are true of the same committed tables.
 pub finds_then : {S A B : Type 0} (g : Ghosts S) (old mid new : Held S) (a : A) (r : Result B RowFault) (P : Content → A → Type 0) (Q R : Content → B → Type 0)
     → Finds g old mid (Ok a) P → Finds g mid new r Q → ((content : Content) (b : B) → P content a → Q content b → R content b) → Finds g old new r R
-finds_then g old mid new a r P Q R one two tells = record {
+finds_then g old mid new a r P Q R one two reports = record {
   answer = λ content holds clean.
       let first = one.answer content holds (two.looks.clean clean) in
-      both_ok r (λ b h. tells content b first h) (two.answer content (holds_on g old mid content one.looks holds) clean);
+      both_ok r (λ b h. reports content b first h) (two.answer content (holds_on g old mid content one.looks holds) clean);
   fault = λ content holds clean.
       let held = holds_on g old mid content one.looks holds in
       on_err r (λ f why. later_fault (state g old) (state g mid) (state g new) (Unit {0}) f (one.looks.goes content holds (two.looks.clean clean)) (two.looks.goes content held clean).faults why) (two.fault content held clean);
@@ -151,8 +151,8 @@ passed_on g old new e (Err d) P Q one fails = record {
 -- If a query result has a property, then it also has each property that follows from this property.
 pub made : {S A B : Type 0} (g : Ghosts S) (old new : Held S) (a : A) (b : B) (P : Content → A → Type 0) (Q : Content → B → Type 0)
     → Finds g old new (Ok a) P → ((content : Content) → P content a → Q content b) → Finds g old new (Ok b) Q
-made g old new a b P Q one tells = record {
-  answer = λ content holds clean. tells content (one.answer content holds clean);
+made g old new a b P Q one reports = record {
+  answer = λ content holds clean. reports content (one.answer content holds clean);
   fault = λ content holds clean. tt;
   looks = one.looks;
 }

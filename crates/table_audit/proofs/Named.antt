@@ -9,8 +9,8 @@ use Rattle.table_audit.specs.declared.findings.Finding.{Finding}
 use Rattle.table_audit.specs.declared.findings.Findings.{Findings}
 use Rattle.table_audit.specs.declared.rows.MeterRows.{MeterRows}
 use Rattle.table_audit.specs.Meters.{IsFineMeter, up_to_most}
-use Rattle.table_audit.specs.Named.{difference_of, IsUnder, KeepsFirst, of_none, IsTold}
-use Rattle.table_audit.specs.Telling.{Tells}
+use Rattle.table_audit.specs.Named.{difference_of, IsUnder, KeepsFirst, of_none, IsReported}
+use Rattle.table_audit.specs.Reporting.{Reports}
 use Rattle.table_audit.proofs.LookedAt.{all_more}
 
 -- ---- lists of the findings of an audit
@@ -93,9 +93,9 @@ all_kept meter differences i old mid new le kept same = record {
 
 -- ---- fine rows of a meter add no differences
 
-none_told_named : (meter : List ℕ) (differences : List Difference) (old new : Findings) → KeepsFirst meter differences old new
+none_reported_named : (meter : List ℕ) (differences : List Difference) (old new : Findings) → KeepsFirst meter differences old new
     → (new.first.items ≡ []) ↔ ((old.first.items ≡ []) × (differences ≡ []))
-none_told_named meter differences old new kept = (
+none_reported_named meter differences old new kept = (
   λ none.
       let two = both_none old.first.items kept.added (none_taken MOST (old.first.items ++ kept.added) (omega arith) (sym kept.kept ∙ none)) in
       (two.0, sym kept.same ∙ ap (λ (fs : List Finding). map difference_of fs) two.1),
@@ -105,23 +105,23 @@ none_told_named meter differences old new kept = (
       ∙ take_all MOST [] (omega arith),
 )
 
-tells_none : (fine : Bool) (old new : Differences) → old.first.items ≡ [] → Tells fine old new → IsTrue fine ↔ (new.first.items ≡ [])
-tells_none true old new none same = (λ _. ap (λ (d : Differences). d.first.items) same ∙ none, λ _. refl)
-tells_none false old new none some = (
+reports_none : (fine : Bool) (old new : Differences) → old.first.items ≡ [] → Reports fine old new → IsTrue fine ↔ (new.first.items ≡ [])
+reports_none true old new none same = (λ _. ap (λ (d : Differences). d.first.items) same ∙ none, λ _. refl)
+reports_none false old new none some = (
   λ is. absurd (let f : false ≡ true = is in cc),
   λ none. absurd (let long : length new.first.items ≡ 0 = ap (λ (ds : List Difference). length ds) none in omega (arith, long, some)),
 )
 
-pub told_named : (place : ℕ) (row : Row) (rows : MeterRows) (meter : List ℕ) (fine : Bool) (before found : Differences) (given : List Difference)
+pub reported_named : (place : ℕ) (row : Row) (rows : MeterRows) (meter : List ℕ) (fine : Bool) (before found : Differences) (given : List Difference)
     (old new last : Findings) → given ≡ found.first.items → last.first ≡ new.first
-    → before.first.items ≡ [] → IsTrue fine ↔ IsFineMeter place row rows → Tells fine before found
+    → before.first.items ≡ [] → IsTrue fine ↔ IsFineMeter place row rows → Reports fine before found
     → KeepsFirst meter given old new → (last.first.items ≡ []) ↔ ((old.first.items ≡ []) × IsFineMeter place row rows)
-told_named place row rows meter fine before found given old new last given_is last_is none same tells kept =
-    let told = none_told_named meter found.first.items old new (subst (λ (ds : List Difference). KeepsFirst meter ds old new) given_is kept) in
-    let as_fine = tells_none fine before found none tells in
+reported_named place row rows meter fine before found given old new last given_is last_is none same reports kept =
+    let reported = none_reported_named meter found.first.items old new (subst (λ (ds : List Difference). KeepsFirst meter ds old new) given_is kept) in
+    let as_fine = reports_none fine before found none reports in
     let items : last.first.items ≡ new.first.items = ap (λ v. v.items) last_is in (
-      λ is. let two = told.0 (sym items ∙ is) in (two.0, same.0 (as_fine.1 two.1)),
-      λ is. items ∙ told.1 (is.0, as_fine.0 (same.1 is.1)),
+      λ is. let two = reported.0 (sym items ∙ is) in (two.0, same.0 (as_fine.1 two.1)),
+      λ is. items ∙ reported.1 (is.0, as_fine.0 (same.1 is.1)),
     )
 
 -- ---- differences that belong to no meter
@@ -135,49 +135,49 @@ counted_then : (old mid new long now one two : ℕ) → mid ≡ up_to_most (old 
     → new ≡ up_to_most (mid + (now + two - MOST)) → new ≡ up_to_most (old + (long + (one + two) - MOST))
 counted_then old mid new long now one two was have is = omega (arith, was, have, is)
 
-told_length : (ds : List Difference) (old new : Findings) → IsTold ds old new → length new.first.items ≡ min MOST (length old.first.items + length ds)
-told_length ds old new told =
-    ap (λ (fs : List Finding). length fs) told.kept ∙ length-take MOST (old.first.items ++ map of_none ds)
+reported_length : (ds : List Difference) (old new : Findings) → IsReported ds old new → length new.first.items ≡ min MOST (length old.first.items + length ds)
+reported_length ds old new reported =
+    ap (λ (fs : List Finding). length fs) reported.kept ∙ length-take MOST (old.first.items ++ map of_none ds)
     ∙ ap (min MOST) (length-append old.first.items (map of_none ds) ∙ ap (λ n. length old.first.items + n) (length-map ds of_none))
 
-pub none_told_yet : (found : Findings) → length found.first.items ≤ MOST → found.more ≤ 2 ^ 64 - 1 → IsTold [] found found
-none_told_yet found few fits = record {
+pub none_reported_yet : (found : Findings) → length found.first.items ≤ MOST → found.more ≤ 2 ^ 64 - 1 → IsReported [] found found
+none_reported_yet found few fits = record {
   kept = sym (take_all MOST found.first.items few) ∙ ap (λ (l : List Finding). take MOST l) (sym (append_none found.first.items));
   more = omega (arith, few, fits);
   counts = refl;
 }
 
-pub told_then : (ds es : List Difference) (old mid new : Findings) → IsTold ds old mid → IsTold es mid new → IsTold (ds ++ es) old new
-told_then ds es old mid new one two = record {
+pub reported_then : (ds es : List Difference) (old mid new : Findings) → IsReported ds old mid → IsReported es mid new → IsReported (ds ++ es) old new
+reported_then ds es old mid new one two = record {
   kept = two.kept ∙ ap (λ (fs : List Finding). take MOST (fs ++ map of_none es)) one.kept ∙ take_twice MOST (old.first.items ++ map of_none ds) (map of_none es)
       ∙ ap (λ (fs : List Finding). take MOST fs) (append_assoc old.first.items (map of_none ds) (map of_none es))
       ∙ ap (λ (fs : List Finding). take MOST (old.first.items ++ fs)) (sym (map-append of_none ds es));
   more = counted_then old.more mid.more new.more (length old.first.items) (length mid.first.items) (length ds) (length es) one.more
-      (told_length ds old mid one) two.more
+      (reported_length ds old mid one) two.more
       ∙ ap (λ n. up_to_most (old.more + (length old.first.items + n - MOST))) (sym (length-append ds es));
   counts = two.counts ∙ one.counts;
 }
 
-pub told_more : (differences : List Difference) (i : ℕ) (x d : Difference) (old mid new : Findings) → i < length differences
-    → IsTold (take i differences) old mid → x ≡ get_or differences i d → new.first.items ≡ take MOST (mid.first.items ++ of_none x ∷ [])
-    → new.more ≡ up_to_most (mid.more + (length mid.first.items + 1 - MOST)) → new.counts ≡ mid.counts → IsTold (take (i + 1) differences) old new
-told_more differences i x d old mid new lt told is kept more counts =
-    let one : IsTold (x ∷ []) mid new = record { kept = kept; more = more; counts = counts } in
+pub reported_more : (differences : List Difference) (i : ℕ) (x d : Difference) (old mid new : Findings) → i < length differences
+    → IsReported (take i differences) old mid → x ≡ get_or differences i d → new.first.items ≡ take MOST (mid.first.items ++ of_none x ∷ [])
+    → new.more ≡ up_to_most (mid.more + (length mid.first.items + 1 - MOST)) → new.counts ≡ mid.counts → IsReported (take (i + 1) differences) old new
+reported_more differences i x d old mid new lt reported is kept more counts =
+    let one : IsReported (x ∷ []) mid new = record { kept = kept; more = more; counts = counts } in
     let added : take i differences ++ x ∷ [] ≡ take (i + 1) differences =
     ap (λ (y : Difference). take i differences ++ y ∷ []) is ∙ sym (take_more differences i d lt) in
-    subst (λ (ds : List Difference). IsTold ds old new) added (told_then (take i differences) (x ∷ []) old mid new told one)
+    subst (λ (ds : List Difference). IsReported ds old new) added (reported_then (take i differences) (x ∷ []) old mid new reported one)
 
-pub told_all : (differences : List Difference) (i : ℕ) (old new : Findings) → length differences ≤ i → IsTold (take i differences) old new → IsTold differences old new
-told_all differences i old new le told = subst (λ (ds : List Difference). IsTold ds old new) (take_all i differences le) told
+pub reported_all : (differences : List Difference) (i : ℕ) (old new : Findings) → length differences ≤ i → IsReported (take i differences) old new → IsReported differences old new
+reported_all differences i old new le reported = subst (λ (ds : List Difference). IsReported ds old new) (take_all i differences le) reported
 
-pub told_none : (ds : List Difference) (old new : Findings) → IsTold ds old new → new.first.items ≡ [] → (old.first.items ≡ []) × (ds ≡ [])
-told_none ds old new told none =
-    let two = both_none old.first.items (map of_none ds) (none_taken MOST (old.first.items ++ map of_none ds) (omega arith) (sym told.kept ∙ none)) in
+pub reported_none : (ds : List Difference) (old new : Findings) → IsReported ds old new → new.first.items ≡ [] → (old.first.items ≡ []) × (ds ≡ [])
+reported_none ds old new reported none =
+    let two = both_none old.first.items (map of_none ds) (none_taken MOST (old.first.items ++ map of_none ds) (omega arith) (sym reported.kept ∙ none)) in
     (two.0, none_mapped of_none ds two.1)
 
-pub none_so_told : (ds : List Difference) (old new : Findings) → IsTold ds old new → old.first.items ≡ [] → ds ≡ [] → new.first.items ≡ []
-none_so_told ds old new told none no_more =
-    told.kept ∙ ap (λ (fs : List Finding). take MOST (fs ++ map of_none ds)) none
+pub none_so_reported : (ds : List Difference) (old new : Findings) → IsReported ds old new → old.first.items ≡ [] → ds ≡ [] → new.first.items ≡ []
+none_so_reported ds old new reported none no_more =
+    reported.kept ∙ ap (λ (fs : List Finding). take MOST (fs ++ map of_none ds)) none
     ∙ ap (λ (es : List Difference). take MOST (map of_none es)) no_more ∙ take_all MOST [] (omega arith)
 
 -- If a finding has no meter's name, then it equals the finding that is built from its difference

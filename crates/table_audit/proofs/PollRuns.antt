@@ -9,12 +9,12 @@ use Rattle.table_audit.specs.declared.findings.Finding.{Finding}
 use Rattle.table_audit.specs.declared.findings.Findings.{Findings}
 use Rattle.table_audit.specs.declared.poll_rows.RunRows.{RunRows}
 use Rattle.table_audit.specs.declared.poll_rows.TheConstants.{RUN}
-use Rattle.table_audit.specs.Named.{IsTold}
+use Rattle.table_audit.specs.Named.{IsReported}
 use Rattle.table_audit.specs.PollDifferences.{differences_of_run, differences_of_runs}
 use Rattle.table_audit.specs.PollShowing.{AreRowsOfRun}
-use Rattle.table_audit.specs.Polls.{AreRuns, AreFineRuns, Stops, StopsAfter, TellsRun, TellsRuns}
+use Rattle.table_audit.specs.Polls.{AreRuns, AreFineRuns, Stops, StopsAfter, ReportsRun, ReportsRuns}
 use Rattle.table_audit.proofs.Differing.{none_are_fine, fine_are_none, differences_more}
-use Rattle.table_audit.proofs.Named.{none_told_yet, told_then, told_none, none_so_told}
+use Rattle.table_audit.proofs.Named.{none_reported_yet, reported_then, reported_none, none_so_reported}
 
 runs_more : (content : Content) (run : ℕ) (xs : List RunRows) (x : RunRows) → AreRuns content run xs → AreRowsOfRun (run + length xs) content x
     → AreRuns content run (xs ++ x ∷ [])
@@ -41,66 +41,66 @@ pub record IsSoFar (last n : ℕ) (old new : Findings) (content : Content) : Typ
   pub runs : List RunRows
   pub long : length runs ≡ n
   pub theirs : AreRuns content 0 runs
-  pub told : IsTold (differences_of_runs 0 last runs) old new
+  pub reported : IsReported (differences_of_runs 0 last runs) old new
 
 pub none_yet : (last : ℕ) (found : Findings) (content : Content) → length found.first.items ≤ MOST → found.more ≤ 2 ^ 64 - 1
     → IsSoFar last 0 found found content
-none_yet last found content few fits = record { runs = []; long = refl; theirs = tt; told = none_told_yet found few fits }
+none_yet last found content few fits = record { runs = []; long = refl; theirs = tt; reported = none_reported_yet found few fits }
 
 module _ (last n : ℕ) (old mid new : Findings) (content : Content) (goes_on : Bool) (before : IsSoFar last n old mid content)
-    (one : TellsRun n last mid new content goes_on) where
+    (one : ReportsRun n last mid new content goes_on) where
   there : 0 + length before.runs ≡ n
   there = let long = before.long in omega (arith, long)
 
   pub more_theirs : AreRuns content 0 (before.runs ++ one.rows ∷ [])
   more_theirs = runs_more content 0 before.runs one.rows before.theirs (subst (λ (k : ℕ). AreRowsOfRun k content one.rows) (sym there) one.theirs)
 
-  pub more_told : IsTold (differences_of_runs 0 last (before.runs ++ one.rows ∷ [])) old new
-  more_told =
-      subst (λ (ds : List Difference). IsTold ds old new) (sym (differences_more 0 last before.runs one.rows))
-      (told_then (differences_of_runs 0 last before.runs) (differences_of_run (0 + length before.runs) last one.rows) old mid new before.told
-      (subst (λ (k : ℕ). IsTold (differences_of_run k last one.rows) mid new) (sym there) one.told))
+  pub more_reported : IsReported (differences_of_runs 0 last (before.runs ++ one.rows ∷ [])) old new
+  more_reported =
+      subst (λ (ds : List Difference). IsReported ds old new) (sym (differences_more 0 last before.runs one.rows))
+      (reported_then (differences_of_runs 0 last before.runs) (differences_of_run (0 + length before.runs) last one.rows) old mid new before.reported
+      (subst (λ (k : ℕ). IsReported (differences_of_run k last one.rows) mid new) (sym there) one.reported))
 
   pub one_more : IsSoFar last (n + 1) old new content
   one_more = record {
     runs = before.runs ++ one.rows ∷ [];
     long = let more = length-append before.runs (one.rows ∷ []) in let long = before.long in omega (arith, more, long);
     theirs = more_theirs;
-    told = more_told;
+    reported = more_reported;
   }
 
 module _ (last : ℕ) (old new : Findings) (content : Content) (runs : List RunRows) (theirs : AreRuns content 0 runs)
-    (told : IsTold (differences_of_runs 0 last runs) old new) (whole : (last ≤ length runs * RUN) ⊎ StopsAfter runs new) where
+    (reported : IsReported (differences_of_runs 0 last runs) old new) (whole : (last ≤ length runs * RUN) ⊎ StopsAfter runs new) where
   reaches : new.first.items ≡ [] → (last ≤ length runs * RUN) ⊎ StopsAfter runs new → last ≤ length runs * RUN
   reaches none (inl reach) = reach
   reaches none (inr stops) =
       let full = stopped_full runs new stops in
       let long : length new.first.items ≡ 0 = ap (λ (fs : List Finding). length fs) none in absurd (omega (arith, full, long))
 
-  tells_runs_so : TellsRuns last old new content
-  tells_runs_so = record {
+  reports_runs_so : ReportsRuns last old new content
+  reports_runs_so = record {
     runs = runs;
     theirs = theirs;
-    each = told;
+    each = reported;
     whole = whole;
-    told = (
+    reported = (
       λ none.
-          let two = told_none (differences_of_runs 0 last runs) old new told none in
+          let two = reported_none (differences_of_runs 0 last runs) old new reported none in
           (two.0, none_are_fine 0 last runs two.1, reaches none whole),
-      λ all. none_so_told (differences_of_runs 0 last runs) old new told all.0 (fine_are_none 0 last runs all.1),
+      λ all. none_so_reported (differences_of_runs 0 last runs) old new reported all.0 (fine_are_none 0 last runs all.1),
     );
   }
 
-pub all_runs : (last n : ℕ) (old new : Findings) (content : Content) → IsSoFar last n old new content → last ≤ n * RUN → TellsRuns last old new content
+pub all_runs : (last n : ℕ) (old new : Findings) (content : Content) → IsSoFar last n old new content → last ≤ n * RUN → ReportsRuns last old new content
 all_runs last n old new content before reached =
     let long = before.long in
-    tells_runs_so last old new content before.runs before.theirs before.told (inl (subst (λ (k : ℕ). last ≤ k * RUN) (sym long) reached))
+    reports_runs_so last old new content before.runs before.theirs before.reported (inl (subst (λ (k : ℕ). last ≤ k * RUN) (sym long) reached))
 
 pub up_to_stop : (last n : ℕ) (old mid new : Findings) (content : Content) (goes_on : Bool) → IsSoFar last n old mid content
-    → TellsRun n last mid new content goes_on → goes_on ≡ false → TellsRuns last old new content
+    → ReportsRun n last mid new content goes_on → goes_on ≡ false → ReportsRuns last old new content
 up_to_stop last n old mid new content goes_on before one stopped =
-    tells_runs_so last old new content (before.runs ++ one.rows ∷ []) (more_theirs last n old mid new content goes_on before one)
-    (more_told last n old mid new content goes_on before one) (inr (stops_last before.runs one.rows new (one.stops stopped)))
+    reports_runs_so last old new content (before.runs ++ one.rows ∷ []) (more_theirs last n old mid new content goes_on before one)
+    (more_reported last n old mid new content goes_on before one) (inr (stops_last before.runs one.rows new (one.stops stopped)))
 
 -- ---- the number of runs of polls up to the last poll
 

@@ -24,8 +24,8 @@ pub record IsFine (installation : InstallationRow) (rows : MeterRows) : Type 0 w
 
 -- `fine` is true if and only if the meter's rows in the tables are the rows that a lawful journal
 -- produces.
-pub record TellsFine (meter : List ℕ) (installation : InstallationRow) (content : Content)
+pub record ReportsFine (meter : List ℕ) (installation : InstallationRow) (content : Content)
     (fine : Bool) : Type 0 where
   pub rows : MeterRows
   pub theirs : AreRowsOf meter content rows
-  pub told : IsTrue fine ↔ IsFine installation rows
+  pub reported : IsTrue fine ↔ IsFine installation rows

@@ -3,7 +3,7 @@ pub mod Reading
 pub mod Lawful
 pub mod Fine
 pub mod Looking
-pub mod Telling
+pub mod Reporting
 pub mod Meters
 pub mod PollReading
 pub mod PollShowing

@@ -93,23 +93,23 @@ counted_from counts (looked ∷ others) = counted_from (counted looked.rows coun
 
 -- The audit of one row of `installations` counts the meter's rows. No finding exists after it if
 -- and only if none existed before and the rows are fine.
-pub record TellsRow (content : Content) (place : ℕ) (row : Row) (old new : Findings) : Type 0 where
+pub record ReportsRow (content : Content) (place : ℕ) (row : Row) (old new : Findings) : Type 0 where
   pub rows : Option MeterRows
   pub theirs : AreTheirs content row rows
-  pub told : (new.first.items ≡ []) ↔ ((old.first.items ≡ []) × IsFineAt place row rows)
+  pub reported : (new.first.items ≡ []) ↔ ((old.first.items ≡ []) × IsFineAt place row rows)
   pub counts : new.counts ≡ counted rows old.counts
 
 -- The audit of several rows of `installations` finds no difference if and only if the rows of all
 -- their meters are fine.
-pub record TellsRows (rows : List Row) (content : Content) (found : Findings) : Type 0 where
+pub record ReportsRows (rows : List Row) (content : Content) (found : Findings) : Type 0 where
   pub looked : List LookedAt
   pub each : map row_of looked ≡ rows
   pub theirs : AllByRecursion (IsLookedUp content) looked
-  pub told : (found.first.items ≡ []) ↔ AreFineFrom 1 looked
+  pub reported : (found.first.items ≡ []) ↔ AreFineFrom 1 looked
   pub counts : found.counts ≡ counted_from none_counted looked
 
 -- The findings of an audit of all rows of the table `installations`.
-pub record TellsMeters (content : Content) (found : Findings) : Type 0 where
+pub record ReportsMeters (content : Content) (found : Findings) : Type 0 where
   pub rows : List Row
   pub shown : ShowsInstallations content rows
-  pub tells : TellsRows rows content found
+  pub reports : ReportsRows rows content found

@@ -30,7 +30,7 @@ of_none difference = record { meter = None; difference = difference }
 
 -- Differences that belong to no meter are added to the findings. At most `MOST` findings are
 -- stored, and further findings are only counted.
-pub record IsTold (differences : List Difference) (old new : Findings) : Type 0 where
+pub record IsReported (differences : List Difference) (old new : Findings) : Type 0 where
   pub kept : new.first.items ≡ take MOST (old.first.items ++ map of_none differences)
   pub more : new.more
       ≡ up_to_most (old.more + (length old.first.items + length differences - MOST))

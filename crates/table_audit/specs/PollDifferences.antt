@@ -74,8 +74,8 @@ rises next last number = nat_le next number && nat_le number last
 
 -- The differences that a poll number adds if `next` is the expected number. Either earlier numbers
 -- are missing, or the poll number is out of order.
-abbrev pub told_at : (next last number : ℕ) → List Difference
-told_at next last number =
+abbrev pub reported_at : (next last number : ℕ) → List Difference
+reported_at next last number =
     if rises next last number then gap next number else Poll number OutOfOrder ∷ []
 
 -- The poll number that is expected after `number`. If `number` is out of order, the expected number
@@ -85,9 +85,9 @@ next_after next last number = if rises next last number then number + 1 else nex
 
 -- The differences that a `polls` row adds if `next` is the expected poll number. A row without a
 -- number adds none.
-abbrev pub told_by : (next last : ℕ) → Option ℕ → List Difference
-told_by next last None = []
-told_by next last (Some number) = told_at next last number
+abbrev pub reported_by : (next last : ℕ) → Option ℕ → List Difference
+reported_by next last None = []
+reported_by next last (Some number) = reported_at next last number
 
 -- The poll number that is expected after a `polls` row. After a row without a number, `next` is
 -- still expected.
@@ -100,7 +100,7 @@ after_by next last (Some number) = next_after next last number
 abbrev pub order_of : (next last : ℕ) → List Row → List Difference
 order_of next last [] = gap next (last + 1)
 order_of next last (row ∷ rows) =
-    told_by next last (number_of row)
+    reported_by next last (number_of row)
     ++ order_of (after_by next last (number_of row)) last rows
 
 -- ---- outcomes that are earlier than their polls

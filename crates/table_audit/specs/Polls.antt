@@ -6,8 +6,8 @@ use Rattle.store_tables.specs.Columns.{first_in}
 use Rattle.store_tables.specs.Content.{Content}
 use Rattle.store_tables.specs.Limits.{greatest_place}
 use Rattle.store_tables.specs.declared.faults.RowFault.{RowFault}
-use Rattle.table_audit.specs.Meters.{TellsMeters}
-use Rattle.table_audit.specs.Named.{IsTold}
+use Rattle.table_audit.specs.Meters.{ReportsMeters}
+use Rattle.table_audit.specs.Named.{IsReported}
 use Rattle.table_audit.specs.PollDifferences.{first_number, last_number, differences_of_run, differences_of_runs}
 use Rattle.table_audit.specs.PollReading.{poll_in, outcome_in}
 use Rattle.table_audit.specs.PollShowing.{AreRowsOfRun, ShowsLast}
@@ -68,11 +68,11 @@ Stops rows found = (rows.polls.items ≡ []) × (MOST ≤ length found.first.ite
 
 -- The audit of one run of polls reports the run's differences. If `goes_on` is false, the audit
 -- ends, and `Stops` is true of the run.
-pub record TellsRun (run last : ℕ) (old new : Findings) (content : Content) (goes_on : Bool) :
+pub record ReportsRun (run last : ℕ) (old new : Findings) (content : Content) (goes_on : Bool) :
     Type 0 where
   pub rows : RunRows
   pub theirs : AreRowsOfRun run content rows
-  pub told : IsTold (differences_of_run run last rows) old new
+  pub reported : IsReported (differences_of_run run last rows) old new
   pub stops : goes_on ≡ false → Stops rows new
 
 -- The audit may end after the last run of polls in the list, because `Stops` is true of this run.
@@ -83,12 +83,12 @@ StopsAfter (rows ∷ next ∷ others) found = StopsAfter (next ∷ others) found
 
 -- The audit of all polls, in runs of `RUN` consecutive numbers. It finds no difference if and only
 -- if all runs are fine. It may end after a run without polls once `MOST` differences are stored.
-pub record TellsRuns (last : ℕ) (old new : Findings) (content : Content) : Type 0 where
+pub record ReportsRuns (last : ℕ) (old new : Findings) (content : Content) : Type 0 where
   pub runs : List RunRows
   pub theirs : AreRuns content 0 runs
-  pub each : IsTold (differences_of_runs 0 last runs) old new
+  pub each : IsReported (differences_of_runs 0 last runs) old new
   pub whole : (last ≤ length runs * RUN) ⊎ StopsAfter runs new
-  pub told : (new.first.items ≡ [])
+  pub reported : (new.first.items ≡ [])
       ↔ ((old.first.items ≡ []) × AreFineRuns 0 last runs × (last ≤ length runs * RUN))
 
 -- The counts of an audit, with the number of polls set to `polls`.
@@ -101,21 +101,21 @@ counting_polls polls found = record found { counts = with_polls polls found.coun
 
 -- The audit of all polls up to the greatest poll number that a query found, or 0 without polls. If
 -- the greatest number is out of range, this is reported as a difference.
-abbrev pub TellsUpTo : Result (Option ℕ) RowFault → (old new : Findings) → Content → Type 0
-TellsUpTo found old new content =
+abbrev pub ReportsUpTo : Result (Option ℕ) RowFault → (old new : Findings) → Content → Type 0
+ReportsUpTo found old new content =
     MatchResult found
-    (λ last. TellsRuns (unwrap_or last 0) (counting_polls (unwrap_or last 0) old) new content)
+    (λ last. ReportsRuns (unwrap_or last 0) (counting_polls (unwrap_or last 0) old) new content)
     (λ _. new.first.items ≡ [] → ⊥)
 
 -- The audit of all polls in the tables, up to the greatest poll number. The SQL schema excludes an
 -- outcome without a poll.
-pub record TellsPolls (old new : Findings) (content : Content) : Type 0 where
+pub record ReportsPolls (old new : Findings) (content : Content) : Type 0 where
   pub rows : List Row
   pub shown : ShowsLast content rows
-  pub tells : TellsUpTo (first_in 1 greatest_place rows) old new content
+  pub reports : ReportsUpTo (first_in 1 greatest_place rows) old new content
 
 -- The audit of all tables of a file: first the meters, then the polls.
-pub record TellsTables (content : Content) (found : Findings) : Type 0 where
+pub record ReportsTables (content : Content) (found : Findings) : Type 0 where
   pub meters : Findings
-  pub told : TellsMeters content meters
-  pub polls : TellsPolls meters found content
+  pub reported : ReportsMeters content meters
+  pub polls : ReportsPolls meters found content

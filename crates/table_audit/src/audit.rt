@@ -1,8 +1,8 @@
 //! Audits the rows of one meter in a file's tables.
 ghost use Rattle.std.specs.Prelude.{◌≡◌, ◌≤◌, ◌↔◌, false, length, IsTrue, IfOk, OnOk};
 ghost use Rattle.table_audit.specs.Looking.{Finds};
-ghost use Rattle.table_audit.specs.Fine.{IsFine, TellsFine};
-ghost use Rattle.table_audit.specs.Telling.{Tells};
+ghost use Rattle.table_audit.specs.Fine.{IsFine, ReportsFine};
+ghost use Rattle.table_audit.specs.Reporting.{Reports};
 
 use crate::differences::{Difference, Differences, MOST, Table};
 use crate::lawful::audit_read;
@@ -23,7 +23,7 @@ pub fn audit_rows(
 ) -> Result<bool, AllocError>
     requires few { length found.old.first.items ≤ MOST }
     ensures fine { IfOk result (λ fine. IsTrue fine ↔ IsFine installation.now rows.now) }
-    ensures tells { IfOk result (λ fine. Tells fine found.old found.new) }
+    ensures reports { IfOk result (λ fine. Reports fine found.old found.new) }
     ensures few { OnOk result (length found.new.first.items ≤ MOST) }
 {
     let Some(range) = range(&rows.ranges) else {
@@ -64,8 +64,8 @@ pub fn audit_meter<S: Alter>(
 ) -> Result<bool, RowFault>
     requires mode { conn.old.in_transaction ≡ false }
     requires few { length found.old.first.items ≤ MOST }
-    ensures finds { Finds S.Store conn.old conn.new result (TellsFine meter.now installation.now) }
-    ensures tells { IfOk result (λ fine. Tells fine found.old found.new) }
+    ensures finds { Finds S.Store conn.old conn.new result (ReportsFine meter.now installation.now) }
+    ensures reports { IfOk result (λ fine. Reports fine found.old found.new) }
     ensures few { OnOk result (length found.new.first.items ≤ MOST) }
 {
     let rows = meter_rows(conn, meter)?;

@@ -89,7 +89,7 @@ impl Differences {
     /// Appends a difference, or only counts it if the list already has `MOST` differences.
     pub fn push(&mut self, difference: Difference) -> Result<(), AllocError>
         requires few { length self.old.first.items ≤ MOST }
-        ensures told { OnOk result (0 < length self.new.first.items) }
+        ensures reported { OnOk result (0 < length self.new.first.items) }
         ensures few { OnOk result (length self.new.first.items ≤ MOST) }
     {
         if self.first.len() < MOST {

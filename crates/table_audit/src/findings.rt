@@ -36,7 +36,7 @@ pub struct Findings {
 
 impl Findings {
     ghost use Rattle.table_audit.specs.Meters.{none_counted, counted, up_to_most};
-    ghost use Rattle.table_audit.specs.Named.{KeepsFirst, IsTold};
+    ghost use Rattle.table_audit.specs.Named.{KeepsFirst, IsReported};
     ghost use Rattle.table_audit.specs.Polls.{counting_polls};
 
     /// Creates an empty list of findings, with all counts 0.
@@ -112,7 +112,7 @@ impl Findings {
     /// Appends differences that belong to no meter as findings without a name.
     pub(crate) fn append_all(&mut self, found: &[Difference]) -> Result<(), AllocError>
         requires few { length self.old.first.items ≤ MOST }
-        ensures told { OnOk result (IsTold found.now self.old self.new) }
+        ensures reported { OnOk result (IsReported found.now self.old self.new) }
         ensures few { OnOk result (length self.new.first.items ≤ MOST) }
     {
         for difference in found {

@@ -1,11 +1,11 @@
 //! Compares a meter's rows with the rows that follow from the meter's entries.
 ghost use Rattle.std.specs.Prelude.{◌≡◌, ◌<◌, ◌≤◌, ◌^◌, ◌↔◌, [], All, reverse, length, true};
 ghost use Rattle.std.specs.Prelude.{IsTrue, IsNone, IfSome, IfOk, OnOk, MatchOption};
-ghost use Rattle.meter_audit.specs.Fitting.{AreTold};
+ghost use Rattle.meter_audit.specs.Fitting.{AreReported};
 ghost use Rattle.meter_audit.specs.Going.{IsSoundProgress, HasGone};
 ghost use Rattle.meter_audit.specs.Passing.{MayBeChecked};
 ghost use Rattle.table_audit.specs.Lawful as agreeing;
-ghost use Rattle.table_audit.specs.Telling.{Tells};
+ghost use Rattle.table_audit.specs.Reporting.{Reports};
 
 use crate::differences::{Difference, Differences, MOST};
 use crate::opening::opened;
@@ -33,7 +33,7 @@ fn go_over(
     ensures sound { OnOk result (IsSoundProgress meter.now progress.new) }
     ensures gone { IfOk result (λ refused. MatchOption refused
         (HasGone meter.now (reverse rows.now) [] progress.new)
-        (λ _. AreTold meter.now (reverse rows.now) → ⊥)) }
+        (λ _. AreReported meter.now (reverse rows.now) → ⊥)) }
     ensures one { IfOk result (λ refused. IfSome refused (λ row. row.index < length rows.now)) }
 {
     refused_is_not_fine();
@@ -58,7 +58,7 @@ fn print_refused(
     requires places { All (λ row. row.place < 2 ^ 63) rows.now }
     requires one { refused.index < length rows.now }
     requires few { length found.old.first.items ≤ MOST }
-    ensures told { OnOk result (0 < length found.new.first.items) }
+    ensures reported { OnOk result (0 < length found.new.first.items) }
     ensures few { OnOk result (length found.new.first.items ≤ MOST) }
 {
     let place = rows[refused.index].place;
@@ -95,7 +95,7 @@ fn first_astray(last: u64, places: &[u64]) -> Option<u64>
 fn append_voids(last: u64, voids: &[u64], found: &mut Differences) -> Result<bool, AllocError>
     requires few { length found.old.first.items ≤ MOST }
     ensures named { IfOk result (λ named. IsTrue named ↔ (agreeing.rises 1 last voids.now ≡ true)) }
-    ensures tells { IfOk result (λ named. Tells named found.old found.new) }
+    ensures reports { IfOk result (λ named. Reports named found.old found.new) }
     ensures few { OnOk result (length found.new.first.items ≤ MOST) }
 {
     match first_astray(last, voids) {
@@ -110,14 +110,14 @@ fn append_voids(last: u64, voids: &[u64], found: &mut Differences) -> Result<boo
 /// Reports each difference between the expected interval rows `wanted` and the stored rows `has`,
 /// in order.
 fn append_each(wanted: &[Share], has: &[Share], found: &mut Differences) -> Result<(), AllocError>
-    requires told { 0 < length found.old.first.items }
+    requires reported { 0 < length found.old.first.items }
     requires few { length found.old.first.items ≤ MOST }
-    ensures told { OnOk result (0 < length found.new.first.items) }
+    ensures reported { OnOk result (0 < length found.new.first.items) }
     ensures few { OnOk result (length found.new.first.items ≤ MOST) }
 {
     let mut wanted = wanted;
     let mut has = has;
-    'told: for _told in 0..u64::MAX {
+    'reported: for _reported in 0..u64::MAX {
         let Some(difference) = first_difference(wanted, has) else {
             return Ok(());
         };
@@ -139,7 +139,7 @@ fn print_intervals(
 ) -> Result<bool, AllocError>
     requires few { length found.old.first.items ≤ MOST }
     ensures same { IfOk result (λ same. IsTrue same ↔ (has.now ≡ wanted.now)) }
-    ensures tells { IfOk result (λ same. Tells same found.old found.new) }
+    ensures reports { IfOk result (λ same. Reports same found.old found.new) }
     ensures few { OnOk result (length found.new.first.items ≤ MOST) }
 {
     let Some(difference) = first_difference(wanted, has) else {
@@ -157,7 +157,7 @@ fn print_intervals(
 fn append_last(has: Last, wanted: Option<Last>, found: &mut Differences) -> Result<bool, AllocError>
     requires few { length found.old.first.items ≤ MOST }
     ensures none { IfOk result (λ same. IsTrue same ↔ IsNone wanted) }
-    ensures tells { IfOk result (λ same. Tells same found.old found.new) }
+    ensures reports { IfOk result (λ same. Reports same found.old found.new) }
     ensures few { OnOk result (length found.new.first.items ≤ MOST) }
 {
     let Some(wanted) = wanted else {
@@ -173,7 +173,7 @@ fn append_last(has: Last, wanted: Option<Last>, found: &mut Differences) -> Resu
 fn append_total(has: u64, wanted: Option<u64>, found: &mut Differences) -> Result<bool, AllocError>
     requires few { length found.old.first.items ≤ MOST }
     ensures none { IfOk result (λ same. IsTrue same ↔ IsNone wanted) }
-    ensures tells { IfOk result (λ same. Tells same found.old found.new) }
+    ensures reports { IfOk result (λ same. Reports same found.old found.new) }
     ensures few { OnOk result (length found.new.first.items ≤ MOST) }
 {
     let Some(wanted) = wanted else {
@@ -188,7 +188,7 @@ fn append_total(has: u64, wanted: Option<u64>, found: &mut Differences) -> Resul
 fn append_ended(wanted: Option<bool>, found: &mut Differences) -> Result<bool, AllocError>
     requires few { length found.old.first.items ≤ MOST }
     ensures none { IfOk result (λ same. IsTrue same ↔ IsNone wanted) }
-    ensures tells { IfOk result (λ same. Tells same found.old found.new) }
+    ensures reports { IfOk result (λ same. Reports same found.old found.new) }
     ensures few { OnOk result (length found.new.first.items ≤ MOST) }
 {
     let Some(wanted) = wanted else {
@@ -208,7 +208,7 @@ fn report_state(
     requires few { length found.old.first.items ≤ MOST }
     ensures stands { IfOk result (λ stands.
         IsTrue stands ↔ agreeing.StandsThere row.now check.now) }
-    ensures tells { IfOk result (λ stands. Tells stands found.old found.new) }
+    ensures reports { IfOk result (λ stands. Reports stands found.old found.new) }
     ensures few { OnOk result (length found.new.first.items ≤ MOST) }
 {
     let has = Last {
@@ -241,7 +241,7 @@ fn append_rest(
     requires few { length found.old.first.items ≤ MOST }
     ensures agrees { IfOk result (λ agrees. IsTrue agrees
         ↔ agreeing.RestAgrees progress.now row.now voids.now last shares.now) }
-    ensures tells { IfOk result (λ agrees. Tells agrees found.old found.new) }
+    ensures reports { IfOk result (λ agrees. Reports agrees found.old found.new) }
     ensures few { OnOk result (length found.new.first.items ≤ MOST) }
 {
     let named = append_voids(last, voids, found)?;
@@ -265,7 +265,7 @@ pub(crate) fn audit_read(
     requires few { length found.old.first.items ≤ MOST }
     ensures fine { IfOk result (λ fine. IsTrue fine
         ↔ agreeing.IsLawful range row.now voids.now entries.now shares.now) }
-    ensures tells { IfOk result (λ fine. Tells fine found.old found.new) }
+    ensures reports { IfOk result (λ fine. Reports fine found.old found.new) }
     ensures few { OnOk result (length found.new.first.items ≤ MOST) }
 {
     finished_is_fine();

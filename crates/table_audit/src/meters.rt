@@ -1,8 +1,8 @@
 //! Audits the rows of all meters in a file's tables.
 ghost use Rattle.std.specs.Prelude.{◌≡◌, ◌≤◌, ◌↔◌, [], false, length, IsTrue, IfOk, OnOk, Some, None};
 ghost use Rattle.table_audit.specs.Looking.{Finds};
-ghost use Rattle.table_audit.specs.Meters.{IsFineMeter, TellsRow, TellsRows, TellsMeters, counted};
-ghost use Rattle.table_audit.specs.Telling.{Tells};
+ghost use Rattle.table_audit.specs.Meters.{IsFineMeter, ReportsRow, ReportsRows, ReportsMeters, counted};
+ghost use Rattle.table_audit.specs.Reporting.{Reports};
 
 use crate::audit::audit_rows;
 use crate::differences::{Difference, Differences, MOST, Table};
@@ -19,7 +19,7 @@ use store_tables::RowFault;
 fn append_index(has: u64, wanted: u64, found: &mut Differences) -> Result<bool, AllocError>
     requires few { length found.old.first.items ≤ MOST }
     ensures placed { IfOk result (λ placed. IsTrue placed ↔ (has ≡ wanted)) }
-    ensures tells { IfOk result (λ placed. Tells placed found.old found.new) }
+    ensures reports { IfOk result (λ placed. Reports placed found.old found.new) }
     ensures few { OnOk result (length found.new.first.items ≤ MOST) }
 {
     if has == wanted {
@@ -40,7 +40,7 @@ fn audit_installation(
 ) -> Result<bool, AllocError>
     requires few { length found.old.first.items ≤ MOST }
     ensures fine { IfOk result (λ fine. IsTrue fine ↔ IsFineMeter place row.now rows.now) }
-    ensures tells { IfOk result (λ fine. Tells fine found.old found.new) }
+    ensures reports { IfOk result (λ fine. Reports fine found.old found.new) }
     ensures few { OnOk result (length found.new.first.items ≤ MOST) }
 {
     let Ok(installed) = installation(row) else {
@@ -62,7 +62,7 @@ fn audit_named(
     findings: &mut Findings,
 ) -> Result<(), AllocError>
     requires few { length findings.old.first.items ≤ MOST }
-    ensures told { OnOk result ((findings.new.first.items ≡ [])
+    ensures reported { OnOk result ((findings.new.first.items ≡ [])
         ↔ ((findings.old.first.items ≡ []) × IsFineMeter place row.now rows.now)) }
     ensures counts { OnOk result
         (findings.new.counts ≡ counted (Some rows.now) findings.old.counts) }
@@ -78,7 +78,7 @@ fn audit_named(
 /// Reports a row of `installations` that names no meter.
 fn audit_unnamed(place: u64, findings: &mut Findings) -> Result<(), AllocError>
     requires few { length findings.old.first.items ≤ MOST }
-    ensures told { OnOk result ((findings.new.first.items ≡ []) → ⊥) }
+    ensures reported { OnOk result ((findings.new.first.items ≡ []) → ⊥) }
     ensures counts { OnOk result (findings.new.counts ≡ counted None findings.old.counts) }
     ensures few { OnOk result (length findings.new.first.items ≤ MOST) }
 {
@@ -101,7 +101,7 @@ fn audit_row<S: Alter>(
     requires mode { conn.old.in_transaction ≡ false }
     requires few { length findings.old.first.items ≤ MOST }
     ensures finds { Finds S.Store conn.old conn.new result
-        (λ content _. TellsRow content place row.now findings.old findings.new) }
+        (λ content _. ReportsRow content place row.now findings.old findings.new) }
     ensures few { OnOk result (length findings.new.first.items ≤ MOST) }
 {
     let Some(meter) = name(row)? else {
@@ -124,7 +124,7 @@ fn audit_rows_of<S: Alter>(
     rows: &[Row],
 ) -> Result<Findings, RowFault>
     requires mode { conn.old.in_transaction ≡ false }
-    ensures finds { Finds S.Store conn.old conn.new result (TellsRows rows.now) }
+    ensures finds { Finds S.Store conn.old conn.new result (ReportsRows rows.now) }
     ensures few { IfOk result (λ findings. length findings.first.items ≤ MOST) }
 {
     let mut findings = Findings::new(alloc);
@@ -139,7 +139,7 @@ fn audit_rows_of<S: Alter>(
 /// of one meter at a time.
 pub fn audit_meters<S: Alter>(alloc: Global, conn: &mut Connection<S>) -> Result<Findings, RowFault>
     requires mode { conn.old.in_transaction ≡ false }
-    ensures finds { Finds S.Store conn.old conn.new result TellsMeters }
+    ensures finds { Finds S.Store conn.old conn.new result ReportsMeters }
     ensures few { IfOk result (λ findings. length findings.first.items ≤ MOST) }
 {
     let rows = installations(conn)?;

@@ -110,7 +110,7 @@ fn write_number(
 ) -> Result<u64, AllocError>
     requires last { last ≤ greatest_place }
     ensures put { OnOk result (found.new.items
-        ≡ found.old.items ++ differing.told_at next last number) }
+        ≡ found.old.items ++ differing.reported_at next last number) }
     ensures next { IfOk result (λ after. after ≡ differing.next_after next last number) }
 {
     if next <= number && number <= last {
@@ -126,7 +126,7 @@ fn write_number(
 fn put_row(next: u64, last: u64, row: &Row, found: &mut Vec<Difference>) -> Result<u64, AllocError>
     requires last { last ≤ greatest_place }
     ensures put { OnOk result (found.new.items
-        ≡ found.old.items ++ differing.told_by next last (differing.number_of row.now)) }
+        ≡ found.old.items ++ differing.reported_by next last (differing.number_of row.now)) }
     ensures next { IfOk result
         (λ after. after ≡ differing.after_by next last (differing.number_of row.now)) }
 {

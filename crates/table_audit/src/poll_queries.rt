@@ -3,7 +3,7 @@
 ghost use Rattle.std.specs.Prelude.{◌≡◌, ◌<◌, ◌^◌, false};
 ghost use Rattle.sqlite.specs.declared.types.Value.TheVariants.{Int};
 ghost use Rattle.store_tables.specs.Answer.{every};
-ghost use Rattle.store_tables.specs.Asking.{Asks, TellsRows, Shows, ShowsFirst};
+ghost use Rattle.store_tables.specs.Asking.{Asks, ReportsRows, Shows, ShowsFirst};
 ghost use Rattle.table_audit.specs.Looking.{itself, Finds};
 ghost use Rattle.table_audit.specs.PollShowing as showing;
 ghost use Rattle.table_audit.specs.Showing.{InPlace};
@@ -36,7 +36,7 @@ fn high(run: u64) -> Value
 /// Queries the greatest poll number in the tables.
 fn ask_last<S: Alter>(conn: &mut Connection<S>) -> Result<Vec<Row>, Error>
     ensures asks { Asks S.Store conn.old conn.new }
-    ensures shows { TellsRows S.Store conn.old conn.new showing.polls_tree itself result
+    ensures shows { ReportsRows S.Store conn.old conn.new showing.polls_tree itself result
         (ShowsFirst every showing.FromLast showing.number_shown) }
 {
     conn.query_all("SELECT poll FROM polls ORDER BY poll DESC LIMIT 1", &[])
@@ -46,7 +46,7 @@ fn ask_last<S: Alter>(conn: &mut Connection<S>) -> Result<Vec<Row>, Error>
 fn ask_polls<S: Alter>(conn: &mut Connection<S>, run: u64) -> Result<Vec<Row>, Error>
     requires { run < 2 ^ 50 }
     ensures asks { Asks S.Store conn.old conn.new }
-    ensures shows { TellsRows S.Store conn.old conn.new showing.polls_tree itself result
+    ensures shows { ReportsRows S.Store conn.old conn.new showing.polls_tree itself result
         (Shows (showing.is_in_run run) InPlace showing.poll_shown) }
 {
     let from = low(run);
@@ -61,7 +61,7 @@ fn ask_polls<S: Alter>(conn: &mut Connection<S>, run: u64) -> Result<Vec<Row>, E
 fn ask_outcomes<S: Alter>(conn: &mut Connection<S>, run: u64) -> Result<Vec<Row>, Error>
     requires { run < 2 ^ 50 }
     ensures asks { Asks S.Store conn.old conn.new }
-    ensures shows { TellsRows S.Store conn.old conn.new showing.outcomes_tree itself result
+    ensures shows { ReportsRows S.Store conn.old conn.new showing.outcomes_tree itself result
         (Shows (showing.is_in_run run) InPlace showing.outcome_shown) }
 {
     let from = low(run);

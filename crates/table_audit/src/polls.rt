@@ -3,7 +3,7 @@ ghost use Rattle.std.specs.Prelude.{◌≡◌, ◌≤◌, ◌<◌, ◌^◌, [], 
 ghost use Rattle.store_tables.specs.Limits.{greatest_place};
 ghost use Rattle.store_tables.specs.Failing.{want_of_memory};
 ghost use Rattle.table_audit.specs.Looking.{Finds};
-ghost use Rattle.table_audit.specs.Named.{IsTold};
+ghost use Rattle.table_audit.specs.Named.{IsReported};
 ghost use Rattle.table_audit.specs.PollDifferences.{differences_of_run};
 ghost use Rattle.table_audit.specs.Polls as said;
 
@@ -29,8 +29,8 @@ fn audit_rows_of(
     requires run { run < 2 ^ 50 }
     requires last { last ≤ greatest_place }
     requires few { length findings.old.first.items ≤ MOST }
-    ensures told { OnOk result
-        (IsTold (differences_of_run run last rows.now) findings.old findings.new) }
+    ensures reported { OnOk result
+        (IsReported (differences_of_run run last rows.now) findings.old findings.new) }
     ensures stops { IfOk result (λ goes_on. goes_on ≡ false → said.Stops rows.now findings.new) }
     ensures few { OnOk result (length findings.new.first.items ≤ MOST) }
 {
@@ -53,7 +53,7 @@ fn audit_run<S: Alter>(
     requires last { last ≤ greatest_place }
     requires few { length findings.old.first.items ≤ MOST }
     ensures finds { Finds S.Store conn.old conn.new result
-        (said.TellsRun run last findings.old findings.new) }
+        (said.ReportsRun run last findings.old findings.new) }
     ensures few { OnOk result (length findings.new.first.items ≤ MOST) }
 {
     let rows = run_rows(conn, run)?;
@@ -76,7 +76,7 @@ fn audit_runs<S: Alter>(
     requires last { last ≤ greatest_place }
     requires few { length findings.old.first.items ≤ MOST }
     ensures finds { Finds S.Store conn.old conn.new result
-        (λ content _. said.TellsRuns last findings.old findings.new content) }
+        (λ content _. said.ReportsRuns last findings.old findings.new content) }
     ensures few { OnOk result (length findings.new.first.items ≤ MOST) }
 {
     let runs = last.div_ceil(RUN);
@@ -98,7 +98,7 @@ fn audit_polls<S: Alter>(
     requires mode { conn.old.in_transaction ≡ false }
     requires few { length findings.old.first.items ≤ MOST }
     ensures finds { Finds S.Store conn.old conn.new result
-        (λ content _. said.TellsPolls findings.old findings.new content) }
+        (λ content _. said.ReportsPolls findings.old findings.new content) }
     ensures few { OnOk result (length findings.new.first.items ≤ MOST) }
 {
     let rows = last_poll(conn)?;
@@ -113,7 +113,7 @@ fn audit_polls<S: Alter>(
 /// Reports that the greatest poll number in the tables is out of its range.
 fn append_last(findings: &mut Findings) -> Result<(), RowFault>
     requires few { length findings.old.first.items ≤ MOST }
-    ensures told { OnOk result (findings.new.first.items ≡ [] → ⊥) }
+    ensures reported { OnOk result (findings.new.first.items ≡ [] → ⊥) }
     ensures few { OnOk result (length findings.new.first.items ≤ MOST) }
     ensures fault { IfErr result (λ fault. fault ≡ RowFault.Sql want_of_memory) }
 {
@@ -137,7 +137,7 @@ fn append_last(findings: &mut Findings) -> Result<(), RowFault>
 /// run of polls at a time.
 pub fn audit_tables<S: Alter>(alloc: Global, conn: &mut Connection<S>) -> Result<Findings, RowFault>
     requires mode { conn.old.in_transaction ≡ false }
-    ensures finds { Finds S.Store conn.old conn.new result said.TellsTables }
+    ensures finds { Finds S.Store conn.old conn.new result said.ReportsTables }
     ensures few { IfOk result (λ findings. length findings.first.items ≤ MOST) }
 {
     let mut findings = audit_meters(alloc, conn)?;

@@ -1,7 +1,7 @@
 //! SQL queries for the rows of a meter.
 ghost use Rattle.std.specs.Prelude.{◌≡◌, false};
 ghost use Rattle.store_tables.specs.Answer.{AnyOrder, every};
-ghost use Rattle.store_tables.specs.Asking.{Asks, TellsRows, Shows};
+ghost use Rattle.store_tables.specs.Asking.{Asks, ReportsRows, Shows};
 ghost use Rattle.store_tables.specs.Entries.Trees as entry_tree;
 ghost use Rattle.store_tables.specs.Meters.Trees as meter_tree;
 ghost use Rattle.table_audit.specs.Looking.{itself, Finds};
@@ -14,7 +14,7 @@ use store_tables::{RowFault, check_open};
 /// Queries all rows of `installations`, in order of their index.
 fn ask_installations<S: Alter>(conn: &mut Connection<S>) -> Result<Vec<Row>, Error>
     ensures asks { Asks S.Store conn.old conn.new }
-    ensures shows { TellsRows S.Store conn.old conn.new meter_tree.installations itself result
+    ensures shows { ReportsRows S.Store conn.old conn.new meter_tree.installations itself result
         (Shows every showing.InPlace showing.installation_shown) }
 {
     conn.query_all(
@@ -26,7 +26,7 @@ fn ask_installations<S: Alter>(conn: &mut Connection<S>) -> Result<Vec<Row>, Err
 /// Queries the range of a meter's counter.
 fn ask_range<S: Alter>(conn: &mut Connection<S>, meter: &str) -> Result<Vec<Row>, Error>
     ensures asks { Asks S.Store conn.old conn.new }
-    ensures shows { TellsRows S.Store conn.old conn.new meter_tree.ranges itself result
+    ensures shows { ReportsRows S.Store conn.old conn.new meter_tree.ranges itself result
         (Shows (showing.is_of meter.now) AnyOrder showing.range_shown) }
 {
     conn.query_all(
@@ -38,7 +38,7 @@ fn ask_range<S: Alter>(conn: &mut Connection<S>, meter: &str) -> Result<Vec<Row>
 /// Queries the entries of a meter, in order of their index.
 fn ask_entries<S: Alter>(conn: &mut Connection<S>, meter: &str) -> Result<Vec<Row>, Error>
     ensures asks { Asks S.Store conn.old conn.new }
-    ensures shows { TellsRows S.Store conn.old conn.new entry_tree.entries itself result
+    ensures shows { ReportsRows S.Store conn.old conn.new entry_tree.entries itself result
         (Shows (showing.is_of meter.now) showing.InOrder showing.entry_shown) }
 {
     conn.query_all(
@@ -50,7 +50,7 @@ fn ask_entries<S: Alter>(conn: &mut Connection<S>, meter: &str) -> Result<Vec<Ro
 /// Queries the void records of a meter, in order of the voided entries' indices.
 fn ask_voids<S: Alter>(conn: &mut Connection<S>, meter: &str) -> Result<Vec<Row>, Error>
     ensures asks { Asks S.Store conn.old conn.new }
-    ensures shows { TellsRows S.Store conn.old conn.new entry_tree.voids itself result
+    ensures shows { ReportsRows S.Store conn.old conn.new entry_tree.voids itself result
         (Shows (showing.is_of meter.now) showing.InOrder showing.void_shown) }
 {
     conn.query_all(
@@ -62,7 +62,7 @@ fn ask_voids<S: Alter>(conn: &mut Connection<S>, meter: &str) -> Result<Vec<Row>
 /// Queries the energy of a meter by quarter hours, in ascending order.
 fn ask_intervals<S: Alter>(conn: &mut Connection<S>, meter: &str) -> Result<Vec<Row>, Error>
     ensures asks { Asks S.Store conn.old conn.new }
-    ensures shows { TellsRows S.Store conn.old conn.new showing.intervals_tree itself result
+    ensures shows { ReportsRows S.Store conn.old conn.new showing.intervals_tree itself result
         (Shows (showing.is_of meter.now) showing.InOrder showing.share_shown) }
 {
     conn.query_all(

@@ -15,7 +15,7 @@ use Rattle.std.proofs.lemmas.Map.Lookups.{exact_bytes, exact_unsigned}
 use Rattle.sqlite.specs.Order.{Row}
 use Rattle.table_audit.specs.declared.rows.MeterRows.{MeterRows}
 use Rattle.table_seals.specs.Checking.{HasSealed}
-use Rattle.table_seals.specs.Installed.{AddsTerms, AddsTermsOf, AreSame, AreTermsOf, KeepsAt, TellsInstalled, has_terms, terms_cmp}
+use Rattle.table_seals.specs.Installed.{AddsTerms, AddsTermsOf, AreSame, AreTermsOf, KeepsAt, ReportsInstalled, has_terms, terms_cmp}
 use Rattle.table_seals.specs.Sealed.{Sealed}
 use Rattle.table_seals.specs.Tables.{HasTerms, TermsAreRead}
 use Rattle.table_seals.specs.declared.tables.Terms.{Terms}
@@ -162,7 +162,7 @@ any_as P Q xs so h = (h.0, h.1, h.2, h.3, so h.1 h.4)
 
 pub installed_by : (known : BTreeSet Terms) (terms : Terms) (seal : Sealed) (there : Bool) → there ≡ has_terms known terms
     → string_bytes terms.meter ≡ seal.meter → string_bytes terms.register ≡ seal.register → terms.ceiling ≡ seal.ceiling
-    → TellsInstalled known seal there
+    → ReportsInstalled known seal there
 installed_by known terms seal there is meter register ceiling installed are =
     let Reads : Row → Type 0 = λ row. TermsAreRead row (Some terms) in
     let Has : Row → Type 0 = λ row. HasTerms row seal.meter seal.register seal.ceiling in (
@@ -172,7 +172,7 @@ installed_by known terms seal there is meter register ceiling installed are =
 
 -- ---- results of checking a seal that use the set of terms
 
-pub keeps_at : (known : BTreeSet Terms) (rows : MeterRows) (seal : Sealed) (there has : Bool) → TellsInstalled known seal there
+pub keeps_at : (known : BTreeSet Terms) (rows : MeterRows) (seal : Sealed) (there has : Bool) → ReportsInstalled known seal there
     → (IsTrue has ↔ HasSealed rows seal) → KeepsAt known rows seal (there && has)
 keeps_at known rows seal true true there has installed are = (λ t. ((there installed are).0 refl, has.0 refl), λ kept. refl)
 keeps_at known rows seal true false there has installed are = (λ t. absurd (cc t), λ kept. has.1 kept.1)

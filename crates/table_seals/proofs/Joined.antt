@@ -26,20 +26,20 @@ lines_of_each f (x ∷ xs) =
 
 -- If the lines of three lists are appended in order, then the lines of the concatenated list are
 -- appended.
-pub all_told : (old one two three : List (List ℕ)) (a b c : List Join) → one ≡ old ++ map join_line a → two ≡ one ++ map join_line b
+pub all_reported : (old one two three : List (List ℕ)) (a b c : List Join) → one ≡ old ++ map join_line a → two ≡ one ++ map join_line b
     → three ≡ two ++ map join_line c → three ≡ old ++ map join_line (a ++ b ++ c)
-all_told old one two three a b c first second third =
+all_reported old one two three a b c first second third =
     third ∙ ap (λ ls. ls ++ map join_line c) (second ∙ ap (λ ls. ls ++ map join_line b) first)
     ∙ ap (λ ls. ls ++ map join_line c) (append_assoc old (map join_line a) (map join_line b) ∙ ap (λ ls. old ++ ls) (sym (map-append join_line a b)))
     ∙ append_assoc old (map join_line (a ++ b)) (map join_line c)
     ∙ ap (λ ls. old ++ ls) (sym (map-append join_line (a ++ b) c))
 
-pub joins_told : (known next : Known) (meters news latest : List FiledMeter) (old one two three : List (List ℕ)) → meters ≡ known.meters
+pub joins_reported : (known next : Known) (meters news latest : List FiledMeter) (old one two three : List (List ℕ)) → meters ≡ known.meters
     → news ≡ next.meters → latest ≡ take known.latest known.meters → one ≡ old ++ lines_of (zone_of known next)
     → two ≡ one ++ flat_map (λ new. lines_of (joins_of meters new)) news → three ≡ two ++ flat_map (λ o. lines_of (missing_of next o)) latest
     → three ≡ old ++ lines_of (joins_between known next)
-joins_told known next meters news latest old one two three meters_are news_are latest_are first second third =
-    all_told old one two three (zone_of known next) (flat_map (joins_of known.meters) next.meters)
+joins_reported known next meters news latest old one two three meters_are news_are latest_are first second third =
+    all_reported old one two three (zone_of known next) (flat_map (joins_of known.meters) next.meters)
     (flat_map (missing_of next) (take known.latest known.meters)) first
     (second ∙ ap (λ (ms : List FiledMeter). one ++ flat_map (λ new. lines_of (joins_of ms new)) news) meters_are
     ∙ ap (λ (ns : List FiledMeter). one ++ flat_map (λ new. lines_of (joins_of known.meters new)) ns) news_are
@@ -88,10 +88,10 @@ goes_to_end left most name meters i le so_far = sym (ap (stay_within left name) 
 
 -- ---- a meter continues if and only if no line reports a difference
 
-nothing_told : (known : List FiledMeter) (old new : FiledMeter) (found : Option JoinFault)
+nothing_reported : (known : List FiledMeter) (old new : FiledMeter) (found : Option JoinFault)
     → option_to_list (option_map (λ fault. Differs fault old new) found) ≡ [] → found ≡ None
-nothing_told known old new None h = refl
-nothing_told known old new (Some fault) h = absurd (cc)
+nothing_reported known old new None h = refl
+nothing_reported known old new (Some fault) h = absurd (cc)
 
 passed_by : (test : Bool) (fault : JoinFault) (rest : Option JoinFault) → (if test then Some fault else rest) ≡ None
     → (test ≡ false) × (rest ≡ None)
@@ -143,8 +143,8 @@ goes_on known old new h =
       within = not-false _ within.0;
     }
 
-told_nothing : (known : List FiledMeter) (old new : FiledMeter) → MeterGoesOn known old new → fault_between (is_within known new) old new ≡ None
-told_nothing known old new h =
+reported_nothing : (known : List FiledMeter) (old new : FiledMeter) → MeterGoesOn known old new → fault_between (is_within known new) old new ≡ None
+reported_nothing known old new h =
     passes old.standing.is_ended Closed _ h.goes_on.unended
     (passes (not (bytes_eq (string_bytes new.register) (string_bytes old.register))) Register _ (ap not ((bytes_eq-Decides _ _).1 h.register))
     (passes (not (new.installed.range == old.installed.range)) Range _ (ap not (eq-eqb _ _ h.goes_on.range))
@@ -154,6 +154,6 @@ told_nothing known old new h =
 
 pub joined_meters_go_on : JoinedMetersGoOn
 joined_meters_go_on known old new = (
-  λ h. goes_on known old new (nothing_told known old new (fault_between (is_within known new) old new) h),
-  λ h. ap (λ found. option_to_list (option_map (λ fault. Differs fault old new) found)) (told_nothing known old new h),
+  λ h. goes_on known old new (nothing_reported known old new (fault_between (is_within known new) old new) h),
+  λ h. ap (λ found. option_to_list (option_map (λ fault. Differs fault old new) found)) (reported_nothing known old new h),
 )

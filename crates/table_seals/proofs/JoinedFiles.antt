@@ -118,8 +118,8 @@ one_more name known next (new ∷ []) (old ∷ older) of nothing one at before f
     let is : string_bytes new.meter ≡ name = same_name name new this.1 in
     let found : find (is_meter (string_bytes new.meter)) known.meters ≡ Some old =
     ap (λ n. find (is_meter n) known.meters) is ∙ first_found (is_meter name) known.meters older old before in
-    let told : joins_by known.meters new (Some old) ≡ [] = ap (joins_by known.meters new) (sym found) ∙ this.0 in
-    let goes : MeterGoesOn known.meters old new = (joined_meters_go_on known.meters old new).0 told in
+    let reported : joins_by known.meters new (Some old) ≡ [] = ap (joins_by known.meters new) (sym found) ∙ this.0 in
+    let goes : MeterGoesOn known.meters old new = (joined_meters_go_on known.meters old new).0 reported in
     let all : energy_of (named (string_bytes new.meter) (new ∷ known.meters)) ≤ MAX_TOTAL =
     energies_stay MAX_TOTAL (string_bytes new.meter) (new ∷ known.meters) goes.within in
     let whole : named (string_bytes new.meter) (new ∷ known.meters) ≡ new ∷ old ∷ older =

@@ -6,14 +6,14 @@ use Rattle.meter_journal.specs.declared.lines.Installed.{Installed}
 use Rattle.meter_journal.specs.Books.{IsWellInstalled}
 use Rattle.meter_audit.specs.declared.rows.TableRow.{TableRow}
 use Rattle.meter_audit.specs.declared.standing.Standing.{Standing}
-use Rattle.meter_audit.specs.CarriedFiles.{GoesOnAs, InFile, GoOn, told_by_both, entry_from_all_rows, FilesAreOneHistory}
+use Rattle.meter_audit.specs.CarriedFiles.{GoesOnAs, InFile, GoOn, reported_by_both, entry_from_all_rows, FilesAreOneHistory}
 use Rattle.meter_audit.specs.Fitting.{Tables, AreFine}
 use Rattle.store_tables.specs.declared.meters.rows.InstallationRow.{InstallationRow}
 use Rattle.store_tables.proofs.ReadLemmas.{ok_is}
 use Rattle.table_audit.specs.Lawful.{last_shown, tables_from}
 use Rattle.table_seals.specs.declared.filed.FiledMeter.{FiledMeter}
 use Rattle.table_seals.specs.Filing.{standing_in}
-use Rattle.table_seals.specs.JoinLaws.{EachGoesOn, FiledMetersAreTold, IsToldBy, JoinedFilesAreLawful, energy_of, in_file, in_files}
+use Rattle.table_seals.specs.JoinLaws.{EachGoesOn, FiledMetersAreReported, IsReportedBy, JoinedFilesAreLawful, energy_of, in_file, in_files}
 use Rattle.table_seals.proofs.Read.{same_read}
 
 -- ---- the tables of one meter in one file
@@ -27,7 +27,7 @@ same_meter m n range ceiling opening =
     ∙ ap (λ c. let x : Installed = record { range = n.range; ceiling = c; opening = m.opening } in x) ceiling
     ∙ ap (λ (l : Last). let x : Installed = record { range = n.range; ceiling = n.ceiling; opening = l } in x) opening
 
-pub kept_meters_are_reported : FiledMetersAreTold
+pub kept_meters_are_reported : FiledMetersAreReported
 kept_meters_are_reported row rows installation filed read fine so =
     let law = fine.lawful in
     let same : installation ≡ so.installation = ok_is (sym read ∙ so.installation_read) in
@@ -68,9 +68,9 @@ latest_more : (first new : InFile) (later : List InFile) → latest first (later
 latest_more first new [] = refl
 latest_more first new (next ∷ later) = latest_more next new later
 
-told_more : (old : Tables) (later : List InFile) (new : InFile) → (entry_from_all_rows old (later ++ new ∷ [])).total ≡ (entry_from_all_rows old later).total + new.tables.total
-told_more old [] new = refl
-told_more old (next ∷ later) new = told_more (told_by_both old next.tables) later new
+reported_more : (old : Tables) (later : List InFile) (new : InFile) → (entry_from_all_rows old (later ++ new ∷ [])).total ≡ (entry_from_all_rows old later).total + new.tables.total
+reported_more old [] new = refl
+reported_more old (next ∷ later) new = reported_more (reported_by_both old next.tables) later new
 
 -- Up to the file of `meter`, the files of a meter continue each other, the oldest file first.
 record GoesUpTo (tables : FiledMeter → Tables) (meter : FiledMeter) (meters : List FiledMeter) : Type 0 where
@@ -83,28 +83,28 @@ record GoesUpTo (tables : FiledMeter → Tables) (meter : FiledMeter) (meters : 
   pub last : latest first later ≡ in_file tables meter
   pub total : (entry_from_all_rows first.tables later).total ≡ energy_of meters
 
-up_to : (tables : FiledMeter → Tables) (meter : FiledMeter) (older : List FiledMeter) → AllByRecursion (λ m. IsToldBy m (tables m)) (meter ∷ older)
+up_to : (tables : FiledMeter → Tables) (meter : FiledMeter) (older : List FiledMeter) → AllByRecursion (λ m. IsReportedBy m (tables m)) (meter ∷ older)
     → EachGoesOn (meter ∷ older) → GoesUpTo tables meter (meter ∷ older)
-up_to tables meter [] told goes = record {
+up_to tables meter [] reported goes = record {
   first = in_file tables meter;
   later = [];
   are = refl;
-  well = told.0.well;
-  fine = told.0.fine;
+  well = reported.0.well;
+  fine = reported.0.fine;
   goes = tt;
   last = refl;
-  total = omega (arith, told.0.total);
+  total = omega (arith, reported.0.total);
 }
-up_to tables meter (old ∷ older) told goes =
-    let before = up_to tables old older told.1 goes.1 in
+up_to tables meter (old ∷ older) reported goes =
+    let before = up_to tables old older reported.1 goes.1 in
     let new : InFile = in_file tables meter in
-    let old_told : IsToldBy old (tables old) = told.1.0 in
+    let old_reported : IsReportedBy old (tables old) = reported.1.0 in
     let on : GoesOnAs old.installed old.standing.last old.standing.is_ended meter.installed = goes.0 in
     let from : GoesOnAs old.installed (tables old).last (tables old).ended meter.installed = record {
-      unended = old_told.ended ∙ on.unended;
+      unended = old_reported.ended ∙ on.unended;
       range = on.range;
       ceiling = on.ceiling;
-      opening = on.opening ∙ sym old_told.last;
+      opening = on.opening ∙ sym old_reported.last;
     } in
     let after : GoesOnAs (latest before.first before.later).meter (latest before.first before.later).tables.last
     (latest before.first before.later).tables.ended new.meter =
@@ -115,14 +115,14 @@ up_to tables meter (old ∷ older) told goes =
       are = ap (λ (fs : List InFile). fs ++ new ∷ []) before.are;
       well = before.well;
       fine = before.fine;
-      goes = goes_one_more before.first new before.later before.goes after told.0.fine;
+      goes = goes_one_more before.first new before.later before.goes after reported.0.fine;
       last = latest_more before.first new before.later;
-      total = omega (arith, told_more before.first.tables before.later new, before.total, told.0.total);
+      total = omega (arith, reported_more before.first.tables before.later new, before.total, reported.0.total);
     }
 
 pub joined_files_are_lawful : FilesAreOneHistory → JoinedFilesAreLawful
-joined_files_are_lawful law tables meter older told goes within =
-    let all = up_to tables meter older told goes in
+joined_files_are_lawful law tables meter older reported goes within =
+    let all = up_to tables meter older reported goes in
     record {
       first = all.first;
       later = all.later;

@@ -1,5 +1,5 @@
--- Lemmas on the result of sealing the polls that were read, and of checking these polls against a
--- seal.
+-- Lemmas on the digest of all polls in the file: the seal that the program writes over it, and the
+-- comparison of the file with an earlier seal.
 use Rattle.std.proofs.Common.{◌≡◌, ◌↔◌, ℕ, ◌≤◌, Bool, false, List, [], Option, Some, None, Result, Ok, Err, unwrap_or, IfOk, IfSome, refl, sym, ap, subst, ◌∙◌, arith}
 use Rattle.sha2.specs.Sha256.{sha256}
 use Rattle.store_tables.specs.Content.{Content}
@@ -7,7 +7,7 @@ use Rattle.store_tables.specs.Limits.{greatest_place}
 use Rattle.store_tables.specs.declared.faults.RowFault.{RowFault}
 use Rattle.table_seals.specs.declared.seals.PollSeal.{PollSeal}
 use Rattle.table_seals.specs.PollReading.{ReadPoll}
-use Rattle.table_seals.specs.PollSealing.{ReadsRuns, ReadsUpTo, ArePollsSealed, SealsPolls, KeepsPolls, TellsPolls, AreDigested, AreAsSealed, DigestsPolls}
+use Rattle.table_seals.specs.PollSealing.{ReadsRuns, ReadsUpTo, ArePollsSealed, SealsPolls, KeepsPolls, ReportsPolls, AreDigested, AreAsSealed, DigestsPolls}
 use Rattle.table_seals.specs.Sealed.{Sealed, SealedPolls, SealedTables}
 use Rattle.sqlite.specs.Store.{Ghosts}
 use Rattle.sqlite.specs.Held.{Held}
@@ -71,14 +71,14 @@ kept_if (Some polls) (Some seal) sealed h =
       λ kept. let enough = kept.enough in (omega (arith, enough, count), h.1 ∙ kept.same),
     )
 
-pub tells_kept : (content : Content) (found : Option PollSeal) (sealed : SealedPolls) (differ : Bool)
-    → (differ ≡ false) ↔ AreAsSealed found sealed → DigestsPolls sealed.count sealed.pending content found → TellsPolls sealed content differ
-tells_kept content found sealed differ told h =
+pub reports_kept : (content : Content) (found : Option PollSeal) (sealed : SealedPolls) (differ : Bool)
+    → (differ ≡ false) ↔ AreAsSealed found sealed → DigestsPolls sealed.count sealed.pending content found → ReportsPolls sealed content differ
+reports_kept content found sealed differ reported h =
     let kept = kept_if h.polls found sealed h.digested in
     record {
       polls = h.polls;
       reads = h.reads;
-      told = (λ is. kept.0 (told.0 is), λ keeps. told.1 (kept.1 keeps));
+      reported = (λ is. kept.0 (reported.0 is), λ keeps. reported.1 (kept.1 keeps));
     }
 
 -- ---- parsing the seal of polls from the text that was written

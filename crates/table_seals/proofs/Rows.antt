@@ -6,7 +6,7 @@ use Rattle.std.specs.List.{slice_get}
 use Rattle.sqlite.specs.Order.{Row}
 use Rattle.store_tables.specs.Content.{Content}
 use Rattle.table_seals.specs.declared.seals.MeterSeal.{MeterSeal}
-use Rattle.table_seals.specs.Checking.{TellsKept, AreTold, TellsMeter, TellsNames, unless_kept, differing}
+use Rattle.table_seals.specs.Checking.{ReportsKept, AreReported, ReportsMeter, ReportsNames, unless_kept, differing}
 use Rattle.table_seals.specs.Sealed.{Sealed, sealed_of}
 use Rattle.table_seals.specs.Sealing.{SealsRow, AreSealed}
 
@@ -30,35 +30,35 @@ there_at rows i row lt is = slice_get-get_or rows i row lt ∙ ap (λ (r : Row).
 
 -- ---- checks of meters against their seals
 
-told_more : (installed : List Row) (content : Content) (seals : List Sealed) (kept : List Bool) (seal : Sealed) (one : Bool)
-    → AreTold installed content seals kept → TellsKept installed seal content one
-    → AreTold installed content (seals ++ seal ∷ []) (kept ++ one ∷ []) × (differing (seals ++ seal ∷ []) (kept ++ one ∷ []) ≡ differing seals kept ++ unless_kept one seal.meter)
-told_more installed content [] [] seal true h tells = ((tells, tt), refl)
-told_more installed content [] [] seal false h tells = ((tells, tt), refl)
-told_more installed content (s ∷ seals) (k ∷ kept) seal one h tells =
-    let rest = told_more installed content seals kept seal one h.1 tells in (
+reported_more : (installed : List Row) (content : Content) (seals : List Sealed) (kept : List Bool) (seal : Sealed) (one : Bool)
+    → AreReported installed content seals kept → ReportsKept installed seal content one
+    → AreReported installed content (seals ++ seal ∷ []) (kept ++ one ∷ []) × (differing (seals ++ seal ∷ []) (kept ++ one ∷ []) ≡ differing seals kept ++ unless_kept one seal.meter)
+reported_more installed content [] [] seal true h reports = ((reports, tt), refl)
+reported_more installed content [] [] seal false h reports = ((reports, tt), refl)
+reported_more installed content (s ∷ seals) (k ∷ kept) seal one h reports =
+    let rest = reported_more installed content seals kept seal one h.1 reports in (
       (h.0, rest.0),
       ap (λ ns. unless_kept k s.meter ++ ns) rest.1 ∙ sym (append_assoc (unless_kept k s.meter) (differing seals kept) (unless_kept one seal.meter)),
     )
-told_more installed content [] (k ∷ kept) seal one h tells = absurd h
-told_more installed content (s ∷ seals) [] seal one h tells = absurd h
+reported_more installed content [] (k ∷ kept) seal one h reports = absurd h
+reported_more installed content (s ∷ seals) [] seal one h reports = absurd h
 
-pub next_told : (installed : List Row) (content : Content) (seals : List MeterSeal) (i : ℕ) (seal : MeterSeal) (old new : List (List ℕ)) → i < length seals
-    → seal ≡ get_or seals i seal → TellsNames installed (map sealed_of (take i seals)) content old → TellsMeter installed (sealed_of seal) content old new
-    → TellsNames installed (map sealed_of (take (i + 1) seals)) content new
-next_told installed content seals i seal old new lt is before one =
-    let more = told_more installed content (map sealed_of (take i seals)) before.kept (sealed_of seal) one.kept before.told one.told in
+pub next_reported : (installed : List Row) (content : Content) (seals : List MeterSeal) (i : ℕ) (seal : MeterSeal) (old new : List (List ℕ)) → i < length seals
+    → seal ≡ get_or seals i seal → ReportsNames installed (map sealed_of (take i seals)) content old → ReportsMeter installed (sealed_of seal) content old new
+    → ReportsNames installed (map sealed_of (take (i + 1) seals)) content new
+next_reported installed content seals i seal old new lt is before one =
+    let more = reported_more installed content (map sealed_of (take i seals)) before.kept (sealed_of seal) one.kept before.reported one.reported in
     let grown : map sealed_of (take i seals) ++ sealed_of seal ∷ [] ≡ map sealed_of (take (i + 1) seals) =
     sym (map-append sealed_of (take i seals) (seal ∷ [])) ∙ ap (λ (s : MeterSeal). map sealed_of (take i seals ++ s ∷ [])) is
     ∙ ap (map sealed_of) (sym (take_more seals i seal lt)) in
-    subst (λ (ss : List Sealed). TellsNames installed ss content new) grown (record {
+    subst (λ (ss : List Sealed). ReportsNames installed ss content new) grown (record {
       kept = before.kept ++ one.kept ∷ [];
-      told = more.0;
+      reported = more.0;
       names_are = one.names ∙ ap (λ ns. ns ++ unless_kept one.kept (sealed_of seal).meter) before.names_are ∙ sym more.1;
     })
 
-pub none_told : (installed : List Row) (content : Content) (names : List (List ℕ)) → names ≡ [] → TellsNames installed [] content names
-none_told installed content names none = record { kept = []; told = tt; names_are = none }
+pub none_reported : (installed : List Row) (content : Content) (names : List (List ℕ)) → names ≡ [] → ReportsNames installed [] content names
+none_reported installed content names none = record { kept = []; reported = tt; names_are = none }
 
 -- If an index is in a list, then the row at this index does not depend on the look-up's default
 -- value.

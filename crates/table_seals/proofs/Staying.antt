@@ -90,19 +90,19 @@ second_true true b h = h
 second_true false b h = absurd (cc)
 
 -- The two entry rows have equal digested lines, and leave the same scale factor for later entries.
-record TellsSame (row next : EntryRow) : Type 0 where
+record ReportsSame (row next : EntryRow) : Type 0 where
   line : (sf : ℤ) → entry_line (table_row sf next) ≡ entry_line (table_row sf row)
   scale : (sf : ℤ) → sf_after next.stands next.entry sf ≡ sf_after row.stands row.entry sf
   place : next.place ≡ row.place
   stands : next.stands ≡ row.stands
 
-rolled_same : (last : Last) (row : EntryRow) → TellsSame row (rolled last row)
+rolled_same : (last : Last) (row : EntryRow) → ReportsSame row (rolled last row)
 unfolding line_of
 rolled_same last row =
     elim (cases_Bool (row.stands && is_reading row.kind)) [
       | inl e ↦
           let made : rolled last row ≡ (let r : EntryRow = record row { entry = with_rolls last row.entry } in r) = cond-true _ _ _ e in
-          subst (TellsSame row) (sym made) (record {
+          subst (ReportsSame row) (sym made) (record {
             line = λ sf. reading_line sf row.place row.kind last row.entry row.stands (second_true row.stands (is_reading row.kind) e);
             scale = λ sf. rolls_leave last row.entry row.stands sf;
             place = refl;
@@ -110,7 +110,7 @@ rolled_same last row =
           })
       | inr e ↦
           let made : rolled last row ≡ row = cond-false _ _ _ e in
-          subst (TellsSame row) (sym made) (record { line = λ sf. refl; scale = λ sf. refl; place = refl; stands = refl })
+          subst (ReportsSame row) (sym made) (record { line = λ sf. refl; scale = λ sf. refl; place = refl; stands = refl })
     ]
 
 -- ---- the digested lines of entries, the latest entry first
@@ -153,13 +153,13 @@ void_lines meter named (row ∷ rows) a there read =
           let rest : List EntryRow = with_void meter.opening named rows in
           let below : SameLines meter rows rest = void_lines meter named rows x found.1 read_x in
           let next : EntryRow = rolled (last_of meter.opening (entries_in rest)) row in
-          let tells : TellsSame row next = rolled_same (last_of meter.opening (entries_in rest)) row in
+          let reports : ReportsSame row next = rolled_same (last_of meter.opening (entries_in rest)) row in
           let scale : sf_after next.stands next.entry (scale_after meter rest) ≡ sf_after row.stands row.entry (scale_after meter rows) =
-          tells.scale (scale_after meter rest) ∙ ap (sf_after row.stands row.entry) below.scale in
+          reports.scale (scale_after meter rest) ∙ ap (sf_after row.stands row.entry) below.scale in
           subst (SameLines meter (row ∷ rows)) (sym (above meter.opening named row rows off)) (record {
             lines = line_more meter next rest ∙ ap (λ sf. entry_line (table_row sf next) ∷ lines_of meter rest) scale
                 ∙ ap (λ ls. entry_line (table_row (sf_after row.stands row.entry (scale_after meter rows)) next) ∷ ls) below.lines
-                ∙ ap (λ l. l ∷ lines_of meter rows) (tells.line (sf_after row.stands row.entry (scale_after meter rows)))
+                ∙ ap (λ l. l ∷ lines_of meter rows) (reports.line (sf_after row.stands row.entry (scale_after meter rows)))
                 ∙ sym (line_more meter row rows);
             scale = scale_more meter next rest ∙ scale ∙ sym (scale_more meter row rows);
           })
@@ -277,9 +277,9 @@ void_keeps opening place named (row ∷ rows) h =
       | inr off ↦
           let rest : List EntryRow = with_void opening named rows in
           let next : EntryRow = rolled (last_of opening (entries_in rest)) row in
-          let tells : TellsSame row next = rolled_same (last_of opening (entries_in rest)) row in
+          let reports : ReportsSame row next = rolled_same (last_of opening (entries_in rest)) row in
           let head : ((next.place == place) && not next.stands) ≡ ((row.place == place) && not row.stands) =
-          ap (λ n. (n == place) && not next.stands) tells.place ∙ ap (λ s. (row.place == place) && not s) tells.stands in
+          ap (λ n. (n == place) && not next.stands) reports.place ∙ ap (λ s. (row.place == place) && not s) reports.stands in
           ap (struck_at place) (above opening named row rows off)
           ∙ or_keeps ((row.place == place) && not row.stands) (struck_at place rows) ((next.place == place) && not next.stands) (struck_at place rest)
           (λ s. head ∙ s) (λ s. void_keeps opening place named rows s) h

@@ -9,7 +9,7 @@ use Rattle.table_audit.specs.declared.rows.MeterRows.{MeterRows}
 use Rattle.table_audit.specs.Reading.{is_named}
 use Rattle.table_audit.specs.Showing.{AreRowsOf, ShowsInstallations}
 use Rattle.table_seals.specs.declared.checks.Checked.{Checked}
-use Rattle.table_seals.specs.PollSealing.{TellsPolls}
+use Rattle.table_seals.specs.PollSealing.{ReportsPolls}
 use Rattle.table_seals.specs.Sealed.{Sealed, SealedTables}
 use Rattle.table_seals.specs.Tables.{HasTerms, HasRead}
 use Rattle.table_seals.specs.Texts.{entries_text}
@@ -35,20 +35,20 @@ abbrev pub Keeps : List Row → MeterRows → Sealed → Type 0
 Keeps installed rows seal = IsInstalled installed seal × HasSealed rows seal
 
 -- `kept` is true if and only if the tables still match the meter's seal.
-pub record TellsKept (installed : List Row) (seal : Sealed) (content : Content) (kept : Bool) :
+pub record ReportsKept (installed : List Row) (seal : Sealed) (content : Content) (kept : Bool) :
     Type 0 where
   pub rows : MeterRows
   pub theirs : AreRowsOf seal.meter content rows
-  pub told : IsTrue kept ↔ Keeps installed rows seal
+  pub reported : IsTrue kept ↔ Keeps installed rows seal
 
 -- Each Boolean in the second list is true if and only if the tables match the seal at this index in
 -- the first list.
-abbrev pub AreTold : List Row → Content → List Sealed → List Bool → Type 0
-AreTold installed content [] [] = ⊤
-AreTold installed content (seal ∷ seals) (kept ∷ others) =
-    TellsKept installed seal content kept × AreTold installed content seals others
-AreTold installed content [] (kept ∷ others) = ⊥
-AreTold installed content (seal ∷ seals) [] = ⊥
+abbrev pub AreReported : List Row → Content → List Sealed → List Bool → Type 0
+AreReported installed content [] [] = ⊤
+AreReported installed content (seal ∷ seals) (kept ∷ others) =
+    ReportsKept installed seal content kept × AreReported installed content seals others
+AreReported installed content [] (kept ∷ others) = ⊥
+AreReported installed content (seal ∷ seals) [] = ⊥
 
 -- A list with the name of a meter, or an empty list if the tables match the meter's seal.
 abbrev pub unless_kept : (kept : Bool) → (meter : List ℕ) → List (List ℕ)
@@ -56,10 +56,10 @@ unless_kept true meter = []
 unless_kept false meter = meter ∷ []
 
 -- Checking a meter's seal appends the meter's name if and only if the tables don't match the seal.
-pub record TellsMeter (installed : List Row) (seal : Sealed) (content : Content)
+pub record ReportsMeter (installed : List Row) (seal : Sealed) (content : Content)
     (old new : List (List ℕ)) : Type 0 where
   pub kept : Bool
-  pub told : TellsKept installed seal content kept
+  pub reported : ReportsKept installed seal content kept
   pub names : new ≡ old ++ unless_kept kept seal.meter
 
 -- The names of the meters that don't match their seals, in the order of the seals.
@@ -70,25 +70,25 @@ differing (seal ∷ seals) (kept ∷ others) = unless_kept kept seal.meter ++ di
 
 -- `names` has the names of the meters that don't match their seals, given these rows of
 -- `installations`.
-pub record TellsNames (installed : List Row) (seals : List Sealed) (content : Content)
+pub record ReportsNames (installed : List Row) (seals : List Sealed) (content : Content)
     (names : List (List ℕ)) : Type 0 where
   pub kept : List Bool
-  pub told : AreTold installed content seals kept
+  pub reported : AreReported installed content seals kept
   pub names_are : names ≡ differing seals kept
 
 -- `names` has the names of the meters that don't match their seals in the tables, in the order of
 -- the seals.
-pub record TellsMeters (seals : List Sealed) (content : Content) (names : List (List ℕ)) : Type 0
+pub record ReportsMeters (seals : List Sealed) (content : Content) (names : List (List ℕ)) : Type 0
   where
     pub installed : List Row
     pub shown : ShowsInstallations content installed
-    pub tells : TellsNames installed seals content names
+    pub reports : ReportsNames installed seals content names
 
 -- The result of checking a file's seal. It has the meters that don't match the seal, whether the
 -- polls differ from it, and the number of sealed meters.
-pub record TellsTables (seal : SealedTables) (content : Content) (checked : Checked) : Type 0 where
-  pub meters : TellsMeters seal.meters content (map string_bytes checked.differing.items)
-  pub polls : TellsPolls seal.polls content checked.polls_differ
+pub record ReportsTables (seal : SealedTables) (content : Content) (checked : Checked) : Type 0 where
+  pub meters : ReportsMeters seal.meters content (map string_bytes checked.differing.items)
+  pub polls : ReportsPolls seal.polls content checked.polls_differ
   pub count : checked.meters ≡ length seal.meters
 
 -- The check of a seal found that all meters and polls match the seal.

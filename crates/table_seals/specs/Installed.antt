@@ -8,7 +8,7 @@ use Rattle.std.specs.declared.cmp.Ordering.{Ordering}
 use Rattle.sqlite.specs.Order.{Row}
 use Rattle.store_tables.specs.Content.{Content}
 use Rattle.table_audit.specs.declared.rows.MeterRows.{MeterRows}
-use Rattle.table_seals.specs.Checking.{IsInstalled, Keeps, TellsKept, TellsMeter, TellsNames}
+use Rattle.table_seals.specs.Checking.{IsInstalled, Keeps, ReportsKept, ReportsMeter, ReportsNames}
 use Rattle.table_seals.specs.Sealed.{Sealed}
 use Rattle.table_seals.specs.Tables.{TermsAreRead}
 use Rattle.table_seals.specs.declared.tables.Terms.{Terms}
@@ -51,8 +51,8 @@ AddsTermsOf row old new = (rows : List Row) → AreTermsOf rows old
 -- ---- results of checking a seal that use the set of terms
 
 -- `there` is true if and only if a meter is installed with the sealed terms.
-abbrev pub TellsInstalled : BTreeSet Terms → Sealed → (there : Bool) → Type 0
-TellsInstalled known seal there = (installed : List Row) → AreTermsOf installed known
+abbrev pub ReportsInstalled : BTreeSet Terms → Sealed → (there : Bool) → Type 0
+ReportsInstalled known seal there = (installed : List Row) → AreTermsOf installed known
     → IsTrue there ↔ IsInstalled installed seal
 
 -- `kept` is true if and only if a meter's rows match its seal, and the set has the terms in this
@@ -61,18 +61,18 @@ abbrev pub KeepsAt : BTreeSet Terms → MeterRows → Sealed → (kept : Bool) �
 KeepsAt known rows seal kept = (installed : List Row) → AreTermsOf installed known
     → IsTrue kept ↔ Keeps installed rows seal
 
--- True if `TellsKept` holds, given a set that has the terms of the rows of `installations`.
-abbrev pub TellsKeptAt : BTreeSet Terms → Sealed → Content → (kept : Bool) → Type 0
-TellsKeptAt known seal content kept = (installed : List Row) → AreTermsOf installed known
-    → TellsKept installed seal content kept
+-- True if `ReportsKept` holds, given a set that has the terms of the rows of `installations`.
+abbrev pub ReportsKeptAt : BTreeSet Terms → Sealed → Content → (kept : Bool) → Type 0
+ReportsKeptAt known seal content kept = (installed : List Row) → AreTermsOf installed known
+    → ReportsKept installed seal content kept
 
--- True if `TellsMeter` holds, given a set that has the terms of the rows of `installations`.
-abbrev pub TellsMeterAt : BTreeSet Terms → Sealed → Content → (old new : List (List ℕ)) → Type 0
-TellsMeterAt known seal content old new = (installed : List Row) → AreTermsOf installed known
-    → TellsMeter installed seal content old new
+-- True if `ReportsMeter` holds, given a set that has the terms of the rows of `installations`.
+abbrev pub ReportsMeterAt : BTreeSet Terms → Sealed → Content → (old new : List (List ℕ)) → Type 0
+ReportsMeterAt known seal content old new = (installed : List Row) → AreTermsOf installed known
+    → ReportsMeter installed seal content old new
 
--- True if `TellsNames` holds, given a set that has the terms of the rows of `installations`.
-abbrev pub TellsNamesAt : BTreeSet Terms → List Sealed → Content → (names : List (List ℕ))
+-- True if `ReportsNames` holds, given a set that has the terms of the rows of `installations`.
+abbrev pub ReportsNamesAt : BTreeSet Terms → List Sealed → Content → (names : List (List ℕ))
     → Type 0
-TellsNamesAt known seals content names = (installed : List Row) → AreTermsOf installed known
-    → TellsNames installed seals content names
+ReportsNamesAt known seals content names = (installed : List Row) → AreTermsOf installed known
+    → ReportsNames installed seals content names

@@ -76,7 +76,7 @@ JoinedFilesAreOne = (first : Known) (later : List Known) → IsOfMeters first
 -- ---- the tables of a meter in several files
 
 -- A meter's tables are fine in an audit, and result in the recorded state of the meter.
-pub record IsToldBy (meter : FiledMeter) (tables : Tables) : Type 0 where
+pub record IsReportedBy (meter : FiledMeter) (tables : Tables) : Type 0 where
   pub well : IsWellInstalled meter.installed
   pub fine : AreFine meter.installed tables
   pub last : tables.last ≡ meter.standing.last
@@ -85,11 +85,11 @@ pub record IsToldBy (meter : FiledMeter) (tables : Tables) : Type 0 where
 
 -- Theorem: if an audit finds a meter's rows fine, then the data read about the meter agree with its
 -- tables.
-abbrev pub FiledMetersAreTold : Type 0
-FiledMetersAreTold = (row : Row) (rows : MeterRows) (installation : InstallationRow)
+abbrev pub FiledMetersAreReported : Type 0
+FiledMetersAreReported = (row : Row) (rows : MeterRows) (installation : InstallationRow)
     (filed : FiledMeter) → installation_in row ≡ Ok installation
     → IsFine installation rows → IsFiledAs row rows filed
-    → (tables : Tables) × IsToldBy filed tables
+    → (tables : Tables) × IsReportedBy filed tables
 
 abbrev pub in_file : (tables : FiledMeter → Tables) → FiledMeter → InFile
 in_file tables meter = record { meter = meter.installed; tables = tables meter }
@@ -112,7 +112,7 @@ pub record HasOneJournal (tables : FiledMeter → Tables) (meters : List FiledMe
 -- tables of each file must be fine, and the total energy must be within the limit.
 abbrev pub JoinedFilesAreLawful : Type 0
 JoinedFilesAreLawful = (tables : FiledMeter → Tables) (meter : FiledMeter)
-    (older : List FiledMeter) → AllByRecursion (λ m. IsToldBy m (tables m)) (meter ∷ older)
+    (older : List FiledMeter) → AllByRecursion (λ m. IsReportedBy m (tables m)) (meter ∷ older)
     → EachGoesOn (meter ∷ older)
     → energy_of (meter ∷ older) ≤ MAX_TOTAL
     → HasOneJournal tables (meter ∷ older)

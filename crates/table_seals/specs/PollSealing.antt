@@ -76,10 +76,10 @@ KeepsPolls None sealed = ⊥
 KeepsPolls (Some polls) sealed = HasSealedPolls polls sealed
 
 -- `differ` is false if and only if the polls in the tables match their seal.
-pub record TellsPolls (sealed : SealedPolls) (content : Content) (differ : Bool) : Type 0 where
+pub record ReportsPolls (sealed : SealedPolls) (content : Content) (differ : Bool) : Type 0 where
   pub polls : Option (List ReadPoll)
   pub reads : ReadsPolls content polls
-  pub told : (differ ≡ false) ↔ KeepsPolls polls sealed
+  pub reported : (differ ≡ false) ↔ KeepsPolls polls sealed
 
 -- ---- intermediate results of digesting the polls in the tables
 

@@ -3,8 +3,8 @@ ghost use Rattle.std.specs.Prelude.{◌≡◌, ◌↔◌, ◌++◌, false, map, 
 ghost use Rattle.std.specs.List.{list_all};
 ghost use Rattle.table_audit.specs.Looking.{Finds};
 ghost use Rattle.table_audit.specs.Reading as values;
-ghost use Rattle.table_seals.specs.Checking.{HasSealed, TellsMeters, TellsTables, unless_kept};
-ghost use Rattle.table_seals.specs.Installed.{KeepsAt, TellsKeptAt, TellsMeterAt, TellsNamesAt};
+ghost use Rattle.table_seals.specs.Checking.{HasSealed, ReportsMeters, ReportsTables, unless_kept};
+ghost use Rattle.table_seals.specs.Installed.{KeepsAt, ReportsKeptAt, ReportsMeterAt, ReportsNamesAt};
 ghost use Rattle.table_seals.specs.Sealed.{sealed_of, sealed_tables_of};
 
 use crate::checks::Checked;
@@ -84,7 +84,7 @@ fn check_meter<S: Alter>(
 ) -> Result<bool, RowFault>
     requires { conn.old.in_transaction ≡ false }
     ensures { Finds S.Store conn.old conn.new result
-        (TellsKeptAt known.now (sealed_of seal.now)) }
+        (ReportsKeptAt known.now (sealed_of seal.now)) }
 {
     let rows = meter_rows(conn, &seal.meter)?;
     match keeps(alloc, known, &rows, seal) {
@@ -121,7 +121,7 @@ fn check_and_report<S: Alter>(
 ) -> Result<(), RowFault>
     requires { conn.old.in_transaction ≡ false }
     ensures { Finds S.Store conn.old conn.new result (λ content _.
-        TellsMeterAt known.now (sealed_of seal.now) content
+        ReportsMeterAt known.now (sealed_of seal.now) content
         (map string_bytes differing.old.items) (map string_bytes differing.new.items)) }
 {
     let kept = check_meter(alloc, conn, known, seal)?;
@@ -141,7 +141,7 @@ fn check_each<S: Alter>(
 ) -> Result<Vec<String>, RowFault>
     requires { conn.old.in_transaction ≡ false }
     ensures { Finds S.Store conn.old conn.new result (λ content differing.
-        TellsNamesAt known.now (map sealed_of seals.now) content
+        ReportsNamesAt known.now (map sealed_of seals.now) content
         (map string_bytes differing.items)) }
 {
     let mut differing = Vec::new(alloc);
@@ -159,7 +159,7 @@ fn check_meters<S: Alter>(
 ) -> Result<Vec<String>, RowFault>
     requires { conn.old.in_transaction ≡ false }
     ensures { Finds S.Store conn.old conn.new result (λ content differing.
-        TellsMeters (map sealed_of seals.now) content (map string_bytes differing.items)) }
+        ReportsMeters (map sealed_of seals.now) content (map string_bytes differing.items)) }
 {
     let installed = installations(conn)?;
     match terms_in(alloc, &installed) {
@@ -180,7 +180,7 @@ pub fn check_seal<S: Alter>(
     seal: &Seal,
 ) -> Result<Checked, RowFault>
     requires { conn.old.in_transaction ≡ false }
-    ensures { Finds S.Store conn.old conn.new result (TellsTables (sealed_tables_of seal.now)) }
+    ensures { Finds S.Store conn.old conn.new result (ReportsTables (sealed_tables_of seal.now)) }
 {
     let differing = check_meters(alloc, conn, seal.meters.as_slice())?;
     let polls_differ = check_polls(alloc, conn, &seal.polls)?;

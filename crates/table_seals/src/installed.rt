@@ -1,7 +1,7 @@
 //! The set of the terms of all installed meters. The terms are a meter's name, accounting register
 //! and ceiling.
 ghost use Rattle.std.specs.Prelude.{IfOk, OnOk};
-ghost use Rattle.table_seals.specs.Installed.{AddsTerms, AddsTermsOf, AreTermsOf, TellsInstalled};
+ghost use Rattle.table_seals.specs.Installed.{AddsTerms, AddsTermsOf, AreTermsOf, ReportsInstalled};
 ghost use Rattle.table_seals.specs.Sealed.{sealed_of};
 
 use crate::seals::MeterSeal;
@@ -46,7 +46,7 @@ pub(crate) fn terms_in(alloc: Global, installed: &[Row]) -> Result<BTreeSet<Term
 /// Returns whether the set `known` contains the terms in a meter's seal. `known` has the terms of
 /// all installed meters.
 pub(crate) fn is_installed(known: &BTreeSet<Terms>, seal: &MeterSeal) -> Result<bool, AllocError>
-    ensures { IfOk result (TellsInstalled known.now (sealed_of seal.now)) }
+    ensures { IfOk result (ReportsInstalled known.now (sealed_of seal.now)) }
 {
     let terms = Terms {
         meter: seal.meter.clone()?,

@@ -1,7 +1,7 @@
 //! Theorems about files of an office that continue each other. The contract of each function is a
 //! theorem.
 ghost use Rattle.table_seals.specs.JoinLaws.{JoinedFilesAreOne, JoinedMetersGoOn};
-ghost use Rattle.table_seals.specs.JoinLaws.{FiledMetersAreTold, JoinedFilesAreLawful};
+ghost use Rattle.table_seals.specs.JoinLaws.{FiledMetersAreReported, JoinedFilesAreLawful};
 
 use meter_audit::files_are_one_history;
 
@@ -21,7 +21,7 @@ pub fn joined_files_are_one()
 /// Theorem: if an audit finds a meter's rows fine, then the data read about the meter belong to a
 /// lawful journal.
 pub fn kept_meters_are_reported()
-    ensures { FiledMetersAreTold }
+    ensures { FiledMetersAreReported }
 {}
 
 /// Theorem: if a meter's files continue each other, then these files together have the numbers of

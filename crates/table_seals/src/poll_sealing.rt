@@ -168,7 +168,7 @@ pub(crate) fn check_polls<S: Alter>(
 ) -> Result<bool, RowFault>
     requires { conn.old.in_transaction ≡ false }
     ensures { Finds S.Store conn.old conn.new result
-        (said.TellsPolls (sealed_polls_of seal.now)) }
+        (said.ReportsPolls (sealed_polls_of seal.now)) }
 {
     let found = digest_polls(alloc, conn, seal.count, seal.pending.as_slice())?;
     Ok(differ(&found, seal))

@@ -25,7 +25,7 @@ use Rattle.office_books.specs.declared.entries.MeterEntry.TheVariants as entry
 use Rattle.office_events.specs.declared.facts.HeldReading.{HeldReading}
 use Rattle.office_rules.proofs.Lists.{map_reverse}
 use Rattle.carried_books.specs.Joining.Statements.{BothFilesStateTheJoinedMeter, moved_entry, own_entries}
-use Rattle.carried_books.proofs.JoiningLemmas.KeptMeters.{told_alike}
+use Rattle.carried_books.proofs.JoiningLemmas.KeptMeters.{reported_alike}
 
 -- ---- The energy of a meter is the sum of the energies of its quarter hours
 
@@ -209,6 +209,6 @@ module _ (zone : Zone) (range : DayRange) (count : ℕ) where
 
 pub joined_meter : BothFilesStateTheJoinedMeter
 joined_meter = λ zone range old new both has.
-    told_alike (sym has.name)
+    reported_alike (sym has.name)
     (sym (ap (tally_of zone range) has.entries ∙ same_tally zone range has.count old.entries (own_entries true new.entries)))
     (same_energy zone range old.rows new.rows both.rows has.rows) (ap (λ (holds : List HeldReading). held_within zone range holds) (sym has.holds))

@@ -41,7 +41,7 @@ use Rattle.office_events.specs.declared.facts.HeldReading.{HeldReading}
 use Rattle.office_events.specs.declared.questions.Installation.{Installation}
 use Rattle.office_rules.specs.Facts.{opening_of}
 use Rattle.office_rules.specs.Intervals.{rows_of_meter}
-use Rattle.carried_books.specs.Joining.Statements.{MeterOver, TalliesOn, TellsPart, both_held, both_of, kept_of, meter_in, own_entries, with_part}
+use Rattle.carried_books.specs.Joining.Statements.{MeterOver, TalliesOn, ReportsPart, both_held, both_of, kept_of, meter_in, own_entries, with_part}
 use Rattle.carried_books.specs.declared.joining.kept_meters.KeptMeter.{KeptMeter}
 use Rattle.carried_books.proofs.CarryingLemmas.Lasts.{piece_of}
 
@@ -103,9 +103,9 @@ all_held (held ∷ holds) = ap (λ (those : List HeldReading). held ∷ those) (
 
 -- The statement of a meter in one file has the counts of its rejected readings and its energy in
 -- this file.
-pub held_told : (zone : Zone) (range : DayRange) (holds : List HeldReading) (from to : RejectedWithin) → HasCountedNone zone range from
+pub held_reported : (zone : Zone) (range : DayRange) (holds : List HeldReading) (from to : RejectedWithin) → HasCountedNone zone range from
     → TakesAll CountsReading from (holds_within Whole holds) to → to.counts ≡ held_within zone range holds
-held_told zone range holds from to fresh took =
+held_reported zone range holds from to fresh took =
     counted_all zone range holds from to fresh (subst (λ (those : List HeldReading). TakesAll CountsReading from those to) (all_held holds) took)
 
 all_pass : {X : Type 0} (xs : List X) → filter (λ x. true) xs ≡ xs
@@ -133,9 +133,9 @@ and_second : (a b : Bool) → (a && b) ≡ true → b ≡ true
 and_second true b is = is
 and_second false b is = absurd (cc is)
 
-pub energy_told : (zone : Zone) (range : DayRange) (rows : List Share) (from to : EnergyWithin) → IsFresh zone range from
+pub energy_reported : (zone : Zone) (range : DayRange) (rows : List Share) (from to : EnergyWithin) → IsFresh zone range from
     → TakesAll AddsShare from (rows_within (span_of range) rows) to → to.mwh ≡ energy_within zone range rows
-energy_told zone range rows from to fresh took =
+energy_reported zone range rows from to fresh took =
     added_up zone range (rows_within (span_of range) rows) from to fresh took
     ∙ ap (λ (those : List Share). min (sum_by (λ row. row.mwh) those) (2 ^ 128 - 1))
     (ap (filter (λ row. has_moment zone range row.start)) (by_test (span_of range) rows)
@@ -177,24 +177,24 @@ held_both zone range holds more = λ i. record {
 }
 
 -- If two statements have equal fields, then the statements are equal.
-pub told_alike : {a b : MeterStatement} → a.meter ≡ b.meter → a.entries ≡ b.entries → a.mwh ≡ b.mwh → a.held ≡ b.held → a ≡ b
-told_alike meter entries mwh held = λ i. record { meter = meter i; entries = entries i; mwh = mwh i; held = held i }
+pub reported_alike : {a b : MeterStatement} → a.meter ≡ b.meter → a.entries ≡ b.entries → a.mwh ≡ b.mwh → a.held ≡ b.held → a ≡ b
+reported_alike meter entries mwh held = λ i. record { meter = meter i; entries = entries i; mwh = mwh i; held = held i }
 
-kept_alike : {a b : KeptMeter} → a.stands ≡ b.stands → a.told ≡ b.told → a ≡ b
-kept_alike stands told = λ i. record { stands = stands i; told = told i }
+kept_alike : {a b : KeptMeter} → a.stands ≡ b.stands → a.reported ≡ b.reported → a ≡ b
+kept_alike stands reported = λ i. record { stands = stands i; reported = reported i }
 
 module _ (zone : Zone) (range : DayRange) (facts : List Fact) (row : Installation) where
   -- If a meter continues in the next file, then the collected data are those over all files.
-  pub tells_both : (old new : KeptMeter) (part : MeterStatement) (m : MeterOver) → old ≡ kept_of zone range m → new ≡ with_part old row part
-      → TellsPart zone range row.opening.meter true facts old.told.entries part → new ≡ kept_of zone range (both_of m (meter_in facts row))
-  tells_both old new part m told is more =
-      let entries = more.entries m.entries (ap (λ (k : KeptMeter). k.told.entries) told) in
+  pub reports_both : (old new : KeptMeter) (part : MeterStatement) (m : MeterOver) → old ≡ kept_of zone range m → new ≡ with_part old row part
+      → ReportsPart zone range row.opening.meter true facts old.reported.entries part → new ≡ kept_of zone range (both_of m (meter_in facts row))
+  reports_both old new part m reported is more =
+      let entries = more.entries m.entries (ap (λ (k : KeptMeter). k.reported.entries) reported) in
       let mwh = ap (λ n. min (energy_within zone range m.rows + n) (2 ^ 128 - 1)) more.energy
       ∙ sym (energy_both zone range m.rows (rows_of_meter facts row.opening.meter)) in
       let held = ap (both_held (held_within zone range m.holds)) more.held ∙ sym (held_both zone range m.holds (holds_of facts row.opening.meter)) in
-      is ∙ ap (λ (k : KeptMeter). with_part k row part) told ∙ kept_alike refl (told_alike refl entries mwh held)
+      is ∙ ap (λ (k : KeptMeter). with_part k row part) reported ∙ kept_alike refl (reported_alike refl entries mwh held)
 
   -- If a meter begins in the next file, then the collected data are those in this file.
-  pub tells_first : (new : KeptMeter) (none : EntryTally) → none ≡ tally_of zone range [] → new.stands ≡ row
-      → TellsPart zone range row.opening.meter false facts none new.told → new ≡ kept_of zone range (meter_in facts row)
-  tells_first new none is stands more = kept_alike stands (told_alike more.meter_is (more.entries [] is) more.energy more.held)
+  pub reports_first : (new : KeptMeter) (none : EntryTally) → none ≡ tally_of zone range [] → new.stands ≡ row
+      → ReportsPart zone range row.opening.meter false facts none new.reported → new ≡ kept_of zone range (meter_in facts row)
+  reports_first new none is stands more = kept_alike stands (reported_alike more.meter_is (more.entries [] is) more.energy more.held)

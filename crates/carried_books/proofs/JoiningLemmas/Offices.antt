@@ -39,7 +39,7 @@ use Rattle.office_books.specs.Spans.{rows_within}
 use Rattle.office_books.specs.declared.failures.Failures.{Failures}
 use Rattle.office_books.specs.declared.spans.Span.{Span}
 use Rattle.office_books.proofs.Handing.{takes_both}
-use Rattle.office_core.specs.Asking.{HandsRows, IsFound, IsRowFound, OnlyAsks, TellsRows, is_there}
+use Rattle.office_core.specs.Asking.{HandsRows, IsFound, IsRowFound, OnlyAsks, ReportsRows, is_there}
 use Rattle.office_core.specs.DaySums.{EndsAs}
 use Rattle.office_core.specs.Failing.{IsOutside}
 use Rattle.office_core.specs.Parts.{IsListed, ListsAccepted, intervals_within, meters_named}
@@ -49,7 +49,7 @@ use Rattle.office_core.specs.Taking.{failures_of}
 use Rattle.office_core.specs.declared.office.Office.{Office}
 use Rattle.office_core.proofs.SeveralAsked.{answered_as, asked, asked_after, found_ok, found_so, goes_on, kept_on, now_as, refused_on, without_memory}
 use Rattle.carried_books.specs.Joining.Days.{AddUp, AreSumOf, GoesOnFrom, HasNumber, TakesShare}
-use Rattle.carried_books.specs.Joining.Offices.{AsksMeters, AsksRegister, IsInstalled, LacksMemory, ListsOver, TakesMeters, TakesRegister, TellsDaysOver, rows_of_both}
+use Rattle.carried_books.specs.Joining.Offices.{AsksMeters, AsksRegister, IsInstalled, LacksMemory, ListsOver, TakesMeters, TakesRegister, ReportsDaysOver, rows_of_both}
 use Rattle.carried_books.specs.declared.joining.days.EarlierDays.{EarlierDays}
 use Rattle.carried_books.specs.declared.joining.days.JoinedDays.{JoinedDays}
 use Rattle.carried_books.proofs.JoiningLemmas.Days.{add_all, first_has}
@@ -93,9 +93,9 @@ listed_as facts openings listed i row less is are installed =
     let P : Opening → Type 0 = λ p. opening_of facts p.meter ≡ Some o in
     record { less = inside; found = subst P (sym opened) there }
 
-rows_told : (facts : List Fact) (asked : Span) (meter : List ℕ) (o : Opening) → opening_of facts meter ≡ Some o
+rows_reported : (facts : List Fact) (asked : Span) (meter : List ℕ) (o : Opening) → opening_of facts meter ≡ Some o
     → intervals_within facts (Some meter) asked ≡ Some (rows_within asked (rows_of_opening facts o))
-rows_told facts asked meter o there =
+rows_reported facts asked meter o there =
     ap (λ (found : Option Opening). option_map (rows_within asked) (option_map (rows_of_opening facts) found)) there
 
 -- If a meter exists, then a query for the meter fails only if the store failed.
@@ -148,23 +148,23 @@ module _ {B : Type 0} (ledger : B → Ledger) where
       let P : List Share → Type 0 = λ rows. TakesAll TakesShare from rows from in
       subst P (sym (none_within asked)) refl
 
-  told_of : (b d : Office B) (asked : Span) (mid to : JoinedDays) (result : Result (Unit {0}) Refusal) (meter : List ℕ) (past : History) (o : Opening)
+  reported_of : (b d : Office B) (asked : Span) (mid to : JoinedDays) (result : Result (Unit {0}) Refusal) (meter : List ℕ) (past : History) (o : Opening)
       → opening_of (facts_of past) meter ≡ Some o
       → HandsRows TakesShare (intervals_within (facts_of past) (Some meter) asked) (failures_of ledger b) (failures_of ledger d) mid to result
       → HandsRows TakesShare (Some (rows_within asked (rows_of_opening (facts_of past) o))) (failures_of ledger b) (failures_of ledger d) mid to result
-  told_of b d asked mid to result meter past o there hands =
+  reported_of b d asked mid to result meter past o there hands =
       let P : Option (List Share) → Type 0 = λ rows. HandsRows TakesShare rows (failures_of ledger b) (failures_of ledger d) mid to result in
-      subst P (rows_told (facts_of past) asked meter o there) hands
+      subst P (rows_reported (facts_of past) asked meter o there) hands
 
   pub have_more : (a b d : Office B) (listed : List Installation) (i : ℕ) (row : Installation) (asked : Span) (from mid to : JoinedDays) (done : Unit {0})
       → i < length listed → row ≡ get_or listed i row → Keeps ledger a b → HaveFirst a b listed i asked from mid → OnlyAsks ledger b d (Ok done)
-      → TellsRows TakesShare ledger b d mid to (Ok done) (λ facts. intervals_within facts (Some row.opening.meter) asked)
+      → ReportsRows TakesShare ledger b d mid to (Ok done) (λ facts. intervals_within facts (Some row.opening.meter) asked)
       → HaveFirst a d listed (i + 1) asked from to
-  have_more a b d listed i row asked from mid to done less is keeps took asks tells = λ past stands clean openings are installed.
+  have_more a b d listed i row asked from mid to done less is keeps took asks reports = λ past stands clean openings are installed.
       let facts = facts_of past in
       let it = listed_as facts openings listed i row less is are installed in
       let o = get_or openings i row.opening in
-      let hands = told_of b d asked mid to (Ok done) row.opening.meter past o it.found (tells past (keeps.stands past stands) clean) in
+      let hands = reported_of b d asked mid to (Ok done) row.opening.meter past o it.found (reports past (keeps.stands past stands) clean) in
       let before = took past stands (asks.clean clean) openings are installed in
       let first = rows_within asked (flat_map (rows_of_opening facts) (take i openings)) in
       let both = takes_both TakesShare from mid to first (rows_within asked (rows_of_opening facts o)) before hands.whole in
@@ -186,15 +186,15 @@ module _ {B : Type 0} (ledger : B → Ledger) where
 
   pub have_failed : (a b d : Office B) (listed : List Installation) (i : ℕ) (row : Installation) (asked : Span) (from mid to : JoinedDays) (why : Refusal)
       → i < length listed → row ≡ get_or listed i row → Keeps ledger a b → OnlyAsks {T = Unit {0}} ledger b d (Err why)
-      → TellsRows TakesShare ledger b d mid to (Err why) (λ facts. intervals_within facts (Some row.opening.meter) asked)
+      → ReportsRows TakesShare ledger b d mid to (Err why) (λ facts. intervals_within facts (Some row.opening.meter) asked)
       → AsksMeters ledger a d listed asked from to (Err why)
-  have_failed a b d listed i row asked from mid to why less is keeps asks tells = record {
+  have_failed a b d listed i row asked from mid to why less is keeps asks reports = record {
     left = asked_after ledger a b d (Err why) keeps asks;
     takes = λ past stands clean openings are installed.
         let facts = facts_of past in
         let it = listed_as facts openings listed i row less is are installed in
-        let hands = told_of b d asked mid to (Err why) row.opening.meter past (get_or openings i row.opening) it.found
-        (tells past (keeps.stands past stands) clean) in
+        let hands = reported_of b d asked mid to (Err why) row.opening.meter past (get_or openings i row.opening) it.found
+        (reports past (keeps.stands past stands) clean) in
         let fails = there_fails ⊥ (failures_of ledger b) (failures_of ledger d) why hands.answer in
         let P : Failures → Type 0 = λ was. IsOutside ⊥ was (failures_of ledger d) why in
         subst P keeps.failures fails;
@@ -276,10 +276,10 @@ module _ {B : Type 0} (ledger : B → Ledger) where
       let P : Refusal → Type 0 = λ w. OnlyAsks {T = Vec DayTotal Global} ledger a b (Err w) in
       subst P (sym ends) (without_memory ledger a b (goes_on ledger a b done asks) (asked ledger a b done asks))
 
-  pub days_told : (a b : Office B) (zone : Zone) (earlier : EarlierDays) (copy after : JoinedDays) (register : List ℕ) (asked : Span) (done : Unit {0})
+  pub days_reported : (a b : Office B) (zone : Zone) (earlier : EarlierDays) (copy after : JoinedDays) (register : List ℕ) (asked : Span) (done : Unit {0})
       (result : Result (Vec DayTotal Global) Refusal) → GoesOnFrom zone earlier copy → AsksRegister ledger a b register asked copy after (Ok done)
-      → EndsAs after.fault after.fold.accounts result → TellsDaysOver ledger a b zone earlier register asked result
-  days_told a b zone earlier copy after register asked done result is asks ends = λ past stands clean rows added fits.
+      → EndsAs after.fault after.fold.accounts result → ReportsDaysOver ledger a b zone earlier register asked result
+  days_reported a b zone earlier copy after register asked done result is asks ends = λ past stands clean rows added fits.
       let facts = facts_of past in
       let it = asks past stands clean in
       let found = found_ok ⊥ (is_there (register_of facts register)) (failures_of ledger a) (failures_of ledger b) done it.answer in
@@ -299,7 +299,7 @@ module _ {B : Type 0} (ledger : B → Ledger) where
       found
 
   pub days_missing : (a b : Office B) (zone : Zone) (earlier : EarlierDays) (copy after : JoinedDays) (register : List ℕ) (asked : Span) (why : Refusal)
-      → AsksRegister ledger a b register asked copy after (Err why) → TellsDaysOver ledger a b zone earlier register asked (Err why)
+      → AsksRegister ledger a b register asked copy after (Err why) → ReportsDaysOver ledger a b zone earlier register asked (Err why)
   days_missing a b zone earlier copy after register asked why asks = λ past stands clean rows added fits.
       inl (refused_so a b (facts_of past) register why (asks past stands clean).answer)
 
@@ -321,6 +321,6 @@ module _ {B : Type 0} (ledger : B → Ledger) where
       let found = mapped (λ (row : Register). installations_of facts register) (register_of facts register) meters.items known.0 in
       inr (inr (ap (λ (row : Option Register). is_there row) found.1, known.1))
 
-  pub nothing_told : (a b : Office B) (zone : Zone) (earlier : EarlierDays) (register : List ℕ) (asked : Span) (why : Refusal) → LacksMemory ledger a b register why
-      → TellsDaysOver ledger a b zone earlier register asked (Err why)
-  nothing_told a b zone earlier register asked why lacks = λ past stands clean rows added fits. inl (lacks past stands clean)
+  pub nothing_reported : (a b : Office B) (zone : Zone) (earlier : EarlierDays) (register : List ℕ) (asked : Span) (why : Refusal) → LacksMemory ledger a b register why
+      → ReportsDaysOver ledger a b zone earlier register asked (Err why)
+  nothing_reported a b zone earlier register asked why lacks = λ past stands clean rows added fits. inl (lacks past stands clean)

@@ -31,7 +31,7 @@ use Rattle.office_core.specs.DayRange.{accounts_within, span_of}
 use Rattle.office_core.proofs.Around.{has_each}
 use Rattle.office_core.proofs.Ranged.{days_within, same_days}
 use Rattle.office_events.specs.declared.facts.Fact.{Fact}
-use Rattle.office_program.specs.Texts.EndTexts.{IsTold}
+use Rattle.office_program.specs.Texts.EndTexts.{IsReported}
 use Rattle.office_program.specs.Texts.RangedReports.{PrintsLast}
 use Rattle.office_program.proofs.TextsLemmas.Ranged.{taken_all}
 use Rattle.office_rules.specs.Intervals.{rows_of_register}
@@ -111,13 +111,13 @@ days_with zone range (Between from till) around one rows more days are =
     let whole = rows ++ more in
     let same : filter test part ≡ filter test whole =
     filter-append test rows (filter test more) ∙ ap (λ (those : List Share). filter test rows ++ those) (twice test more) ∙ sym (filter-append test rows more) in
-    let told = days_within zone range All (λ start on. refl) one part days (days_in range days) are refl in
+    let reported = days_within zone range All (λ start on. refl) one part days (days_in range days) are refl in
     let all = one zone whole in
     let some = one zone (filter test whole) in
     let within : (row : Share) → has_day range (day_at zone row.start) ≡ true → test row ≡ true = λ row on. around row.start on in
-    let left = same_days zone (has_day range) test within one part some.0 told.0 (subst (λ (l : List Share). AreAccounts zone l some.0) (sym same) some.1) told.1 in
+    let left = same_days zone (has_day range) test within one part some.0 reported.0 (subst (λ (l : List Share). AreAccounts zone l some.0) (sym same) some.1) reported.1 in
     let right = same_days zone (has_day range) test within one whole some.0 all.0 some.1 all.1 in
-    (all.0, all.1, told.2 ∙ sym left ∙ right)
+    (all.0, all.1, reported.2 ∙ sym left ∙ right)
 
 pub report_with : (zone : Zone) (register : List ℕ) (facts : List Fact) (files : List (List Fact)) (form : ReportForm) (days : List DayTotal) → AccountsAreOne
     → AreAccounts zone (rows_over register files ++ rows_within (span_of form.range) (rows_of_register facts register)) (map account_of days)
@@ -147,19 +147,19 @@ pub taken_by : {W : Type 0} (contents : W → Option (List ℕ)) (days : List Da
 taken_by {W} contents [] from to took = ap (λ (rows : ReportRows W). rows.output.ghost_name) took
 taken_by contents (day ∷ more) from to took = taken_by contents more took.0 to took.2 ∙ took.1.output
 
-told_by : (failed : Bool) (status : ExitStatus) (text : List ℕ) (old new : Option (List ℕ)) → status ≡ (if failed then Failed else Fine)
-    → GotUnless failed text old new → IsTold text Fine status old new
-told_by false status text old new is got = inl (is, got)
-told_by true status text old new is got = inr (is, got)
+reported_by : (failed : Bool) (status : ExitStatus) (text : List ℕ) (old new : Option (List ℕ)) → status ≡ (if failed then Failed else Fine)
+    → GotUnless failed text old new → IsReported text Fine status old new
+reported_by false status text old new is got = inl (is, got)
+reported_by true status text old new is got = inr (is, got)
 
-pub told_over : {W : Type 0} (contents : W → Option (List ℕ)) (form : ReportForm) (days : List DayTotal) (from to left : ReportRows W) (output : W) (status : ExitStatus)
+pub reported_over : {W : Type 0} (contents : W → Option (List ℕ)) (form : ReportForm) (days : List DayTotal) (from to left : ReportRows W) (output : W) (status : ExitStatus)
     → IsFresh contents form output from → TakesAll (TakesDay contents) from days to → length days < 2 ^ 64 → PrintsLast contents status to left
-    → IsTold (report_text form days) Fine status (contents output) (contents left.output.now)
-told_over contents form days from to left output status fresh took few last =
+    → IsReported (report_text form days) Fine status (contents output) (contents left.output.now)
+reported_over contents form days from to left output status fresh took few last =
     let taken = taken_all contents [] days from from to fresh.taken took in
     let got = last.finishes.finished from days taken few in
-    let told = told_by left.failed status (report_text from.form days) (contents from.output.now) (contents left.output.now) last.means got in
-    rw (sym fresh.form, sym fresh.output) told
+    let reported = reported_by left.failed status (report_text from.form days) (contents from.output.now) (contents left.output.now) last.means got in
+    rw (sym fresh.form, sym fresh.output) reported
 
 -- ---- The report of a meter that is rolled over
 

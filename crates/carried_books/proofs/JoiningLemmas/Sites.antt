@@ -73,33 +73,33 @@ not_left false a b is = absurd (cc is)
 
 -- If the office's meter is not the meter that the earlier files left open, then it is the latest
 -- meter.
-told_as_new : (known : List Installation) (row : Installation)
+reported_as_new : (known : List Installation) (row : Installation)
     → ((front : List Installation) (stands : Installation) → known ≡ front ++ stands ∷ [] → is_left stands row ≡ false)
     → option_map meter_of (latest_meter known (Some row)) ≡ Some row
-told_as_new known row other = elim (split_last known) [
+reported_as_new known row other = elim (split_last known) [
   | inl none ↦ ap (λ (rows : List Installation). option_map meter_of (latest_meter rows (Some row))) none
   | inr at ↦
       let found : last_of known ≡ Some at.last = ap last_of at.is ∙ last_pushed at.front at.last in
-      let told : of_both at.last row ≡ of_office row = cond-false _ _ _ (other at.front at.last at.is) in
+      let reported : of_both at.last row ≡ of_office row = cond-false _ _ _ (other at.front at.last at.is) in
       ap (λ (stands : Option Installation). option_map meter_of (latest stands (Some row))) found
-      ∙ ap (λ (it : LatestMeter). Some (meter_of it)) told
+      ∙ ap (λ (it : LatestMeter). Some (meter_of it)) reported
 ]
 
 -- ---- The latest meter of a register if the office has one meter
 
-told_of_one : (known : List Installation) (row : Installation) (all : List Installation) → AddsMeter known row all
+reported_of_one : (known : List Installation) (row : Installation) (all : List Installation) → AddsMeter known row all
     → option_map meter_of (latest_meter known (Some row)) ≡ last_of all
-told_of_one known row all (inl is) =
+reported_of_one known row all (inl is) =
     let found : last_of known ≡ Some is.stands = ap last_of is.known_is ∙ last_pushed is.before is.stands in
     let named : same row.opening.meter is.stands.opening.meter ≡ true = (bytes_eq-Decides row.opening.meter is.stands.opening.meter).1 is.goes.name in
     let left : is_left is.stands row ≡ true = both_hold (not is.stands.ended) _ (ap not is.goes.goes.unended) named in
-    let told : of_both is.stands row ≡ record { meter = as_one is.stands row; earlier = Some is.stands.total } = cond-true _ _ _ left in
+    let reported : of_both is.stands row ≡ record { meter = as_one is.stands row; earlier = Some is.stands.total } = cond-true _ _ _ left in
     ap (λ (stands : Option Installation). option_map meter_of (latest stands (Some row))) found
-    ∙ ap (λ (it : LatestMeter). Some (meter_of it)) told
+    ∙ ap (λ (it : LatestMeter). Some (meter_of it)) reported
     ∙ sym (ap last_of is.after_is ∙ last_pushed is.before (as_one is.stands row))
-told_of_one known row all (inr is) =
+reported_of_one known row all (inr is) =
     let P : Installation → Type 0 = λ stands. is_before stands row ≡ true in
-    told_as_new known row (λ front stands at. not_left stands.ended _ _ (last_holds P front stands (subst (All P) at is.earlier)))
+    reported_as_new known row (λ front stands at. not_left stands.ended _ _ (last_holds P front stands (subst (All P) at is.earlier)))
     ∙ sym (ap last_of is.after_is ∙ last_pushed known row)
 
 -- ---- The latest meter of a register if the office has several meters
@@ -151,27 +151,27 @@ first_between known first row next other (inr is) front stands at =
     let P : Installation → Type 0 = λ meter. is_before meter first ≡ true in
     not_left stands.ended _ _ (last_holds P front stands (subst (All P) at is.earlier))
 
-told_of_several : (known : List Installation) (earlier : List Installation) (row : Installation) (mid all : List Installation)
+reported_of_several : (known : List Installation) (earlier : List Installation) (row : Installation) (mid all : List Installation)
     → All (λ (it : Installation). row.opening.meter ≢ it.opening.meter) earlier → AddMeters known earlier mid → AddsMeter mid row all
     → option_map meter_of (latest_meter known (Some row)) ≡ last_of all
-told_of_several known [] row mid all others took step = told_of_one known row all (subst (λ (rows : List Installation). AddsMeter rows row all) took step)
-told_of_several known (first ∷ rest) row mid all others took step =
+reported_of_several known [] row mid all others took step = reported_of_one known row all (subst (λ (rows : List Installation). AddsMeter rows row all) took step)
+reported_of_several known (first ∷ rest) row mid all others took step =
     let P : Installation → Type 0 = λ it. row.opening.meter ≢ it.opening.meter in
-    told_as_new known row (first_between known first row took.0 (All-head P first rest others) took.1)
+    reported_as_new known row (first_between known first row took.0 (All-head P first rest others) took.1)
     ∙ sym (comes_last mid row all (after_several (λ name. row.opening.meter ≢ name) known first rest mid others took) step)
 
 -- ---- The latest meter of a register for any number of meters of the office
 
-none_told : (stands : Option Installation) → option_map meter_of (latest stands None) ≡ stands
-none_told None = refl
-none_told (Some stands) = refl
+none_reported : (stands : Option Installation) → option_map meter_of (latest stands None) ≡ stands
+none_reported None = refl
+none_reported (Some stands) = refl
 
 module _ (facts : List Fact) where
-  told_of : (known all : List Installation) (openings : List Opening) → AllPairs (λ (a b : Opening). a.meter ≢ b.meter) openings
+  reported_of : (known all : List Installation) (openings : List Opening) → AllPairs (λ (a b : Opening). a.meter ≢ b.meter) openings
       → AddMeters known (map (installation_of facts) (reverse openings)) all
       → option_map meter_of (latest_meter known (option_map (installation_of facts) (slice_get openings 0))) ≡ last_of all
-  told_of known all [] pairs took = none_told (last_of known) ∙ sym (ap last_of took)
-  told_of known all (opening ∷ openings) pairs took =
+  reported_of known all [] pairs took = none_reported (last_of known) ∙ sym (ap last_of took)
+  reported_of known all (opening ∷ openings) pairs took =
       let before = map (installation_of facts) (reverse openings) in
       let row = installation_of facts opening in
       let turned : map (installation_of facts) (reverse (opening ∷ openings)) ≡ before ++ row ∷ [] =
@@ -180,11 +180,11 @@ module _ (facts : List Fact) where
       let differ : All (λ (other : Opening). opening.meter ≢ other.meter) openings = λ k d inside. pairs 0 (suc k) d (omega arith) (omega (arith, inside)) in
       let others = All-map (λ (it : Installation). opening.meter ≢ it.opening.meter) (installation_of facts) (reverse openings)
       (all_turned (λ (other : Opening). opening.meter ≢ other.meter) openings differ) in
-      told_of_several known before row last.0 all others last.1 last.2
+      reported_of_several known before row last.0 all others last.1 last.2
 
 pub latest_is_of_all : NamesAreDistinct → LatestIsOfAllFiles
 latest_is_of_all distinct = λ register facts known all lawful took.
     let here : Opening → Bool = λ opening. same opening.register register in
     let pairs = AllPairs-filter (λ (a b : Opening). a.meter ≢ b.meter) here (openings_in facts) (distinct facts lawful).meters in
     ap (λ (opening : Option Opening). option_map meter_of (latest_meter known (option_map (installation_of facts) opening))) (found_first here (openings_in facts))
-    ∙ told_of facts known all (filter here (openings_in facts)) pairs took
+    ∙ reported_of facts known all (filter here (openings_in facts)) pairs took

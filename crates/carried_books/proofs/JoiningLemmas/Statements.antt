@@ -18,7 +18,7 @@ use Rattle.office_events.specs.declared.questions.Installation.{Installation}
 use Rattle.carried_books.specs.Joining.Files.{is_recorded, is_recorded_in}
 use Rattle.carried_books.specs.Joining.Keeping.{KeepsFile}
 use Rattle.carried_books.specs.Joining.Meters.{AddOrAreApart, AddsMeter, AddsNext, AddsOrIsApart, GoesOn, IsNext, as_one, is_before}
-use Rattle.carried_books.specs.Joining.Statements.{AddsListed, AddsOver, AreTold, DoesNotGoOn, HasStated, MeterOver, TellsAll, both_of, kept_of, meter_in, parts_over, rows_of_those, stands_of, statement_over, statements_over, told_of}
+use Rattle.carried_books.specs.Joining.Statements.{AddsListed, AddsOver, AreReported, DoesNotGoOn, HasStated, MeterOver, ReportsAll, both_of, kept_of, meter_in, parts_over, rows_of_those, stands_of, statement_over, statements_over, reported_of}
 use Rattle.carried_books.specs.declared.joining.files.Unjoined.TheVariants as unjoined
 use Rattle.carried_books.specs.declared.joining.kept_meters.KeptMeter.{KeptMeter}
 use Rattle.carried_books.specs.declared.joining.meters.Apart.{Apart}
@@ -47,22 +47,22 @@ module _ (zone : Zone) (range : DayRange) where
   rows_of_meters (m ∷ meters) =
       let rest = rows_of_meters meters in
       elim (cases_Bool (was_installed zone range m.stands)) [
-        | inl is ↦ ap (map told_of) (cond-true _ _ _ is) ∙ ap (λ (rows : List MeterStatement). statement_over zone range m ∷ rows) rest
+        | inl is ↦ ap (map reported_of) (cond-true _ _ _ is) ∙ ap (λ (rows : List MeterStatement). statement_over zone range m ∷ rows) rest
             ∙ sym (ap (map (statement_over zone range)) (cond-true _ _ _ is))
-        | inr isnt ↦ ap (map told_of) (cond-false _ _ _ isnt) ∙ rest ∙ sym (ap (map (statement_over zone range)) (cond-false _ _ _ isnt))
+        | inr isnt ↦ ap (map reported_of) (cond-false _ _ _ isnt) ∙ rest ∙ sym (ap (map (statement_over zone range)) (cond-false _ _ _ isnt))
       ]
 
   -- The last of the meters whose data were collected.
-  pub told_last : (kept : List KeptMeter) (one : KeptMeter) (meters : List MeterOver) → AreTold zone range (kept ++ one ∷ []) meters
-      → (before : List MeterOver) × (m : MeterOver) × (meters ≡ before ++ m ∷ []) × AreTold zone range kept before × (one ≡ kept_of zone range m)
-  told_last [] one [] told = absurd (cc told)
-  told_last [] one (m ∷ []) told = ([], m, refl, refl, let e : one ≡ kept_of zone range m = cc told in e)
-  told_last [] one (m ∷ other ∷ meters) told = absurd (cc told)
-  told_last (first ∷ kept) one [] told = absurd (cc told)
-  told_last (first ∷ kept) one (m ∷ meters) told =
-      let head : first ≡ kept_of zone range m = cc told in
-      let tail : kept ++ one ∷ [] ≡ map (kept_of zone range) meters = cc told in
-      let rest = told_last kept one meters tail in (
+  pub reported_last : (kept : List KeptMeter) (one : KeptMeter) (meters : List MeterOver) → AreReported zone range (kept ++ one ∷ []) meters
+      → (before : List MeterOver) × (m : MeterOver) × (meters ≡ before ++ m ∷ []) × AreReported zone range kept before × (one ≡ kept_of zone range m)
+  reported_last [] one [] reported = absurd (cc reported)
+  reported_last [] one (m ∷ []) reported = ([], m, refl, refl, let e : one ≡ kept_of zone range m = cc reported in e)
+  reported_last [] one (m ∷ other ∷ meters) reported = absurd (cc reported)
+  reported_last (first ∷ kept) one [] reported = absurd (cc reported)
+  reported_last (first ∷ kept) one (m ∷ meters) reported =
+      let head : first ≡ kept_of zone range m = cc reported in
+      let tail : kept ++ one ∷ [] ≡ map (kept_of zone range) meters = cc reported in
+      let rest = reported_last kept one meters tail in (
         m ∷ rest.0,
         rest.1,
         ap (λ (those : List MeterOver). m ∷ those) rest.2,
@@ -70,26 +70,26 @@ module _ (zone : Zone) (range : DayRange) where
         rest.4,
       )
 
-  pub told_more : (kept : List KeptMeter) (one : KeptMeter) (meters : List MeterOver) (m : MeterOver) → AreTold zone range kept meters → one ≡ kept_of zone range m
-      → AreTold zone range (kept ++ one ∷ []) (meters ++ m ∷ [])
-  told_more kept one meters m told more =
-      ap (λ (those : List KeptMeter). those ++ one ∷ []) told ∙ ap (λ (k : KeptMeter). map (kept_of zone range) meters ++ k ∷ []) more
+  pub reported_more : (kept : List KeptMeter) (one : KeptMeter) (meters : List MeterOver) (m : MeterOver) → AreReported zone range kept meters → one ≡ kept_of zone range m
+      → AreReported zone range (kept ++ one ∷ []) (meters ++ m ∷ [])
+  reported_more kept one meters m reported more =
+      ap (λ (those : List KeptMeter). those ++ one ∷ []) reported ∙ ap (λ (k : KeptMeter). map (kept_of zone range) meters ++ k ∷ []) more
       ∙ sym (map-append (kept_of zone range) meters (m ∷ []))
 
-  pub before_too : (row : Installation) (kept : List KeptMeter) (meters : List MeterOver) → AreTold zone range kept meters
+  pub before_too : (row : Installation) (kept : List KeptMeter) (meters : List MeterOver) → AreReported zone range kept meters
       → All (λ stands. is_before stands row ≡ true) (map stands_of kept) → All (λ m. is_before m.stands row ≡ true) meters
-  before_too row kept meters told all =
-      let same : map stands_of kept ≡ map (λ m. m.stands) meters = ap (map stands_of) told ∙ all_stand zone range meters in
+  before_too row kept meters reported all =
+      let same : map stands_of kept ≡ map (λ m. m.stands) meters = ap (map stands_of) reported ∙ all_stand zone range meters in
       stand_before row meters (subst (All (λ stands. is_before stands row ≡ true)) same all)
 
   -- ---- Adding one more meter of a file to the collected data
 
-  pub goes_on_told : (facts : List Fact) (row : Installation) (kept : List KeptMeter) (last new : KeptMeter) (old after : List KeptMeter)
+  pub goes_on_reported : (facts : List Fact) (row : Installation) (kept : List KeptMeter) (last new : KeptMeter) (old after : List KeptMeter)
       → old ≡ kept ++ last ∷ [] → GoesOn last.stands row
       → ((m : MeterOver) → last ≡ kept_of zone range m → new ≡ kept_of zone range (both_of m (meter_in facts row)))
-      → after ≡ kept ++ new ∷ [] → TellsAll zone range facts (row ∷ []) old after None
-  goes_on_told facts row kept last new old after old_is goes tells after_is = λ meters told.
-      let found = told_last kept last meters (sym old_is ∙ told) in
+      → after ≡ kept ++ new ∷ [] → ReportsAll zone range facts (row ∷ []) old after None
+  goes_on_reported facts row kept last new old after old_is goes reports after_is = λ meters reported.
+      let found = reported_last kept last meters (sym old_is ∙ reported) in
       let both = both_of found.1 (meter_in facts row) in
       let now = found.0 ++ both ∷ [] in (
         now,
@@ -104,31 +104,31 @@ module _ (zone : Zone) (range : DayRange) where
           }),
           refl,
         ),
-        after_is ∙ told_more kept new found.0 both found.3 (tells found.1 found.4),
+        after_is ∙ reported_more kept new found.0 both found.3 (reports found.1 found.4),
       )
 
-  pub comes_after_told : (facts : List Fact) (row : Installation) (new : KeptMeter) (old after : List KeptMeter)
+  pub comes_after_reported : (facts : List Fact) (row : Installation) (new : KeptMeter) (old after : List KeptMeter)
       → All (λ stands. is_before stands row ≡ true) (map stands_of old) → new ≡ kept_of zone range (meter_in facts row)
-      → after ≡ old ++ new ∷ [] → TellsAll zone range facts (row ∷ []) old after None
-  comes_after_told facts row new old after earlier tells after_is = λ meters told.
+      → after ≡ old ++ new ∷ [] → ReportsAll zone range facts (row ∷ []) old after None
+  comes_after_reported facts row new old after earlier reports after_is = λ meters reported.
       let m = meter_in facts row in
       let now = meters ++ m ∷ [] in (
         now,
-        (now, inr (record { earlier = before_too row old meters told earlier; after_is = refl }), refl),
-        after_is ∙ told_more old new meters m told tells,
+        (now, inr (record { earlier = before_too row old meters reported earlier; after_is = refl }), refl),
+        after_is ∙ reported_more old new meters m reported reports,
       )
 
   -- ---- Adding all meters of a file to the collected data
 
-  pub told_none : (facts : List Fact) (old : List KeptMeter) → TellsAll zone range facts [] old old None
-  told_none facts old = λ meters told. (meters, refl, told)
+  pub reported_none : (facts : List Fact) (old : List KeptMeter) → ReportsAll zone range facts [] old old None
+  reported_none facts old = λ meters reported. (meters, refl, reported)
 
-  pub told_all : (facts : List Fact) (before : List Installation) (row : Installation) (old mid now : List KeptMeter) (apart : Option Apart) → is_some apart ≡ false
-      → TellsAll zone range facts before old mid None → TellsAll zone range facts (row ∷ []) mid now apart
-      → TellsAll zone range facts (before ++ row ∷ []) old now None
-  told_all facts before row old mid now (Some apart) isnt had more = absurd (cc isnt)
-  told_all facts before row old mid now None isnt had more = λ meters told.
-      let first = had meters told in
+  pub reported_all : (facts : List Fact) (before : List Installation) (row : Installation) (old mid now : List KeptMeter) (apart : Option Apart) → is_some apart ≡ false
+      → ReportsAll zone range facts before old mid None → ReportsAll zone range facts (row ∷ []) mid now apart
+      → ReportsAll zone range facts (before ++ row ∷ []) old now None
+  reported_all facts before row old mid now (Some apart) isnt had more = absurd (cc isnt)
+  reported_all facts before row old mid now None isnt had more = λ meters reported.
+      let first = had meters reported in
       let next = more first.0 first.2 in (
         next.0,
         subst (λ (those : List MeterOver). TakesAll AddsOver meters those next.0) (sym (map-append (meter_in facts) before (row ∷ [])))
@@ -138,24 +138,24 @@ module _ (zone : Zone) (range : DayRange) where
 
   -- ---- The statements of the meters whose data were collected
 
-  pub rows_told : (kept : List KeptMeter) (meters : List MeterOver) → AreTold zone range kept meters
+  pub rows_reported : (kept : List KeptMeter) (meters : List MeterOver) → AreReported zone range kept meters
       → rows_of_those zone range kept ≡ statements_over zone range meters
-  rows_told kept meters told = ap (rows_of_those zone range) told ∙ rows_of_meters meters
+  rows_reported kept meters reported = ap (rows_of_those zone range) reported ∙ rows_of_meters meters
 
   -- The statements of two appended lists of meters are the statements of the first list, then of
   -- the second.
   pub rows_both : (kept more : List KeptMeter) → rows_of_those zone range (kept ++ more) ≡ rows_of_those zone range kept ++ rows_of_those zone range more
   rows_both kept more =
       let there : KeptMeter → Bool = λ one. was_installed zone range one.stands in
-      ap (map told_of) (filter-append there kept more) ∙ map-append told_of (filter there kept) (filter there more)
+      ap (map reported_of) (filter-append there kept more) ∙ map-append reported_of (filter there kept) (filter there more)
 
-  pub row_there : (one : KeptMeter) (before after : List MeterStatement) → was_installed zone range one.stands ≡ true → after ≡ before ++ one.told ∷ []
+  pub row_there : (one : KeptMeter) (before after : List MeterStatement) → was_installed zone range one.stands ≡ true → after ≡ before ++ one.reported ∷ []
       → after ≡ before ++ rows_of_those zone range (one ∷ [])
-  row_there one before after is put = put ∙ ap (λ (rows : List MeterStatement). before ++ rows) (sym (ap (map told_of) (cond-true _ _ _ is)))
+  row_there one before after is put = put ∙ ap (λ (rows : List MeterStatement). before ++ rows) (sym (ap (map reported_of) (cond-true _ _ _ is)))
 
   pub row_absent : (one : KeptMeter) (before : List MeterStatement) → was_installed zone range one.stands ≡ false
       → before ≡ before ++ rows_of_those zone range (one ∷ [])
-  row_absent one before isnt = sym (ap (λ (rows : List MeterStatement). before ++ rows) (ap (map told_of) (cond-false _ _ _ isnt)) ∙ append-nil before)
+  row_absent one before isnt = sym (ap (λ (rows : List MeterStatement). before ++ rows) (ap (map reported_of) (cond-false _ _ _ isnt)) ∙ append-nil before)
 
 -- ---- The states of the meters whose data were collected
 
@@ -218,27 +218,27 @@ stands_first row old mid after apart old_is mid_is adds =
     next_or_apart (map stands_of old) row (map stands_of after) apart (inl (ap (map stands_of) (nothing_before old mid old_is mid_is)))
     (subst (λ (those : List KeptMeter). AddsNext (map stands_of those) row (map stands_of after) apart) (sym (old_is ∙ append-nil mid)) adds)
 
--- If two lists of collected data are equal, then `TellsAll` holds for both of them.
-pub told_from : (zone : Zone) (range : DayRange) (facts : List Fact) (listed : List Installation) (old mid new : List KeptMeter) (apart : Option Apart)
-    → old ≡ mid → TellsAll zone range facts listed mid new apart → TellsAll zone range facts listed old new apart
-told_from zone range facts listed old mid new apart same tells =
-    subst (λ (those : List KeptMeter). TellsAll zone range facts listed those new apart) (sym same) tells
+-- If two lists of collected data are equal, then `ReportsAll` holds for both of them.
+pub reported_from : (zone : Zone) (range : DayRange) (facts : List Fact) (listed : List Installation) (old mid new : List KeptMeter) (apart : Option Apart)
+    → old ≡ mid → ReportsAll zone range facts listed mid new apart → ReportsAll zone range facts listed old new apart
+reported_from zone range facts listed old mid new apart same reports =
+    subst (λ (those : List KeptMeter). ReportsAll zone range facts listed those new apart) (sym same) reports
 
 -- After the meters that the store lists are added, the collected data have these meters.
 pub added_listed : (zone : Zone) (range : DayRange) (facts : List Fact) (listed shown : List Installation) (old new : List KeptMeter)
     (result : Result (Option Apart) BooksFault) → shown ≡ listed → IfOk result (AddOrAreApart (map stands_of old) shown (map stands_of new))
-    → IfOk result (TellsAll zone range facts shown old new) → IfOk result (AddsListed zone range facts listed old new)
-added_listed zone range facts listed shown old new (Ok apart) same joins tells = (
+    → IfOk result (ReportsAll zone range facts shown old new) → IfOk result (AddsListed zone range facts listed old new)
+added_listed zone range facts listed shown old new (Ok apart) same joins reports = (
   subst (λ (those : List Installation). AddOrAreApart (map stands_of old) those (map stands_of new) apart) same joins,
-  subst (λ (those : List Installation). TellsAll zone range facts those old new apart) same tells,
+  subst (λ (those : List Installation). ReportsAll zone range facts those old new apart) same reports,
 )
-added_listed zone range facts listed shown old new (Err why) same joins tells = tt
+added_listed zone range facts listed shown old new (Err why) same joins reports = tt
 
--- If two meters don't join, then `TellsAll` is trivially true.
-pub told_apart : (zone : Zone) (range : DayRange) (facts : List Fact) (listed : List Installation) (old new : List KeptMeter) (apart : Option Apart)
-    → is_some apart ≡ true → TellsAll zone range facts listed old new apart
-told_apart zone range facts listed old new None is = absurd (cc is)
-told_apart zone range facts listed old new (Some apart) is = tt
+-- If two meters don't join, then `ReportsAll` is trivially true.
+pub reported_apart : (zone : Zone) (range : DayRange) (facts : List Fact) (listed : List Installation) (old new : List KeptMeter) (apart : Option Apart)
+    → is_some apart ≡ true → ReportsAll zone range facts listed old new apart
+reported_apart zone range facts listed old new None is = absurd (cc is)
+reported_apart zone range facts listed old new (Some apart) is = tt
 
 -- ---- Joining one more file for a statement
 
@@ -249,12 +249,12 @@ parts_so register facts old new zone range apart adds = adds.0
 
 pub keeps_more : (zone : Zone) (range : DayRange) (register : List ℕ) (facts : List Fact) (old new : JoinedStatement) (is : Bool)
     → (old.is_recorded && not is) ≡ false → is ≡ is_recorded register facts → new.is_recorded ≡ is → new.zone ≡ old.zone
-    → TellsAll old.zone range facts (installations_of facts register) old.meters.items new.meters.items None
+    → ReportsAll old.zone range facts (installations_of facts register) old.meters.items new.meters.items None
     → KeepsFile (HasStated zone range register) facts old new None
-keeps_more zone range register facts old new is test same put zones tells = λ files has.
+keeps_more zone range register facts old new is test same put zones reports = λ files has.
     let stays = λ (so : is_recorded_in register files ≡ true). is_kept old.is_recorded is (is_recorded register facts) test same (has.recorded ∙ so) in
-    let now = subst (λ (those : Zone). TellsAll those range facts (installations_of facts register) old.meters.items new.meters.items None) has.zone_is tells
-    has.meters has.told in
+    let now = subst (λ (those : Zone). ReportsAll those range facts (installations_of facts register) old.meters.items new.meters.items None) has.zone_is reports
+    has.meters has.reported in
     record {
       recorded = put ∙ same ∙ is_in_both (is_recorded register facts) (is_recorded_in register files) stays;
       zone_is = zones ∙ has.zone_is;
@@ -263,5 +263,5 @@ keeps_more zone range register facts old new is test same put zones tells = λ f
         recorded = (stays, has.are.recorded);
         joined = takes_both AddsOver [] has.meters now.0 (parts_over register files) (map (meter_in facts) (installations_of facts register)) has.are.joined now.1;
       };
-      told = now.2;
+      reported = now.2;
     }

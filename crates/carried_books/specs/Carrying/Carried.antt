@@ -83,16 +83,16 @@ pub record FailedBy (before after : Failures) (why : Refusal) : Type 0 where
   pub failures : FailuresAfterCalls {T = Unit {0}} (Err fault) before after
 
 -- The failure counts of the old store change exactly if the result reports a failure of that store.
-abbrev pub TellsFailures : (before after : Failures) → Result ℕ CarryFault → Type 0
-TellsFailures before after (Ok meters) = after ≡ before
-TellsFailures before after (Err (New why)) = after ≡ before
-TellsFailures before after (Err (NotYet meter)) = after ≡ before
-TellsFailures before after (Err (Old why)) = FailedBy before after why
+abbrev pub ReportsFailures : (before after : Failures) → Result ℕ CarryFault → Type 0
+ReportsFailures before after (Ok meters) = after ≡ before
+ReportsFailures before after (Err (New why)) = after ≡ before
+ReportsFailures before after (Err (NotYet meter)) = after ≡ before
+ReportsFailures before after (Err (Old why)) = FailedBy before after why
 
 -- The old store was only queried: its records, its time zone and its state after a crash are
 -- unchanged.
 pub record OnlyAsked (old new : Ledger) (result : Result ℕ CarryFault) : Type 0 where
   pub keeps : KeepsFacts old new
-  pub failures : TellsFailures old.failures new.failures result
+  pub failures : ReportsFailures old.failures new.failures result
   pub clean : new.is_clean → old.is_clean
   pub zone : new.zone ≡ old.zone

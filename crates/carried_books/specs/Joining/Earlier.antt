@@ -13,17 +13,17 @@ use Rattle.carried_books.specs.declared.joining.files.Unjoined.{Unjoined}
 use Rattle.carried_books.specs.declared.joining.files.Unjoined.TheVariants as unjoined
 
 -- The reported data of an accounting register: its name, its meters, and its energy by day.
-pub record Told : Type 0 where
+pub record Reported : Type 0 where
   pub name : List ℕ
   pub meters : List Installation
   pub days : FoldState
 
 -- The reported data of an accounting register in earlier files.
-abbrev pub told : EarlierRegister → Told
-told it = record { name = it.name; meters = it.meters.items; days = it.days.fold }
+abbrev pub reported : EarlierRegister → Reported
+reported it = record { name = it.name; meters = it.meters.items; days = it.days.fold }
 
 -- The reported data of an accounting register that was collected from several files.
-abbrev pub kept_as : KeptRegister → Told
+abbrev pub kept_as : KeptRegister → Reported
 kept_as kept = record {
   name = kept.name;
   meters = kept.files.meters.items;

@@ -101,10 +101,10 @@ rows_of_both span earlier facts register =
 
 -- The days of an accounting register over earlier files and the office's accepted events. The total
 -- energy must fit in 128 bits.
-abbrev pub TellsDaysOver : {B : Type 0} → (B → Ledger) → (old new : Office B) → Zone
+abbrev pub ReportsDaysOver : {B : Type 0} → (B → Ledger) → (old new : Office B) → Zone
     → (earlier : EarlierDays) → (register : List ℕ) → Span
     → Result (Vec DayTotal Global) Refusal → Type 0
-TellsDaysOver ledger old new zone earlier register span result = After ledger old new (λ past.
+ReportsDaysOver ledger old new zone earlier register span result = After ledger old new (λ past.
     (rows : List Share) → AreSumOf zone rows earlier
     → HasNumber (rows_of_both span rows (facts_of past) register)
     → ListsOver zone (rows_of_both span rows (facts_of past) register)

@@ -14,7 +14,7 @@ use Rattle.interval_core.specs.declared.zone.Zone.{Zone}
 use Rattle.meter_audit.specs.Carried.{AreCountedOnce}
 use Rattle.office_core.specs.DayRange.{AreDaysWithin, accounts_within, span_of}
 use Rattle.office_events.specs.declared.facts.Fact.{Fact}
-use Rattle.office_program.specs.Texts.EndTexts.{IsTold}
+use Rattle.office_program.specs.Texts.EndTexts.{IsReported}
 use Rattle.carried_books.specs.Joining.Days.{HasNumber}
 use Rattle.carried_books.specs.Joining.Files.{HasJoined, rows_over}
 use Rattle.carried_books.specs.declared.joining.files.JoinedFiles.{JoinedFiles}
@@ -41,7 +41,7 @@ pub record PrintsOver (zone : Zone) (register : List ℕ) (files : List (List Fa
     (form : ReportForm) (status : ExitStatus) (had holds : Option (List ℕ)) : Type 0 where
   pub text : List ℕ
   pub is : IsReportOver zone register files form text
-  pub told : IsTold text Fine status had holds
+  pub reported : IsReported text Fine status had holds
 
 -- The report was printed from the data that were collected from joined files, if their total energy
 -- fits in 128 bits.
@@ -54,8 +54,8 @@ ReportsJoined w joined form had holds status =
     → PrintsOver zone register files form status (w.contents had) (w.contents holds)
 
 -- The theorem that a report over one file has the register's days in this file.
-abbrev pub OneFileTellsItsDays : Type 0
-OneFileTellsItsDays = (zone : Zone) (register : List ℕ) (facts : List Fact) (range : DayRange)
+abbrev pub OneFileReportsItsDays : Type 0
+OneFileReportsItsDays = (zone : Zone) (register : List ℕ) (facts : List Fact) (range : DayRange)
     (days : List DayAccount)
     → AreDaysOver zone register (facts ∷ []) range days
     ↔ AreDaysWithin zone facts (Some register) range days

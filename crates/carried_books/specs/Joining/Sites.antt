@@ -64,7 +64,7 @@ latest_meter earlier row = latest (last_of earlier) row
 
 -- The opening and the state of the latest meter at an accounting register.
 abbrev pub meter_of : LatestMeter → Installation
-meter_of told = told.meter
+meter_of reported = reported.meter
 
 -- The theorem on the latest meter at an accounting register. If the office's meters join those of
 -- the earlier files, then the reported meter is the last meter of all files.

@@ -26,7 +26,7 @@ use Rattle.office_books.specs.declared.entries.MeterEntry.TheVariants as entry
 use Rattle.office_events.specs.declared.facts.Fact.{Fact}
 use Rattle.office_events.specs.declared.facts.HeldReading.{HeldReading}
 use Rattle.office_events.specs.declared.questions.Installation.{Installation}
-use Rattle.office_program.specs.Texts.EndTexts.{IsTold}
+use Rattle.office_program.specs.Texts.EndTexts.{IsReported}
 use Rattle.office_program.specs.Texts.Statements.{statements_of}
 use Rattle.office_rules.specs.Intervals.{rows_of_meter}
 use Rattle.office_rules.specs.Lawful.{AreLawful}
@@ -144,24 +144,24 @@ IsStatementOver zone register files form text = (meters : List MeterOver)
 
 -- The collected data of a meter: its state, and its statement for the range.
 abbrev pub kept_of : Zone → DayRange → MeterOver → KeptMeter
-kept_of zone range m = record { stands = m.stands; told = statement_over zone range m }
+kept_of zone range m = record { stands = m.stands; reported = statement_over zone range m }
 
 -- The collected data in `kept` are those of the meter at the same index in `meters`.
-abbrev pub AreTold : Zone → DayRange → List KeptMeter → List MeterOver → Type 0
-AreTold zone range kept meters = kept ≡ map (kept_of zone range) meters
+abbrev pub AreReported : Zone → DayRange → List KeptMeter → List MeterOver → Type 0
+AreReported zone range kept meters = kept ≡ map (kept_of zone range) meters
 
 -- The state of a meter whose data were collected.
 abbrev pub stands_of : KeptMeter → Installation
 stands_of kept = kept.stands
 
 -- The statement of a meter whose data were collected.
-abbrev pub told_of : KeptMeter → MeterStatement
-told_of kept = kept.told
+abbrev pub reported_of : KeptMeter → MeterStatement
+reported_of kept = kept.reported
 
 -- The statements of the meters in `kept` that were installed in the range.
 abbrev pub rows_of_those : Zone → DayRange → List KeptMeter → List MeterStatement
 rows_of_those zone range kept =
-    map told_of (filter (λ one. was_installed zone range one.stands) kept)
+    map reported_of (filter (λ one. was_installed zone range one.stands) kept)
 
 -- `kept` has the statements of an accounting register's meters over joined files, on the days of
 -- the range in the time zone.
@@ -171,7 +171,7 @@ pub record HasStated (zone : Zone) (range : DayRange) (register : List ℕ)
   pub zone_is : kept.zone ≡ zone
   pub meters : List MeterOver
   pub are : AreMetersOver register files meters
-  pub told : AreTold zone range kept.meters.items meters
+  pub reported : AreReported zone range kept.meters.items meters
 
 -- ---- Collecting the data of a register's meters in one more file
 
@@ -182,13 +182,13 @@ TalliesOn zone range entries old new = (before : List MeterEntry)
 
 -- The statement of a meter in one file. Its tally continues that of the earlier files; its energy
 -- and rejected readings are those of this file.
-pub record TellsPart (zone : Zone) (range : DayRange) (meter : List ℕ) (goes_on : Bool)
-    (facts : List Fact) (begun : EntryTally) (told : MeterStatement) : Type 0 where
-  pub meter_is : told.meter ≡ meter
+pub record ReportsPart (zone : Zone) (range : DayRange) (meter : List ℕ) (goes_on : Bool)
+    (facts : List Fact) (begun : EntryTally) (reported : MeterStatement) : Type 0 where
+  pub meter_is : reported.meter ≡ meter
   pub entries : TalliesOn zone range (own_entries goes_on (all_entries facts meter)) begun
-      told.entries
-  pub energy : told.mwh ≡ energy_within zone range (rows_of_meter facts meter)
-  pub held : told.held ≡ held_within zone range (holds_of facts meter)
+      reported.entries
+  pub energy : reported.mwh ≡ energy_within zone range (rows_of_meter facts meter)
+  pub held : reported.held ≡ held_within zone range (holds_of facts meter)
 
 -- The sums of two counts of rejected readings, for each cause; each sum saturates at 2^64 - 1.
 abbrev pub both_held : (one more : RejectedCounts) → RejectedCounts
@@ -207,22 +207,22 @@ both_held one more = record {
 abbrev pub with_part : KeptMeter → Installation → (part : MeterStatement) → KeptMeter
 with_part kept row part = record {
   stands = as_one kept.stands row;
-  told = record {
-    meter = kept.told.meter;
+  reported = record {
+    meter = kept.reported.meter;
     entries = part.entries;
-    mwh = min (kept.told.mwh + part.mwh) (2 ^ 128 - 1);
-    held = both_held kept.told.held part.held;
+    mwh = min (kept.reported.mwh + part.mwh) (2 ^ 128 - 1);
+    held = both_held kept.reported.held part.held;
   };
 }
 
 -- If the meters in `listed` of one more file join, then their data are added to the collected data.
-abbrev pub TellsAll : Zone → DayRange → (facts : List Fact) → (listed : List Installation)
+abbrev pub ReportsAll : Zone → DayRange → (facts : List Fact) → (listed : List Installation)
     → (old new : List KeptMeter) → Option Apart → Type 0
-TellsAll zone range facts listed old new None = (meters : List MeterOver)
-    → AreTold zone range old meters
+ReportsAll zone range facts listed old new None = (meters : List MeterOver)
+    → AreReported zone range old meters
     → (after : List MeterOver) × TakesAll AddsOver meters (map (meter_in facts) listed) after
-    × AreTold zone range new after
-TellsAll zone range facts listed old new (Some apart) = Unit {0}
+    × AreReported zone range new after
+ReportsAll zone range facts listed old new (Some apart) = Unit {0}
 
 -- The meters of the file were added to the collected meters, or two meters are returned that don't
 -- join.
@@ -230,7 +230,7 @@ abbrev pub AddsListed : Zone → DayRange → (facts : List Fact) → (listed : 
     → (old new : List KeptMeter) → Option Apart → Type 0
 AddsListed zone range facts listed old new apart =
     AddOrAreApart (map stands_of old) listed (map stands_of new) apart
-    × TellsAll zone range facts listed old new apart
+    × ReportsAll zone range facts listed old new apart
 
 -- The file does not join the earlier files, for a reason that a report over files would also give.
 --
@@ -251,7 +251,7 @@ DoesNotGoOn register facts old unjoined.OutOfTurn = ⊥
 abbrev pub PrintsRows : {W : Type 0} → (contents : W → Option (List ℕ)) → StatementForm
     → List MeterStatement → ExitStatus → (had holds : W) → Type 0
 PrintsRows contents form rows status had holds =
-    IsTold (statement_text form rows) Fine status (contents had) (contents holds)
+    IsReported (statement_text form rows) Fine status (contents had) (contents holds)
 
 -- The statements of the register's meters over the files were printed. If a write failed, only a
 -- beginning of them was printed.
@@ -259,7 +259,7 @@ pub record PrintsStatement (zone : Zone) (register : List ℕ) (files : List (Li
     (form : StatementForm) (status : ExitStatus) (had holds : Option (List ℕ)) : Type 0 where
   pub text : List ℕ
   pub is : IsStatementOver zone register files form text
-  pub told : IsTold text Fine status had holds
+  pub reported : IsReported text Fine status had holds
 
 -- The statements were printed from the data that were collected from joined files, for the
 -- requested days.

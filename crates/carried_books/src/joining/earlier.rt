@@ -5,7 +5,7 @@ ghost use Rattle.office_events.specs.declared.facts.Fact.{Fact};
 ghost use Rattle.office_books.specs.Ledgers.{Consults};
 ghost use Rattle.office_books.specs.declared.spans.Span.TheVariants.{All};
 ghost use Rattle.carried_books.specs.Joining.Files.{AllJoin};
-ghost use Rattle.carried_books.specs.Joining.Earlier.{HoldMeters, HoldsFile, kept_as, told};
+ghost use Rattle.carried_books.specs.Joining.Earlier.{HoldMeters, HoldsFile, kept_as, reported};
 
 use crate::joining::days::EarlierDays;
 use crate::joining::files::{JoinedFiles, Unjoined, add_books, is_recorded, join_meters, no_files};
@@ -37,7 +37,7 @@ pub struct KeptRegister {
 
 // Returns the accounting register with its collected data, after all files were added.
 fn earlier_of(kept: KeptRegister) -> EarlierRegister
-    ensures { told result ≡ kept_as kept }
+    ensures { reported result ≡ kept_as kept }
 {
     let KeptRegister { name, files } = kept;
     let JoinedFiles { meters, days, .. } = files;
@@ -306,7 +306,7 @@ fn add_books_to<B: Books>(
 impl KeptRegisters {
     /// Returns the accounting registers in the order in which the files first had them.
     pub fn into_registers(self) -> Result<Vec<EarlierRegister>, AllocError>
-        ensures { IfOk result (λ registers. map told registers.items
+        ensures { IfOk result (λ registers. map reported registers.items
             ≡ map kept_as self.kept.items) }
     {
         let KeptRegisters { alloc, kept, .. } = self;

@@ -7,7 +7,7 @@ ghost use Rattle.office_rules.specs.Intervals.{rows_of_meter};
 ghost use Rattle.energy_report.specs.Held.{held_within};
 ghost use Rattle.energy_report.specs.Statements.{energy_within};
 ghost use Rattle.carried_books.specs.Joining.Statements as statements;
-ghost use Rattle.carried_books.specs.Joining.Statements.{TalliesOn, TellsPart, own_entries};
+ghost use Rattle.carried_books.specs.Joining.Statements.{TalliesOn, ReportsPart, own_entries};
 
 use crate::joining::meters::as_one;
 use energy_report::{EnergyWithin, EntryTally, MeterStatement, RejectedCounts, RejectedWithin};
@@ -20,7 +20,7 @@ use office_events::{Installation, Name};
 #[derive(Clone, Copy, Debug, PartialEq, Eq)]
 pub struct KeptMeter {
     pub stands: Installation,
-    pub told: MeterStatement,
+    pub reported: MeterStatement,
 }
 
 // The number of entries in one query. `MOST_PIECES` is the largest number of queries, since entry
@@ -109,7 +109,7 @@ pub(crate) fn part_in_file<B: Books>(
     goes_on: bool,
 ) -> Result<MeterStatement, BooksFault>
     ensures found { Finds (B.ledger books.old) (B.ledger books.new) result
-        (λ known told. TellsPart zone.now range.now meter.now goes_on known begun told) }
+        (λ known reported. ReportsPart zone.now range.now meter.now goes_on known begun reported) }
     ensures reads { Consults (B.ledger books.old) (B.ledger books.new) result }
 {
     let entries = tally_on(books, begun, zone, range, meter, goes_on)?;
@@ -145,11 +145,11 @@ pub(crate) fn with_part(kept: &KeptMeter, row: &Installation, part: &MeterStatem
 {
     KeptMeter {
         stands: as_one(&kept.stands, row),
-        told: MeterStatement {
-            meter: kept.told.meter,
+        reported: MeterStatement {
+            meter: kept.reported.meter,
             entries: part.entries,
-            mwh: kept.told.mwh.saturating_add(part.mwh),
-            held: both_held(&kept.told.held, &part.held),
+            mwh: kept.reported.mwh.saturating_add(part.mwh),
+            held: both_held(&kept.reported.held, &part.held),
         },
     }
 }

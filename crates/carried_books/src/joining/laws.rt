@@ -3,7 +3,7 @@
 //! The contract of each function states a theorem. The body of the function is empty or calls other
 //! theorems.
 ghost use Rattle.carried_books.specs.Joining.Reports.{BothFilesTellTheJoinedDays};
-ghost use Rattle.carried_books.specs.Joining.Reports.{OneFileTellsItsDays};
+ghost use Rattle.carried_books.specs.Joining.Reports.{OneFileReportsItsDays};
 ghost use Rattle.carried_books.specs.Joining.Sites.{LatestIsOfAllFiles};
 ghost use Rattle.carried_books.specs.Joining.Statements.{BothFilesStateTheJoinedMeter};
 ghost use Rattle.carried_books.specs.Joining.Statements.{OneFileStatesItsMeters};
@@ -12,7 +12,7 @@ use office_rules::names_are_distinct;
 
 /// Proves that a report over one file has the register's days in this file.
 pub fn days_of_one_file_are_its_own()
-    ensures { OneFileTellsItsDays }
+    ensures { OneFileReportsItsDays }
 {}
 
 /// Proves that a report of a meter's days over two files equals the report over a single file.

@@ -5,7 +5,7 @@ ghost use Rattle.std.specs.declared.vec.Vec.{Vec};
 ghost use Rattle.interval_core.specs.declared.totals.DayTotal.{DayTotal};
 ghost use Rattle.office_core.specs.Asking.{OnlyAsks};
 ghost use Rattle.carried_books.specs.Joining.Offices.{AsksMeters, AsksRegister, LacksMemory};
-ghost use Rattle.carried_books.specs.Joining.Offices.{TellsDaysOver};
+ghost use Rattle.carried_books.specs.Joining.Offices.{ReportsDaysOver};
 
 use crate::joining::days::{EarlierDays, JoinedDays};
 use interval_core::{DayTotal, Zone};
@@ -75,7 +75,7 @@ pub fn days_over<B: Books>(
     register: &Name,
     span: Span,
 ) -> Result<Vec<DayTotal>, Refusal>
-    ensures days { TellsDaysOver B.ledger office.old office.new zone earlier.now register.now span
+    ensures days { ReportsDaysOver B.ledger office.old office.new zone earlier.now register.now span
         result }
     ensures asks { OnlyAsks B.ledger office.old office.new result }
 {

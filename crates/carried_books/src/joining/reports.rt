@@ -2,7 +2,7 @@
 ghost use Rattle.std.specs.Prelude.{◌≡◌, ◌<◌, ◌^◌, length, if◌then◌else◌};
 ghost use Rattle.energy_report.specs.Texts.{report_text};
 ghost use Rattle.office_books.specs.Rows.{TakesAll};
-ghost use Rattle.office_program.specs.Texts.EndTexts.{IsTold};
+ghost use Rattle.office_program.specs.Texts.EndTexts.{IsReported};
 ghost use Rattle.office_program.specs.Texts.RangedReports.{PrintsLast};
 ghost use Rattle.carried_books.specs.Joining.Reports.{ReportsJoined};
 
@@ -37,7 +37,7 @@ fn finish<W: Write>(rows: &mut ReportRows<'_, W>) -> ExitStatus
 
 /// Prints the energy of the days in the form's range, by period, in the form's unit and format.
 pub fn report_days<W: Write>(days: &[DayTotal], form: &ReportForm, output: &mut W) -> ExitStatus
-    ensures { IsTold (report_text form.now days.now) ExitStatus.Fine result
+    ensures { IsReported (report_text form.now days.now) ExitStatus.Fine result
         (W.contents output.old) (W.contents output.new) }
 {
     let mut rows = ReportRows::to(*form, output);

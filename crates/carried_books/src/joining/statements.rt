@@ -7,7 +7,7 @@ ghost use Rattle.office_books.specs.Ledgers.{Consults};
 ghost use Rattle.carried_books.specs.Joining.Meters as meters;
 ghost use Rattle.carried_books.specs.Joining.Meters.{AddOrAreApart, AddsNext, AddsOrIsApart};
 ghost use Rattle.carried_books.specs.Joining.Statements.{AddsListed, DoesNotGoOn, HasStated};
-ghost use Rattle.carried_books.specs.Joining.Statements.{PrintsRows, StatesJoined, TellsAll};
+ghost use Rattle.carried_books.specs.Joining.Statements.{PrintsRows, StatesJoined, ReportsAll};
 ghost use Rattle.carried_books.specs.Joining.Statements.{rows_of_those, stands_of};
 
 use crate::joining::files::{Unjoined, is_recorded};
@@ -57,9 +57,9 @@ fn add_next<B: Books>(
 ) -> Result<Option<Apart>, BooksFault>
     ensures joins { IfOk result (AddsNext (map stands_of known.old.items) row.now
         (map stands_of known.new.items)) }
-    ensures tells { (facts : List Fact) → (B.ledger books.old).holds facts
+    ensures reports { (facts : List Fact) → (B.ledger books.old).holds facts
         → (B.ledger books.new).is_clean
-        → IfOk result (TellsAll zone.now range.now facts (row.now ∷ []) known.old.items
+        → IfOk result (ReportsAll zone.now range.now facts (row.now ∷ []) known.old.items
         known.new.items) }
     ensures reads { Consults (B.ledger books.old) (B.ledger books.new) result }
 {
@@ -70,8 +70,11 @@ fn add_next<B: Books>(
         })),
         None => {
             let none = EntryTally::new();
-            let told = part_in_file(books, none, zone, range, &row.opening.meter, false)?;
-            known.push(KeptMeter { stands: *row, told })?;
+            let reported = part_in_file(books, none, zone, range, &row.opening.meter, false)?;
+            known.push(KeptMeter {
+                stands: *row,
+                reported,
+            })?;
             Ok(None)
         }
     }
@@ -88,9 +91,9 @@ fn add_row<B: Books>(
 ) -> Result<Option<Apart>, BooksFault>
     ensures joins { IfOk result (AddsOrIsApart (map stands_of known.old.items) row.now
         (map stands_of known.new.items)) }
-    ensures tells { (facts : List Fact) → (B.ledger books.old).holds facts
+    ensures reports { (facts : List Fact) → (B.ledger books.old).holds facts
         → (B.ledger books.new).is_clean
-        → IfOk result (TellsAll zone.now range.now facts (row.now ∷ []) known.old.items
+        → IfOk result (ReportsAll zone.now range.now facts (row.now ∷ []) known.old.items
         known.new.items) }
     ensures reads { Consults (B.ledger books.old) (B.ledger books.new) result }
 {
@@ -98,7 +101,7 @@ fn add_row<B: Books>(
         return add_next(known, books, zone, range, row);
     };
     if goes_on(&last.stands, row) {
-        let entries = last.told.entries;
+        let entries = last.reported.entries;
         let part = part_in_file(books, entries, zone, range, &row.opening.meter, true)?;
         known.push(with_part(&last, row, &part))?;
         return Ok(None);
@@ -118,9 +121,9 @@ fn add_listed<B: Books>(
 ) -> Result<Option<Apart>, BooksFault>
     ensures joins { IfOk result (AddOrAreApart (map stands_of known.old.items) listed.now
         (map stands_of known.new.items)) }
-    ensures tells { (facts : List Fact) → (B.ledger books.old).holds facts
+    ensures reports { (facts : List Fact) → (B.ledger books.old).holds facts
         → (B.ledger books.new).is_clean
-        → IfOk result (TellsAll zone.now range.now facts listed.now known.old.items
+        → IfOk result (ReportsAll zone.now range.now facts listed.now known.old.items
         known.new.items) }
     ensures reads { Consults (B.ledger books.old) (B.ledger books.new) result }
 {
@@ -199,7 +202,7 @@ fn add_part_statement(
     if !was_installed(zone, range, &one.stands) {
         return Ok(());
     }
-    rows.push(one.told)?;
+    rows.push(one.reported)?;
     Ok(())
 }
 

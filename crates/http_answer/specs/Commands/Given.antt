@@ -20,22 +20,22 @@ pub record IsJson (bytes : List ℕ) (d : Data) : Type 0 where
   pub value : read bytes ≡ Some d
 
 -- The fault of a command, converted from the fault of its JSON body.
-abbrev pub fault_told : BodyFault → CommandFault
-fault_told body.Malformed = Malformed
-fault_told body.Negative = Negative
-fault_told body.Memory = Memory
+abbrev pub fault_reported : BodyFault → CommandFault
+fault_reported body.Malformed = Malformed
+fault_reported body.Negative = Negative
+fault_reported body.Memory = Memory
 
 -- The result for a command, converted from the result of parsing its JSON body.
-abbrev pub told : Result Command BodyFault → Result Command CommandFault
-told (Ok c) = Ok c
-told (Err fault) = Err (fault_told fault)
+abbrev pub reported : Result Command BodyFault → Result Command CommandFault
+reported (Ok c) = Ok c
+reported (Err fault) = Err (fault_reported fault)
 
 -- The bytes are a JSON text, and its value contains this command or has this fault.
 pub record GivesJson (at : Route) (name : Option (List ℕ)) (bytes : List ℕ)
     (given : Result Command CommandFault) : Type 0 where
   pub value : Data
   pub is : IsJson bytes value
-  pub gives : given ≡ told (command_of at name value)
+  pub gives : given ≡ reported (command_of at name value)
 
 -- The bytes are not a JSON text, and the result is `Malformed`.
 pub record IsNoJson (bytes : List ℕ) (given : Result Command CommandFault) : Type 0 where

@@ -20,9 +20,9 @@ pub enum CommandFault {
 
 impl From<BodyFault> for CommandFault {
     ghost use Rattle.std.specs.Prelude.{◌≡◌};
-    ghost use Rattle.http_answer.specs.Commands.Given.{fault_told};
+    ghost use Rattle.http_answer.specs.Commands.Given.{fault_reported};
 
-    ghost from_gives = { λ fault told. told ≡ fault_told fault };
+    ghost from_gives = { λ fault reported. reported ≡ fault_reported fault };
 
     fn from(fault: BodyFault) -> CommandFault {
         match fault {

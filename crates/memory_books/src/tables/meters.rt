@@ -2,7 +2,7 @@
 ghost use Rattle.std.specs.Prelude.{◌≡◌, List, [], IfOk, OnOk, OnErr, IfSome};
 ghost use Rattle.office_events.specs.declared.facts.Fact.{Fact};
 ghost use Rattle.office_books.specs.Entries.{entries_from};
-ghost use Rattle.office_books.specs.Near.{TellsNear};
+ghost use Rattle.office_books.specs.Near.{ReportsNear};
 ghost use Rattle.office_books.specs.Rows.{TakesAll};
 ghost use Rattle.office_rules.specs.Ranges.{IsSound};
 ghost use Rattle.office_rules.specs.Intervals.{rows_of_meter};
@@ -116,7 +116,7 @@ impl Meters {
     /// In the result, the meter's state before the entry has the meter's present total energy.
     pub(crate) fn entry_near(&self, name: &Name, place: u64) -> Option<EntryContext>
         ensures found { (known : List Fact) → AreLawful known → AreMeters self.now known
-            → TellsNear known name.now place result }
+            → ReportsNear known name.now place result }
         ensures sound { IfSome result (λ found. IsSound found.before) }
     {
         journals_are_kept();

@@ -8,7 +8,7 @@ ghost use Rattle.office_books.specs.Repeats.{repeat_of};
 ghost use Rattle.office_rules.specs.Ranges.{IsSound};
 ghost use Rattle.office_books.specs.Entries.{entries_from, installations_of};
 ghost use Rattle.office_books.specs.Rows.{TakesAll};
-ghost use Rattle.office_books.specs.Near.{TellsNear};
+ghost use Rattle.office_books.specs.Near.{ReportsNear};
 ghost use Rattle.office_books.specs.Plans.{read_count_of, reads_from};
 ghost use Rattle.office_rules.specs.Intervals.{rows_of_meter, rows_of_register};
 ghost use Rattle.office_rules.specs.Lawful.{AreLawful};
@@ -279,7 +279,7 @@ impl Tables {
     /// In the result, the meter's state before the entry has the meter's present total energy.
     pub fn entry_near(&self, meter: &Name, place: u64) -> Option<EntryContext>
         ensures found { (known : List Fact) → AreLawful known → AreWhole self.now known
-            → TellsNear known meter.now place result }
+            → ReportsNear known meter.now place result }
         ensures sound { IfSome result (λ found. IsSound found.before) }
     {
         self.meters.table.entry_near(meter, place)

@@ -16,7 +16,7 @@ use Rattle.meter_journal.specs.Standing.{entered_count, entering}
 use Rattle.meter_journal.proofs.Keeping.{journals_are_kept}
 use Rattle.meter_journal.proofs.Voiding.{whole_with}
 use Rattle.meter_audit.specs.Carried.{carried, moved_line, joined_journal, StaysWithin, GoesOn}
-use Rattle.meter_audit.specs.CarriedFiles.{GoesOnAs, InFile, GoOn, told_by_both, entry_from_all_rows, FilesAreOneHistory}
+use Rattle.meter_audit.specs.CarriedFiles.{GoesOnAs, InFile, GoOn, reported_by_both, entry_from_all_rows, FilesAreOneHistory}
 use Rattle.meter_audit.specs.Fitting.{Tables, AreFine}
 use Rattle.meter_audit.proofs.Alone.{matching_rows_are_independent}
 use Rattle.meter_audit.proofs.Lawful.{alone_ended}
@@ -91,7 +91,7 @@ joined_entered : (meter : Installed) (old new : Tables) (rows more : List EntryR
     → new.intervals ≡ interval_rows (carried meter (entering rows)) (entering more)
     → new.ended ≡ has_closing (entering more)
     → old.total + new.total ≤ MAX_TOTAL
-    → AreEntered meter (told_by_both old new)
+    → AreEntered meter (reported_by_both old new)
 joined_entered meter old new rows more well fit total intervals ended unended more_fit more_last more_total more_intervals more_ended le =
     let lines : Journal = entering rows in
     let later : Journal = entering more in
@@ -118,7 +118,7 @@ joined_entered meter old new rows more well fit total intervals ended unended mo
 one_more : (meter : Installed) (old : Tables) (new : InFile) → IsWellInstalled meter → AreEntered meter old
     → old.ended ≡ false → new.meter.range ≡ meter.range → new.meter.ceiling ≡ meter.ceiling → new.meter.opening ≡ old.last
     → AreEntered new.meter new.tables → old.total + new.tables.total ≤ MAX_TOTAL
-    → AreEntered meter (told_by_both old new.tables)
+    → AreEntered meter (reported_by_both old new.tables)
 one_more meter old new well before unended range ceiling opening h le =
     let now : Installed = carried meter (entering before.rows) in
     let same : new.meter ≡ now = same_meter new.meter now range ceiling (opening ∙ before.last) in
@@ -130,7 +130,7 @@ one_more meter old new well before unended range ceiling opening h le =
 
 total_grows : (old : Tables) (later : List InFile) → old.total ≤ (entry_from_all_rows old later).total
 total_grows old [] = omega arith
-total_grows old (new ∷ later) = omega (arith, total_grows (told_by_both old new.tables) later)
+total_grows old (new ∷ later) = omega (arith, total_grows (reported_by_both old new.tables) later)
 
 -- The joint report of several files is that of recorded entries, if the meter continues in each
 -- file from the file before it.
@@ -142,11 +142,11 @@ all_entered : (meter : Installed) (so_far : Tables) (old : InFile) (later : List
 all_entered meter so_far old [] well before last ended range ceiling goes le = before
 all_entered meter so_far old (new ∷ later) well before last ended range ceiling goes le =
     let first : GoesOnAs old.meter old.tables.last old.tables.ended new.meter = goes.0 in
-    let here : so_far.total + new.tables.total ≤ MAX_TOTAL = omega (arith, le, total_grows (told_by_both so_far new.tables) later) in
-    let both : AreEntered meter (told_by_both so_far new.tables) =
+    let here : so_far.total + new.tables.total ≤ MAX_TOTAL = omega (arith, le, total_grows (reported_by_both so_far new.tables) later) in
+    let both : AreEntered meter (reported_by_both so_far new.tables) =
     one_more meter so_far new well before (ended ∙ first.unended) (first.range ∙ range) (first.ceiling ∙ ceiling) (first.opening ∙ sym last)
     (fine_entered new.meter new.tables goes.1) here in
-    all_entered meter (told_by_both so_far new.tables) new later well both refl refl (first.range ∙ range) (first.ceiling ∙ ceiling) goes.2 le
+    all_entered meter (reported_by_both so_far new.tables) new later well both refl refl (first.range ∙ range) (first.ceiling ∙ ceiling) goes.2 le
 
 pub files_are_one_history : IntervalRowsAddUp → FilesAreOneHistory
 files_are_one_history law first later well fine goes le =

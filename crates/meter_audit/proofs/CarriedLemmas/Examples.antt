@@ -141,18 +141,18 @@ third_goes_on = record { unended = refl; range = refl; ceiling = refl; opening =
 third_not_after_first : GoesOnAs house first.tables.last first.tables.ended third.meter → ⊥
 third_not_after_first h = let at : 3600 ≡ 2500 = ap (λ (l : Last). l.at) h.opening in omega (arith, at)
 
-abbrev told_by_three : Tables
-told_by_three = entry_from_all_rows first.tables (second ∷ third ∷ [])
+abbrev reported_by_three : Tables
+reported_by_three = entry_from_all_rows first.tables (second ∷ third ∷ [])
 
-three_total : told_by_three.total ≡ 500000
+three_total : reported_by_three.total ≡ 500000
 unfolding unit_of
 three_total = refl
 
 -- One change of files is within a quarter hour, and the other is at the end of a quarter hour.
-three_intervals : told_by_three.intervals ≡ share 900 177777 ∷ share 1800 141223 ∷ share 2700 81000 ∷ share 3600 100000 ∷ []
+three_intervals : reported_by_three.intervals ≡ share 900 177777 ∷ share 1800 141223 ∷ share 2700 81000 ∷ share 3600 100000 ∷ []
 unfolding unit_of
 three_intervals = refl
 
 -- The opening rows of later files are not entries of the joint report.
-three_places : map (λ (told : TableRow). told.place) told_by_three.entries ≡ 6 ∷ 5 ∷ 4 ∷ 3 ∷ 2 ∷ 1 ∷ []
+three_places : map (λ (reported : TableRow). reported.place) reported_by_three.entries ≡ 6 ∷ 5 ∷ 4 ∷ 3 ∷ 2 ∷ 1 ∷ []
 three_places = refl

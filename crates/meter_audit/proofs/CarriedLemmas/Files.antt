@@ -25,7 +25,7 @@ use Rattle.meter_audit.specs.Fitting.{VoidedFits, MayCome, RowFits, AllFit, is_e
 use Rattle.meter_audit.specs.Rows.{scale_after, table_row, opening_row, later_rows}
 use Rattle.meter_audit.proofs.Alone.{fitting_account}
 use Rattle.meter_audit.specs.Carried.{moved_row, AreCountedOnce}
-use Rattle.meter_audit.specs.CarriedTables.{carried_from, joined_rows, moved_told, without_opening, EntriesStayWithin, CarriedTablesAreOne, CarriedTablesAreFine}
+use Rattle.meter_audit.specs.CarriedTables.{carried_from, joined_rows, moved_reported, without_opening, EntriesStayWithin, CarriedTablesAreOne, CarriedTablesAreFine}
 use Rattle.meter_audit.proofs.CarriedLemmas.Fitting.{HasRoom, fits_over}
 use Rattle.meter_audit.proofs.CarriedLemmas.Over.{left_by, last_over, follow_over, steps_over, total_over, entries_over, place_over}
 use Rattle.meter_audit.proofs.CarriedLemmas.Quarters.{rows_of_both, counted_once}
@@ -45,18 +45,18 @@ scale_over meter count rows old =
     ∙ ap (λ (l : Last). l.sf) (last_over meter.opening (entries_in rows) (entries_in old))
 
 later_over : (meter : Installed) (count : ℕ) (rows old : List EntryRow)
-    → later_rows meter (map (moved_row count) rows ++ old) ≡ map (moved_told count) (later_rows (carried_from meter old) rows) ++ later_rows meter old
+    → later_rows meter (map (moved_row count) rows ++ old) ≡ map (moved_reported count) (later_rows (carried_from meter old) rows) ++ later_rows meter old
 later_over meter count [] old = refl
 later_over meter count (row ∷ rows) old =
     ap (λ (sf : ℤ). table_row sf (moved_row count row) ∷ later_rows meter (map (moved_row count) rows ++ old)) (scale_over meter count (row ∷ rows) old)
-    ∙ ap (λ (told : List TableRow). table_row (scale_after (carried_from meter old) (row ∷ rows)) (moved_row count row) ∷ told)
+    ∙ ap (λ (reported : List TableRow). table_row (scale_after (carried_from meter old) (row ∷ rows)) (moved_row count row) ∷ reported)
     (later_over meter count rows old)
 
-opening_left_out : (told : List TableRow) (first : TableRow) → without_opening (told ++ first ∷ []) ≡ told
-opening_left_out told first =
-    let long : length (told ++ first ∷ []) ≡ length told + 1 = length-append told (first ∷ []) in
-    let less : length (told ++ first ∷ []) - 1 ≡ length told = omega (arith, long) in
-    ap (λ n. take n (told ++ first ∷ [])) less ∙ take-append_seam told (first ∷ [])
+opening_left_out : (reported : List TableRow) (first : TableRow) → without_opening (reported ++ first ∷ []) ≡ reported
+opening_left_out reported first =
+    let long : length (reported ++ first ∷ []) ≡ length reported + 1 = length-append reported (first ∷ []) in
+    let less : length (reported ++ first ∷ []) - 1 ≡ length reported = omega (arith, long) in
+    ap (λ n. take n (reported ++ first ∷ [])) less ∙ take-append_seam reported (first ∷ [])
 
 ended_over : (count : ℕ) (rows old : List EntryRow) → is_ended old ≡ false → is_ended (map (moved_row count) rows ++ old) ≡ is_ended rows
 ended_over count [] old h = h
@@ -69,7 +69,7 @@ carried_tables_are_one law meter old new well h unended new_h =
     let es : List Entry = entries_in new in
     let before : List Entry = entries_in old in
     let entries : entries_in (joined_rows old new) ≡ es ++ before = entries_over count new old in
-    let told : List TableRow = later_rows now new in
+    let reported : List TableRow = later_rows now new in
     let first : TableRow = opening_row meter.opening in
     let follow_old : AllFollow meter.range meter.opening before = (fitting_account meter old well h).follow in
     let follow_new : AllFollow meter.range now.opening es = (fitting_account now new (well_from meter old well h) new_h).follow in
@@ -85,9 +85,9 @@ carried_tables_are_one law meter old new well h unended new_h =
     (rows_are_accounts law (steps_after meter (es ++ before)) (in_time meter (es ++ before) follow)).in_order in
     record {
       entries = ap (λ (ts : List TableRow). ts ++ first ∷ []) (later_over meter count new old)
-          ∙ append_assoc (map (moved_told count) told) (later_rows meter old) (first ∷ [])
-          ∙ ap (λ (ts : List TableRow). map (moved_told count) ts ++ (later_rows meter old ++ first ∷ []))
-          (sym (opening_left_out told (opening_row now.opening)));
+          ∙ append_assoc (map (moved_reported count) reported) (later_rows meter old) (first ∷ [])
+          ∙ ap (λ (ts : List TableRow). map (moved_reported count) ts ++ (later_rows meter old ++ first ∷ []))
+          (sym (opening_left_out reported (opening_row now.opening)));
       last = ap (last_after meter) entries ∙ last_over meter.opening es before;
       total = ap (total_after meter) entries ∙ total_over meter es before follow_new follow_old;
       intervals = all;

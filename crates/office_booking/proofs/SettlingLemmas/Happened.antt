@@ -14,7 +14,7 @@ use Rattle.office_rules.specs.Lawful.{AreLawful}
 use Rattle.office_rules.specs.Refusals.{kept_of}
 use Rattle.office_rules.specs.Lawfulness.{FactsAreLawful, PutsPlanned}
 use Rattle.office_booking.specs.declared.settling.drafts.PendingWrite.{PendingWrite}
-use Rattle.office_booking.specs.Settling.Drafts.{so_far, AreTold, Grows}
+use Rattle.office_booking.specs.Settling.Drafts.{so_far, AreReported, Grows}
 use Rattle.office_rules.specs.Notes.{outcomes_notes, settled_notes, notes_of}
 use Rattle.office_booking.specs.declared.sessions.slots.Slot.{Slot}
 use Rattle.office_booking.specs.Settling.Settling.{IsSettling}
@@ -112,7 +112,7 @@ draft_stands law past kept at e s next holds clean first draft no_facts no_notes
     let final : with_settled number at e slots (so_far first F) ≡ facts_of (Fed at e ∷ past) =
     ap (with_settled number at e slots) start ∙ facts_happened number at e s slots F in
     let lawful : AreLawful (facts_of (Fed at e ∷ past)) = lawful_next law past kept at e s next in
-    let all = on F h c (subst AreTold (sym no_facts) tt) (subst AreLawful (sym final) lawful) in
+    let all = on F h c (subst AreReported (sym no_facts) tt) (subst AreLawful (sym final) lawful) in
     let facts : so_far draft F ≡ facts_of (Fed at e ∷ past) = all.facts ∙ final in
     record {
       facts = facts;

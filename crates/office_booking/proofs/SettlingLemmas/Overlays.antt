@@ -27,9 +27,9 @@ use Rattle.office_rules.specs.Laws.{IsRecorded, MetersAreKept}
 use Rattle.office_rules.proofs.Lookups.{same_text}
 use Rattle.office_rules.specs.Lawfulness.{NamesAreDistinct}
 use Rattle.office_rules.specs.Ranges.{IsSound}
-use Rattle.office_booking.specs.Settling.Drafts.{IsTold, AreTold}
+use Rattle.office_booking.specs.Settling.Drafts.{IsReported, AreReported}
 use Rattle.office_booking.specs.Settling.Following.{with_result, with_entry, installation_with, IsIn, IsAfterFacts}
-use Rattle.office_booking.proofs.SettlingLemmas.Told.{told_openings, told_first, told_at, lawful_first}
+use Rattle.office_booking.proofs.SettlingLemmas.Reported.{reported_openings, reported_first, reported_at, lawful_first}
 
 -- The theorems about meter entries on which the proofs below depend.
 pub record Laws : Type 0 where
@@ -90,30 +90,30 @@ known_goes_on o lines line true rows ended =
 
 -- If an outcome or a reading is added, then the state of an installed meter changes as the
 -- accounting rules define.
-pub goes_on : Laws → (f : Fact) (facts : List Fact) (o : Opening) → IsTold f → AreLawful (f ∷ facts) → IsRecorded facts o
+pub goes_on : Laws → (f : Fact) (facts : List Fact) (o : Opening) → IsReported f → AreLawful (f ∷ facts) → IsRecorded facts o
     → (installation_of facts o).last.raw < o.range → installation_with f (installation_of facts o) ≡ installation_of (f ∷ facts) o
-goes_on laws (fact.Device device) facts o told h recorded low = absurd told
-goes_on laws (fact.List put) facts o told h recorded low = absurd told
-goes_on laws (fact.Register register) facts o told h recorded low = absurd told
-goes_on laws (fact.Opening opening) facts o told h recorded low = absurd told
-goes_on laws (fact.Entry b) facts o told h recorded low =
-    booked_goes_on laws facts o b (same b.meter o.meter) refl told h.0.0 h.1 recorded low
-goes_on laws (fact.Hold held) facts o told h recorded low =
+goes_on laws (fact.Device device) facts o reported h recorded low = absurd reported
+goes_on laws (fact.List put) facts o reported h recorded low = absurd reported
+goes_on laws (fact.Register register) facts o reported h recorded low = absurd reported
+goes_on laws (fact.Opening opening) facts o reported h recorded low = absurd reported
+goes_on laws (fact.Entry b) facts o reported h recorded low =
+    booked_goes_on laws facts o b (same b.meter o.meter) refl reported h.0.0 h.1 recorded low
+goes_on laws (fact.Hold held) facts o reported h recorded low =
     known_goes_on o (journal_of facts o.meter) (held_line held) (same held.meter o.meter) refl refl
-goes_on laws (fact.Void voided) facts o told h recorded low = absurd told
-goes_on laws (fact.Poll poll) facts o told h recorded low = absurd told
-goes_on laws (fact.Outcome ended) facts o told h recorded low = refl
-goes_on laws (fact.Reply reply) facts o told h recorded low = absurd told
+goes_on laws (fact.Void voided) facts o reported h recorded low = absurd reported
+goes_on laws (fact.Poll poll) facts o reported h recorded low = absurd reported
+goes_on laws (fact.Outcome ended) facts o reported h recorded low = refl
+goes_on laws (fact.Reply reply) facts o reported h recorded low = absurd reported
 
 -- True if `following` is the state of the installation after the first `i` records of a pending
 -- write.
 abbrev pub StandsAfterFirst : Installation → List Fact → ℕ → Installation → Type 0
-StandsAfterFirst row facts i following = (known : List Fact) → AreTold facts → AreLawful (reverse facts ++ known)
+StandsAfterFirst row facts i following = (known : List Fact) → AreReported facts → AreLawful (reverse facts ++ known)
     → IsIn known row → following ≡ installation_of (reverse (take i facts) ++ known) row.opening
 
-still_recorded : (facts known : List Fact) (o : Opening) → AreTold facts → IsRecorded known o → IsRecorded (reverse facts ++ known) o
-still_recorded facts known o told recorded =
-    subst (λ (os : List Opening). Contains os o) (sym (told_openings facts known told)) recorded
+still_recorded : (facts known : List Fact) (o : Opening) → AreReported facts → IsRecorded known o → IsRecorded (reverse facts ++ known) o
+still_recorded facts known o reported recorded =
+    subst (λ (os : List Opening). Contains os o) (sym (reported_openings facts known reported)) recorded
 
 reverse_more : (facts : List Fact) (i : ℕ) (x : Fact) → i < length facts → x ≡ get_or facts i x → reverse (take (i + 1) facts) ≡ x ∷ reverse (take i facts)
 reverse_more facts i x less is =
@@ -122,16 +122,16 @@ reverse_more facts i x less is =
 pub one_fact_more : Laws → (row : Installation) (facts : List Fact) (i : ℕ) (following new : Installation) (x : Fact)
     → i < length facts → x ≡ get_or facts i x → IsSound following → StandsAfterFirst row facts i following → new ≡ installation_with x following
     → StandsAfterFirst row facts (i + 1) new
-one_fact_more laws row facts i following new x less is sound stands with_it = λ known told lawful at_first.
+one_fact_more laws row facts i following new x less is sound stands with_it = λ known reported lawful at_first.
     let first : List Fact = reverse (take i facts) ++ known in
     let more : reverse (take (i + 1) facts) ++ known ≡ x ∷ first = ap (λ fs. fs ++ known) (reverse_more facts i x less is) in
     let fits : AreLawful (x ∷ first) = subst AreLawful more (lawful_first facts known (i + 1) lawful) in
-    let here : following ≡ installation_of first row.opening = stands known told lawful at_first in
+    let here : following ≡ installation_of first row.opening = stands known reported lawful at_first in
     let low : (installation_of first row.opening).last.raw < row.opening.range =
     subst (λ (r : Installation). r.last.raw < r.opening.range) here sound.raw in
     with_it
     ∙ ap (installation_with x) here
-    ∙ goes_on laws x first row.opening (told_at facts i x less is told) fits (still_recorded (take i facts) known row.opening (told_first i facts told) at_first.recorded) low
+    ∙ goes_on laws x first row.opening (reported_at facts i x less is reported) fits (still_recorded (take i facts) known row.opening (reported_first i facts reported) at_first.recorded) low
     ∙ ap (λ fs. installation_of fs row.opening) (sym more)
 
 -- If a search finds an element in a list, then the element is in the list.
@@ -145,17 +145,17 @@ found_contains p [] x h = absurd (cc)
 found_contains p (y ∷ ys) x h = found_step p (p y) y x ys (found_contains p ys x) h
 
 -- Outcomes and readings install no meter.
-installed_after : (facts known : List Fact) (register : List ℕ) → AreTold facts → installed_at (reverse facts ++ known) register ≡ installed_at known register
-installed_after facts known register told =
-    ap (λ os. find (λ (o : Opening). same o.register register) os) (told_openings facts known told)
+installed_after : (facts known : List Fact) (register : List ℕ) → AreReported facts → installed_at (reverse facts ++ known) register ≡ installed_at known register
+installed_after facts known register reported =
+    ap (λ os. find (λ (o : Opening). same o.register register) os) (reported_openings facts known reported)
 
 -- If an accounting register has no open meter, then it has no open meter after outcomes and
 -- readings.
-pub none_open : (facts known : List Fact) (register : List ℕ) → AreTold facts → None ≡ installation_at known register
+pub none_open : (facts known : List Fact) (register : List ℕ) → AreReported facts → None ≡ installation_at known register
     → None ≡ open_at (reverse facts ++ known) register
-none_open facts known register told none =
+none_open facts known register reported none =
     none_by (installed_at known register) none
-    ∙ ap (λ o. option_and_then if_open (option_map (installation_of (reverse facts ++ known)) o)) (sym (installed_after facts known register told))
+    ∙ ap (λ o. option_and_then if_open (option_map (installation_of (reverse facts ++ known)) o)) (sym (installed_after facts known register reported))
   where
     none_by : (o : Option Opening) → None ≡ option_map (installation_of known) o
         → None ≡ option_and_then if_open (option_map (installation_of (reverse facts ++ known)) o)
@@ -164,11 +164,11 @@ none_open facts known register told none =
 
 -- After a pending write, the open installation of an accounting register equals the installation in
 -- the store, advanced by the pending records.
-found_open : (facts known : List Fact) (register : List ℕ) (row new : Installation) (found : Option Opening) → AreTold facts → AreLawful (reverse facts ++ known)
+found_open : (facts known : List Fact) (register : List ℕ) (row new : Installation) (found : Option Opening) → AreReported facts → AreLawful (reverse facts ++ known)
     → IsAfterFacts row facts new → installed_at known register ≡ found → Some row ≡ option_map (installation_of known) found
     → if_open new ≡ open_at (reverse facts ++ known) register
-found_open facts known register row new None told lawful stands there is = absurd (cc)
-found_open facts known register row new (Some o) told lawful stands there is =
+found_open facts known register row new None reported lawful stands there is = absurd (cc)
+found_open facts known register row new (Some o) reported lawful stands there is =
     let F : List Fact = reverse facts ++ known in
     let row_is : row ≡ installation_of known o = same_Some row (installation_of known o) is in
     let opening_is : row.opening ≡ o = ap (λ (r : Installation). r.opening) row_is in
@@ -178,11 +178,11 @@ found_open facts known register row new (Some o) told lawful stands there is =
           (found_contains (λ (x : Opening). same x.register register) (openings_in known) o there);
       stands = row_is ∙ ap (installation_of known) (sym opening_is);
     } in
-    let new_is : new ≡ installation_of F o = stands known told lawful at_first ∙ ap (installation_of F) opening_is in
+    let new_is : new ≡ installation_of F o = stands known reported lawful at_first ∙ ap (installation_of F) opening_is in
     ap if_open new_is
-    ∙ ap (λ x. option_and_then if_open (option_map (installation_of F) x)) (sym (installed_after facts known register told ∙ there))
+    ∙ ap (λ x. option_and_then if_open (option_map (installation_of F) x)) (sym (installed_after facts known register reported ∙ there))
 
-pub open_after : (facts known : List Fact) (register : List ℕ) (row new : Installation) → AreTold facts → AreLawful (reverse facts ++ known)
+pub open_after : (facts known : List Fact) (register : List ℕ) (row new : Installation) → AreReported facts → AreLawful (reverse facts ++ known)
     → IsAfterFacts row facts new → Some row ≡ installation_at known register → if_open new ≡ open_at (reverse facts ++ known) register
-open_after facts known register row new told lawful stands is =
-    found_open facts known register row new (installed_at known register) told lawful stands refl is
+open_after facts known register row new reported lawful stands is =
+    found_open facts known register row new (installed_at known register) reported lawful stands refl is

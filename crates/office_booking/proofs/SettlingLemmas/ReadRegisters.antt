@@ -28,20 +28,20 @@ with_read at poll words (r ∷ rs) facts =
 
 -- The notifications for a response, over all accounting registers of the device, equal the
 -- notifications for the registers that the read covers.
-pub told_read : (at : ℕ) (poll : Poll) (words : List ℕ) (registers : List Register) (facts : List Fact)
+pub reported_read : (at : ℕ) (poll : Poll) (words : List ℕ) (registers : List Register) (facts : List Fact)
     → registers_notes at poll words (filter (is_read_by poll.span) registers) facts ≡ registers_notes at poll words registers facts
-told_read at poll words [] facts = refl
-told_read at poll words (r ∷ rs) facts =
+reported_read at poll words [] facts = refl
+reported_read at poll words (r ∷ rs) facts =
     elim (cases_Bool (is_read_by poll.span r)) [
       | inl e ↦
           let chosen : filter (is_read_by poll.span) (r ∷ rs) ≡ r ∷ filter (is_read_by poll.span) rs = cond-true _ _ _ e in
           ap (λ (xs : List Register). registers_notes at poll words xs facts) chosen
-          ∙ ap (λ (ns : List Note). register_notes at poll words r facts ++ ns) (told_read at poll words rs (with_register at poll words r facts))
+          ∙ ap (λ (ns : List Note). register_notes at poll words r facts ++ ns) (reported_read at poll words rs (with_register at poll words r facts))
       | inr e ↦
           let dropped : filter (is_read_by poll.span) (r ∷ rs) ≡ filter (is_read_by poll.span) rs = cond-false _ _ _ e in
           let unread : with_register at poll words r facts ≡ facts = cond-false _ _ _ e in
           let untold : register_notes at poll words r facts ≡ [] = cond-false _ _ _ e in
-          ap (λ (xs : List Register). registers_notes at poll words xs facts) dropped ∙ told_read at poll words rs facts
+          ap (λ (xs : List Register). registers_notes at poll words xs facts) dropped ∙ reported_read at poll words rs facts
           ∙ ap (λ (fs : List Fact). registers_notes at poll words rs fs) (sym unread)
           ∙ ap (λ (ns : List Note). ns ++ registers_notes at poll words rs (with_register at poll words r facts)) (sym untold)
     ]

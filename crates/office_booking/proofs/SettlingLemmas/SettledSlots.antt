@@ -88,7 +88,7 @@ pub goes_further : (holds mid : List Fact → Type 0) (clean later same changed 
     → FirstReached number at e (i + 1) (slice_set now i y) kept
     × Grows holds later first new (with_settled number at e (take (i + 1) kept)) (settled_notes number at e (take (i + 1) kept))
     × (SettleNothing number at e kept → changed)
-goes_further holds mid clean later same changed number at e i now kept first draft new x y less is keeps on quiet keeps_slot told quiet_slot kept_holds cleaner =
+goes_further holds mid clean later same changed number at e i now kept first draft new x y less is keeps on quiet keeps_slot reported quiet_slot kept_holds cleaner =
     let next = next_slot number at e i now kept x less is keeps in
     let more : i + 1 ≡ suc i = add-one i in (
       subst (λ (n : ℕ). FirstReached number at e n (slice_set now i y) kept) (sym more) (next.next y (keeps_slot next.slot next.here)),
@@ -96,7 +96,7 @@ goes_further holds mid clean later same changed number at e i now kept first dra
           (grows_like holds later first new _ _ _ _ next.facts next.notes
           (grows_then holds mid clean later first draft new (with_settled number at e (take i kept)) (with_outcomes at (settled_by number at e next.slot))
           (settled_notes number at e (take i kept)) (outcomes_notes at (settled_by number at e next.slot)) kept_holds cleaner
-          (before_outcomes at (settled_by number at e next.slot)) on (told next.slot next.here))),
+          (before_outcomes at (settled_by number at e next.slot)) on (reported next.slot next.here))),
       λ none. quiet_slot next.slot next.here (next.quiet none) (quiet none),
     )
 

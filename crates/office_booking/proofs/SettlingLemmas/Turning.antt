@@ -4,14 +4,14 @@ use Rattle.std.proofs.lemmas.List.{append-nil, take_rest, take_all, take-append-
 use Rattle.std.proofs.Math.Seq.{take-add}
 use Rattle.poll_core.specs.Settling.{Event, Piece, Settlement, moment_of, outcomes_at}
 use Rattle.poll_core.specs.Standing.{State, Stands, Within, Before, After, owed}
-use Rattle.poll_core.specs.Telling.{TellsOfCall as TellsOn, IsCall}
+use Rattle.poll_core.specs.Reporting.{ReportsOfCall as ReportsOn, IsCall}
 use Rattle.poll_core.specs.declared.outcome.Call.{Call}
 use Rattle.office_events.specs.declared.facts.Fact.{Fact}
 use Rattle.office_rules.specs.History.{with_outcome, with_outcomes}
 use Rattle.office_rules.specs.Notes.{outcome_notes, outcomes_notes}
 use Rattle.office_booking.specs.declared.settling.drafts.PendingWrite.{PendingWrite}
 use Rattle.office_booking.specs.Settling.Drafts.{Grows}
-use Rattle.office_booking.specs.Settling.Settling.{SettlesNothing, TellsSettled}
+use Rattle.office_booking.specs.Settling.Settling.{SettlesNothing, ReportsSettled}
 use Rattle.office_booking.proofs.SettlingLemmas.Growing.{stays, grows_like, grows_then, before_outcome}
 
 outcomes-append : (at : ℕ) (xs ys : List (ℕ × Settlement)) (facts : List Fact)
@@ -32,10 +32,10 @@ pub record Turned (holds : List Fact → Type 0) (clean unchanged : Type 0) (old
   pub call_is : IsCall call now (moment_of happening)
   pub timeout : now.timeout ≡ old.timeout
   pub window : now.window ≡ old.window
-  pub told : List (ℕ × Settlement)
-  pub within : (events : List Event) → Stands old events → Before now events happening told
-  pub on : Grows holds clean first draft (with_outcomes (moment_of happening) told) (outcomes_notes (moment_of happening) told)
-  pub quiet : told ≡ [] → unchanged
+  pub reported : List (ℕ × Settlement)
+  pub within : (events : List Event) → Stands old events → Before now events happening reported
+  pub on : Grows holds clean first draft (with_outcomes (moment_of happening) reported) (outcomes_notes (moment_of happening) reported)
+  pub quiet : reported ≡ [] → unchanged
 
 pub begins : (holds : List Fact → Type 0) (clean unchanged : Type 0) (old : State) (happening : Event) (call : Call) (draft : PendingWrite) → old.settling ≡ None
     → ((events : List Event) → Stands old events → Before old events happening []) → unchanged → Turned holds clean unchanged old old happening call draft draft
@@ -43,7 +43,7 @@ begins holds clean unchanged old happening call draft rests before same = record
   call_is = inl rests;
   timeout = refl;
   window = refl;
-  told = [];
+  reported = [];
   within = before;
   on = stays holds clean draft;
   quiet = λ none. same;
@@ -54,7 +54,7 @@ begins holds clean unchanged old happening call draft rests before same = record
 pub record Called (mid new : State) (before after : Event) (settled : Option (ℕ × Settlement)) : Type 0 where
   pub timeout : new.timeout ≡ mid.timeout
   pub window : new.window ≡ mid.window
-  pub told : (events : List Event) (told : List (ℕ × Settlement)) → Before mid events before told → After new events after told settled
+  pub reported : (events : List Event) (reported : List (ℕ × Settlement)) → Before mid events before reported → After new events after reported settled
 
 longer_is_some : {X : Type 0} (xs : List X) (x : X) → xs ++ x ∷ [] ≡ [] → ⊥
 longer_is_some [] x h = cc
@@ -71,51 +71,51 @@ turns holds mid clean later unchanged changed old between new before after call 
   call_is = inr (settling, last);
   timeout = called.timeout ∙ t.timeout;
   window = called.window ∙ t.window;
-  told = t.told ++ o ∷ [];
-  within = λ events s. inr (called.told events t.told (t.within events s));
+  reported = t.reported ++ o ∷ [];
+  within = λ events s. inr (called.reported events t.reported (t.within events s));
   on =
-      subst (λ (m : ℕ). Grows holds later first next (with_outcomes m (t.told ++ o ∷ [])) (outcomes_notes m (t.told ++ o ∷ []))) (sym same)
+      subst (λ (m : ℕ). Grows holds later first next (with_outcomes m (t.reported ++ o ∷ [])) (outcomes_notes m (t.reported ++ o ∷ []))) (sym same)
       (grows_like holds later first next _ _ _ _
-      (λ facts. outcomes-append (moment_of before) t.told (o ∷ []) facts)
-      (λ facts. notes-append (moment_of before) t.told (o ∷ []) facts
-      ∙ ap (λ xs. outcomes_notes (moment_of before) t.told facts ++ xs) (append-nil _))
-      (grows_then holds mid clean later first draft next (with_outcomes (moment_of before) t.told) (with_outcome (moment_of before) o)
-      (outcomes_notes (moment_of before) t.told) (outcome_notes (moment_of before) o) kept cleaner (before_outcome (moment_of before) o) t.on on));
-  quiet = λ none. absurd (longer_is_some t.told o none);
+      (λ facts. outcomes-append (moment_of before) t.reported (o ∷ []) facts)
+      (λ facts. notes-append (moment_of before) t.reported (o ∷ []) facts
+      ∙ ap (λ xs. outcomes_notes (moment_of before) t.reported facts ++ xs) (append-nil _))
+      (grows_then holds mid clean later first draft next (with_outcomes (moment_of before) t.reported) (with_outcome (moment_of before) o)
+      (outcomes_notes (moment_of before) t.reported) (outcome_notes (moment_of before) o) kept cleaner (before_outcome (moment_of before) o) t.on on));
+  quiet = λ none. absurd (longer_is_some t.reported o none);
 }
 
 -- After the loop ends, the pending write has all outcomes of the event.
 pub ends : (holds : List Fact → Type 0) (clean unchanged : Type 0) (old between new : State) (before after : Event) (call : Call) (first draft : PendingWrite)
     → Turned holds clean unchanged old between before call first draft → moment_of after ≡ moment_of before → Called between new before after None
-    → TellsSettled holds clean old new after first draft
+    → ReportsSettled holds clean old new after first draft
 ends holds clean unchanged old between new before after call first draft t same called =
     let timeout : new.timeout ≡ old.timeout = called.timeout ∙ t.timeout in
     record {
       timeout = timeout;
       window = called.window ∙ t.window;
-      stands = λ events s. (called.told events t.told (t.within events s)).0;
-      told = λ events s.
-          let all : t.told ≡ outcomes_at old.timeout events after =
-          (called.told events t.told (t.within events s)).1 ∙ ap (λ n. outcomes_at n events after) timeout in
+      stands = λ events s. (called.reported events t.reported (t.within events s)).0;
+      reported = λ events s.
+          let all : t.reported ≡ outcomes_at old.timeout events after =
+          (called.reported events t.reported (t.within events s)).1 ∙ ap (λ n. outcomes_at n events after) timeout in
           subst (λ (xs : List (ℕ × Settlement)). Grows holds clean first draft (with_outcomes (moment_of after) xs) (outcomes_notes (moment_of after) xs)) all
-          (subst (λ (m : ℕ). Grows holds clean first draft (with_outcomes m t.told) (outcomes_notes m t.told)) (sym same) t.on);
+          (subst (λ (m : ℕ). Grows holds clean first draft (with_outcomes m t.reported) (outcomes_notes m t.reported)) (sym same) t.on);
     }
 
 pub ends_quietly : (holds : List Fact → Type 0) (clean unchanged : Type 0) (old between new : State) (before after : Event) (call : Call) (first draft : PendingWrite)
     → Turned holds clean unchanged old between before call first draft → Called between new before after None → SettlesNothing old after → unchanged
 ends_quietly holds clean unchanged old between new before after call first draft t called none =
     t.quiet
-    ((called.told none.events t.told (t.within none.events none.stands)).1
+    ((called.reported none.events t.reported (t.within none.events none.stands)).1
     ∙ ap (λ n. outcomes_at n none.events after) (called.timeout ∙ t.timeout) ∙ none.nothing)
 
 -- If a call of the session returned an outcome, then the event ends a poll.
 pub is_loud : {P : Type 0} (holds : List Fact → Type 0) (clean unchanged : Type 0) (old between new : State) (before after : Event) (call : Call) (first draft : PendingWrite)
     (o : ℕ × Settlement) → Turned holds clean unchanged old between before call first draft → Called between new before after (Some o) → SettlesNothing old after → P
 is_loud holds clean unchanged old between new before after call first draft o t called none =
-    let within : Within new none.events after (t.told ++ o ∷ []) = (called.told none.events t.told (t.within none.events none.stands)).1 in
-    let all : (t.told ++ o ∷ []) ++ owed new ≡ [] =
+    let within : Within new none.events after (t.reported ++ o ∷ []) = (called.reported none.events t.reported (t.within none.events none.stands)).1 in
+    let all : (t.reported ++ o ∷ []) ++ owed new ≡ [] =
     within.whole ∙ ap (λ n. outcomes_at n none.events after) (called.timeout ∙ t.timeout) ∙ none.nothing in
-    absurd (longer_is_some t.told o (none_first (t.told ++ o ∷ []) (owed new) all))
+    absurd (longer_is_some t.reported o (none_first (t.reported ++ o ∷ []) (owed new) all))
   where
     none_first : {X : Type 0} (xs ys : List X) → xs ++ ys ≡ [] → xs ≡ []
     none_first [] ys h = refl
@@ -138,28 +138,28 @@ whole_piece at n piece h all =
     take_all (at + n) piece (omega arith)
 
 pub called_by_piece : (mid new : State) (moment at n : ℕ) (piece : List ℕ) (settled : Option (ℕ × Settlement))
-    → TellsOn mid new (λ bytes. Piece moment bytes) (λ bytes. Piece moment (bytes ++ take n (slice_at at piece))) settled
+    → ReportsOn mid new (λ bytes. Piece moment bytes) (λ bytes. Piece moment (bytes ++ take n (slice_at at piece))) settled
     → Called mid new (Piece moment (take at piece)) (Piece moment (take (at + n) piece)) settled
-called_by_piece mid new moment at n piece settled tells = record {
-  timeout = tells.timeout;
-  window = tells.window;
-  told = λ events told before.
-      subst (λ (bytes : List ℕ). After new events (Piece moment bytes) told settled) (piece-more at n piece) (tells.told events (take at piece) told before);
+called_by_piece mid new moment at n piece settled reports = record {
+  timeout = reports.timeout;
+  window = reports.window;
+  reported = λ events reported before.
+      subst (λ (bytes : List ℕ). After new events (Piece moment bytes) reported settled) (piece-more at n piece) (reports.reported events (take at piece) reported before);
 }
 
 pub called_by_whole : (mid new : State) (moment at n : ℕ) (piece : List ℕ) (settled : Option (ℕ × Settlement)) → at ≤ length piece → n ≡ length (slice_at at piece)
-    → TellsOn mid new (λ bytes. Piece moment bytes) (λ bytes. Piece moment (bytes ++ take n (slice_at at piece))) settled
+    → ReportsOn mid new (λ bytes. Piece moment bytes) (λ bytes. Piece moment (bytes ++ take n (slice_at at piece))) settled
     → Called mid new (Piece moment (take at piece)) (Piece moment piece) settled
-called_by_whole mid new moment at n piece settled h all tells =
+called_by_whole mid new moment at n piece settled h all reports =
     subst (λ (bytes : List ℕ). Called mid new (Piece moment (take at piece)) (Piece moment bytes) settled) (whole_piece at n piece h all)
-    (called_by_piece mid new moment at n piece settled tells)
+    (called_by_piece mid new moment at n piece settled reports)
 
-pub called_by_event : (mid new : State) (happening : Event) (settled : Option (ℕ × Settlement)) → TellsOn mid new (λ _. happening) (λ _. happening) settled
+pub called_by_event : (mid new : State) (happening : Event) (settled : Option (ℕ × Settlement)) → ReportsOn mid new (λ _. happening) (λ _. happening) settled
     → Called mid new happening happening settled
-called_by_event mid new happening settled tells = record {
-  timeout = tells.timeout;
-  window = tells.window;
-  told = λ events told before. tells.told events [] told before;
+called_by_event mid new happening settled reports = record {
+  timeout = reports.timeout;
+  window = reports.window;
+  reported = λ events reported before. reports.reported events [] reported before;
 }
 
 -- If a chunk of bytes ends no poll, then the first bytes of the chunk end no poll.

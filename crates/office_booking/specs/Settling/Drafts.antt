@@ -22,46 +22,46 @@ pub record HasMore (old new : PendingWrite) (f : Fact) (note : Note) : Type 0 wh
 
 -- True if the record is the outcome of a poll, an accepted reading or a rejected reading. A device
 -- event adds no other records.
-abbrev pub IsTold : Fact → Type 0
-IsTold (fact.Outcome ended) = Unit {0}
-IsTold (fact.Entry booked) = booked.kind ≡ kind.Reading
-IsTold (fact.Hold held) = Unit {0}
-IsTold _ = ⊥
+abbrev pub IsReported : Fact → Type 0
+IsReported (fact.Outcome ended) = Unit {0}
+IsReported (fact.Entry booked) = booked.kind ≡ kind.Reading
+IsReported (fact.Hold held) = Unit {0}
+IsReported _ = ⊥
 
 -- True if all of these records are outcomes of polls, accepted readings or rejected readings.
-abbrev pub AreTold : List Fact → Type 0
-AreTold [] = Unit {0}
-AreTold (f ∷ facts) = IsTold f × AreTold facts
+abbrev pub AreReported : List Fact → Type 0
+AreReported [] = Unit {0}
+AreReported (f ∷ facts) = IsReported f × AreReported facts
 
--- True if the records `more` and the notifications `tells` were added to the pending write `old`,
+-- True if the records `more` and the notifications `reports` were added to the pending write `old`,
 -- which gives `new`.
 pub record IsAdded (known : List Fact) (old new : PendingWrite) (more : List Fact → List Fact)
-    (tells : List Fact → List Note) : Type 0 where
+    (reports : List Fact → List Note) : Type 0 where
   pub facts : so_far new known ≡ more (so_far old known)
-  pub notes : new.notes.items ≡ old.notes.items ++ tells (so_far old known)
-  pub told : AreTold new.facts.items
+  pub notes : new.notes.items ≡ old.notes.items ++ reports (so_far old known)
+  pub reported : AreReported new.facts.items
 
--- True if the pending write gains the records `more` and the notifications `tells`. This is stated
--- only for lawful resulting records, and if no wrong result of the store went undetected.
+-- True if the pending write gains the records `more` and the notifications `reports`. This is
+-- stated only for lawful resulting records, and if no wrong result of the store went undetected.
 abbrev pub Grows : (holds : List Fact → Type 0) (clean : Type 0) (old new : PendingWrite)
     → (List Fact → List Fact) → (List Fact → List Note) → Type 0
-Grows holds clean old new more tells =
-    (known : List Fact) → holds known → clean → AreTold old.facts.items
-    → AreLawful (more (so_far old known)) → IsAdded known old new more tells
+Grows holds clean old new more reports =
+    (known : List Fact) → holds known → clean → AreReported old.facts.items
+    → AreLawful (more (so_far old known)) → IsAdded known old new more reports
 
--- True if a successful call adds the records `more` and the notifications `tells` to the pending
+-- True if a successful call adds the records `more` and the notifications `reports` to the pending
 -- write.
 abbrev pub Adds : {T : Type 0} → (old new : Ledger) → (before after : PendingWrite) → Result T BooksFault
     → (List Fact → List Fact) → (List Fact → List Note) → Type 0
-Adds old new before after result more tells =
-    OnOk result (Grows old.holds new.is_clean before after more tells)
+Adds old new before after result more reports =
+    OnOk result (Grows old.holds new.is_clean before after more reports)
 
 -- True if the result of a lookup is correct for the store's records followed by the records of the
 -- pending write.
 abbrev pub FindsAfter : {T : Type 0} → (old new : Ledger) → PendingWrite → Result T BooksFault
     → (List Fact → T → Type 0) → Type 0
 FindsAfter old new draft result says =
-    (known : List Fact) → old.holds known → new.is_clean → AreTold draft.facts.items
+    (known : List Fact) → old.holds known → new.is_clean → AreReported draft.facts.items
     → AreLawful (so_far draft known) → IfOk result (says (so_far draft known))
 
 -- True if the call succeeds without a query of the store, and leaves the pending write unchanged.

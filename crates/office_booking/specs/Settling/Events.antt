@@ -27,12 +27,12 @@ pub record Settles (past : History) (at : ℕ) (e : Event) (old new : Ledger) (a
     (result : Result (Vec Note Global) BooksFault) : Type 0 where
   pub slots : OnOk result (KeepsSlots after (slots_of (Fed at e ∷ past)))
   pub books : Moves old new (facts_of past) (facts_of (Fed at e ∷ past)) result
-  pub notes : old.holds (facts_of past) → new.is_clean → IfOk result (λ told.
-      told.items ≡ notes_of (next_poll (facts_of past)) at e (slots_of past) (facts_of past))
+  pub notes : old.holds (facts_of past) → new.is_clean → IfOk result (λ reported.
+      reported.items ≡ notes_of (next_poll (facts_of past)) at e (slots_of past) (facts_of past))
 
 -- True if the call succeeds without a query of the store, and reports no notifications.
 pub record IsQuiet {B : Type 0} (old new : B)
     (result : Result (Vec Note Global) BooksFault) : Type 0 where
   pub ok : IsOk result
-  pub told : IfOk result (λ told. told.items ≡ [])
+  pub reported : IfOk result (λ reported. reported.items ≡ [])
   pub books : new ≡ old

@@ -13,7 +13,7 @@ use Rattle.office_rules.specs.Facts.{same}
 use Rattle.office_rules.specs.Meters.{installation_of}
 use Rattle.office_rules.specs.Lawful.{AreLawful}
 use Rattle.office_rules.specs.Laws.{IsRecorded}
-use Rattle.office_booking.specs.Settling.Drafts.{AreTold}
+use Rattle.office_booking.specs.Settling.Drafts.{AreReported}
 
 -- The installation of a meter after a meter entry with this result. If the entry is admissible, the
 -- installation is advanced. Otherwise it is unchanged.
@@ -47,5 +47,5 @@ pub record IsIn (facts : List Fact) (row : Installation) : Type 0 where
 -- readings `facts`.
 abbrev pub IsAfterFacts : Installation → (facts : List Fact) → Installation → Type 0
 IsAfterFacts row facts following =
-    (known : List Fact) → AreTold facts → AreLawful (reverse facts ++ known) → IsIn known row
+    (known : List Fact) → AreReported facts → AreLawful (reverse facts ++ known) → IsIn known row
     → following ≡ installation_of (reverse facts ++ known) row.opening

@@ -58,33 +58,33 @@ pub record SettlesNothing (kept : State) (happening : session.Event) : Type 0 wh
 
 -- The guarantees of passing an event to a session. The session has processed the event, and the
 -- pending write has all outcomes and readings of the event.
-pub record TellsSettled (holds : List Fact → Type 0) (clean : Type 0) (before after : State)
+pub record ReportsSettled (holds : List Fact → Type 0) (clean : Type 0) (before after : State)
     (happening : session.Event) (first last : PendingWrite) : Type 0 where
   pub timeout : after.timeout ≡ before.timeout
   pub window : after.window ≡ before.window
   pub stands : (events : List session.Event) → Stands before events
       → Stands after (events ++ happening ∷ [])
-  pub told : (events : List session.Event) → Stands before events
+  pub reported : (events : List session.Event) → Stands before events
       → let at = session.moment_of happening in
       let outcomes = session.outcomes_at before.timeout events happening in
       Grows holds clean first last (with_outcomes at outcomes) (outcomes_notes at outcomes)
 
--- True if `TellsSettled` holds after a successful call, if the event is not earlier than the
+-- True if `ReportsSettled` holds after a successful call, if the event is not earlier than the
 -- session's last event.
-abbrev pub TellsAll : {T : Type 0} → (old new : Ledger) → (before after : State) → session.Event
+abbrev pub ReportsAll : {T : Type 0} → (old new : Ledger) → (before after : State) → session.Event
     → (first last : PendingWrite) → Result T BooksFault → Type 0
-TellsAll old new before after happening first last result =
+ReportsAll old new before after happening first last result =
     before.last ≤ session.moment_of happening
-    → OnOk result (TellsSettled old.holds new.is_clean before after happening first last)
+    → OnOk result (ReportsSettled old.holds new.is_clean before after happening first last)
 
--- True if `TellsAll` holds for an event that concerns the session. If the event does not concern
+-- True if `ReportsAll` holds for an event that concerns the session. If the event does not concern
 -- the session, then the session and the pending write are unchanged.
-abbrev pub TellsReached : {T : Type 0} → (old new : Ledger) → (before after : State)
+abbrev pub ReportsReached : {T : Type 0} → (old new : Ledger) → (before after : State)
     → Option session.Event → (first last : PendingWrite) → Result T BooksFault → Type 0
-TellsReached old new before after None first last result =
+ReportsReached old new before after None first last result =
     OnOk result ((after ≡ before) × (last ≡ first))
-TellsReached old new before after (Some happening) first last result =
-    TellsAll old new before after happening first last result
+ReportsReached old new before after (Some happening) first last result =
+    ReportsAll old new before after happening first last result
 
 -- True if the event does not concern the session, or ends no poll of the session.
 abbrev pub ReachesQuietly : State → Option session.Event → Type 0

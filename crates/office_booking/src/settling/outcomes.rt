@@ -1,6 +1,6 @@
 //! Adds the outcomes of ended polls, and the readings in their responses, to a pending write.
 ghost use Rattle.std.specs.Prelude.{◌≡◌, OnOk, IfErr};
-ghost use Rattle.poll_core.specs.Telling.{settled_of, LendsReply};
+ghost use Rattle.poll_core.specs.Reporting.{settled_of, LendsReply};
 ghost use Rattle.office_rules.specs.Readings as readings;
 ghost use Rattle.office_rules.specs.Facts.{poll_of};
 ghost use Rattle.office_rules.specs.History as history;

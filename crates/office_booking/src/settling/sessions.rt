@@ -5,7 +5,7 @@ ghost use Rattle.poll_core.specs.Settling as happening;
 ghost use Rattle.office_rules.specs.Facts.{moment_limit};
 ghost use Rattle.office_books.specs.Ledgers.{Consults};
 ghost use Rattle.office_booking.specs.Settling.Drafts.{IsIdle};
-ghost use Rattle.office_booking.specs.Settling.Settling.{IsSettling, happening_on, SettlesNothing, TellsAll, TellsReached, ReachesQuietly, ends_session};
+ghost use Rattle.office_booking.specs.Settling.Settling.{IsSettling, happening_on, SettlesNothing, ReportsAll, ReportsReached, ReachesQuietly, ends_session};
 
 use crate::sessions::is_named;
 use crate::settling::drafts::PendingWrite;
@@ -25,7 +25,7 @@ fn settle_piece<B: Books>(
 ) -> Result<(), BooksFault>
     requires limit { moment ≤ moment_limit }
     requires rests { session.old.settling ≡ None }
-    ensures tells { TellsAll (B.ledger books.old) (B.ledger books.new) session.old session.new
+    ensures reports { ReportsAll (B.ledger books.old) (B.ledger books.new) session.old session.new
         (happening.Piece moment piece.now) draft.old draft.new result }
     ensures quiet { SettlesNothing session.old (happening.Piece moment piece.now)
         → IsIdle result books.old books.new draft.old draft.new }
@@ -56,7 +56,7 @@ fn settle_timer<B: Books>(
 ) -> Result<(), BooksFault>
     requires limit { moment ≤ moment_limit }
     requires rests { session.old.settling ≡ None }
-    ensures tells { TellsAll (B.ledger books.old) (B.ledger books.new) session.old session.new
+    ensures reports { ReportsAll (B.ledger books.old) (B.ledger books.new) session.old session.new
         (happening.Tick moment) draft.old draft.new result }
     ensures quiet { SettlesNothing session.old (happening.Tick moment)
         → IsIdle result books.old books.new draft.old draft.new }
@@ -64,10 +64,10 @@ fn settle_timer<B: Books>(
     ensures reads { Consults (B.ledger books.old) (B.ledger books.new) result }
 {
     'turns: loop {
-        let Ok(told) = session.tick(moment) else {
+        let Ok(reported) = session.tick(moment) else {
             return Ok(());
         };
-        match told {
+        match reported {
             None => return Ok(()),
             Some(settled) => add_outcome(books, draft, moment, &settled)?,
         }
@@ -84,17 +84,17 @@ fn settle_close<B: Books>(
 ) -> Result<(), BooksFault>
     requires limit { moment ≤ moment_limit }
     requires rests { session.old.settling ≡ None }
-    ensures tells { TellsAll (B.ledger books.old) (B.ledger books.new) session.old session.new
+    ensures reports { ReportsAll (B.ledger books.old) (B.ledger books.new) session.old session.new
         (happening.Close moment closing) draft.old draft.new result }
     ensures quiet { SettlesNothing session.old (happening.Close moment closing)
         → IsIdle result books.old books.new draft.old draft.new }
     ensures reads { Consults (B.ledger books.old) (B.ledger books.new) result }
 {
     'turns: loop {
-        let Ok(told) = session.close(moment, closing) else {
+        let Ok(reported) = session.close(moment, closing) else {
             return Ok(());
         };
-        match told {
+        match reported {
             None => return Ok(()),
             Some(settled) => add_outcome(books, draft, moment, &settled)?,
         }
@@ -114,7 +114,7 @@ pub fn settle_session<B: Books>(
     requires settling { IsSettling event.now }
     requires limit { moment ≤ moment_limit }
     requires rests { session.old.settling ≡ None }
-    ensures tells { TellsReached (B.ledger books.old) (B.ledger books.new) session.old session.new
+    ensures reports { ReportsReached (B.ledger books.old) (B.ledger books.new) session.old session.new
         (happening_on moment event.now device.now) draft.old draft.new result }
     ensures stays { let ends = ends_session (happening_on moment event.now device.now) in
         IfOk result (λ b. b ≡ not ends) }

@@ -22,7 +22,7 @@ use Rattle.office_events.specs.declared.questions.Installation.{Installation}
 use Rattle.office_rules.specs.Facts.{opening_of}
 use Rattle.office_rules.specs.Meters.{rows_of, installation_of, place_in, entry_at}
 use Rattle.office_rules.specs.Refusals.{verdict_between, verdict_at, is_held_for, is_not_voidable}
-use Rattle.office_books.specs.Near.{with_energy, TellsNear}
+use Rattle.office_books.specs.Near.{with_energy, ReportsNear}
 use Rattle.office_core.specs.Refusing.Spots.{is_full, IsJudgedAs}
 
 -- If two tests differ only at the cause `TotalFull`, and the first search does not find
@@ -105,5 +105,5 @@ by_opening facts place (Some o) found is le less =
 
 -- Voids of the entry from `entry_near` and of the entry from `entry` get the same verdict, unless
 -- the total energy exceeds its limit.
-pub judged_near : (facts : List Fact) (meter : List ℕ) (place : ℕ) (found : Option EntryContext) → TellsNear facts meter place found → is_full found ≡ false → IsJudgedAs (entry_at facts meter place) found
-judged_near facts meter place found told less = by_opening facts place (opening_of facts meter) found told.near told.within less
+pub judged_near : (facts : List Fact) (meter : List ℕ) (place : ℕ) (found : Option EntryContext) → ReportsNear facts meter place found → is_full found ≡ false → IsJudgedAs (entry_at facts meter place) found
+judged_near facts meter place found reported less = by_opening facts place (opening_of facts meter) found reported.near reported.within less

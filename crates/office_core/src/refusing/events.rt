@@ -5,7 +5,7 @@ ghost use Rattle.office_core.specs.Refusing.Asking.{AsksNoBooks, IsOfDevice, IsO
 ghost use Rattle.office_rules.specs.Sessions.{command_in};
 ghost use Rattle.office_booking.specs.Sessions.Places.{AsksOnSlot};
 ghost use Rattle.office_booking.specs.Sessions.Ranges.{IsInRange};
-ghost use Rattle.office_core.specs.Refusing.Telling.{TellsAlone, TellsWhy};
+ghost use Rattle.office_core.specs.Refusing.Reporting.{ReportsAlone, ReportsWhy};
 
 use crate::refusing::arrivals::Arrival;
 use crate::refusing::commands::refusal_of_command;
@@ -26,14 +26,14 @@ pub fn refusal<B: Books>(
     moment: u64,
     event: &Event,
 ) -> Result<Option<Refusal>, BooksFault>
-    ensures found { TellsWhy (B.ledger books.old) (B.ledger books.new) slots.now latest moment
+    ensures found { ReportsWhy (B.ledger books.old) (B.ledger books.new) slots.now latest moment
         event.now result }
     ensures reads { OnlyReads (B.ledger books.old) (B.ledger books.new) result }
     ensures of_event { IfOk result (λ r. IfSome r IsOfEvent) }
     ensures in_range { IfOk result (λ r. r ≡ None → IsInRange latest moment event.now) }
     ensures there { IfOk result (λ r. r ≡ None → AsksOnSlot slots.now (command_in event.now)) }
     ensures quiet { AsksNoBooks event.now → (books.new ≡ books.old) × IsOk result }
-    ensures alone { IsOfDevice event.now → TellsAlone slots.now latest moment event.now result }
+    ensures alone { IsOfDevice event.now → ReportsAlone slots.now latest moment event.now result }
 {
     let arrival = Arrival::new(latest, moment);
     match event {

@@ -105,10 +105,10 @@ pub fn is_bad_meter(meter: &Option<Name>, range: u64, raw: u64, ceiling: u64) ->
 }
 
 /// Returns true if the given time of a manual reading is later than the time of the command.
-fn is_later(moment: u64, told: Option<u64>) -> bool
-    ensures { result ≡ refusals.is_later moment told }
+fn is_later(moment: u64, reported: Option<u64>) -> bool
+    ensures { result ≡ refusals.is_later moment reported }
 {
-    match told {
+    match reported {
         None => false,
         Some(at) => moment < at,
     }

@@ -8,7 +8,7 @@ use Rattle.office_books.specs.Ledgers.{Ledger}
 use Rattle.office_core.specs.Standing.{After, Stands, books_in}
 use Rattle.office_core.specs.declared.office.Office.{Office}
 use Rattle.std.specs.Io.KnownBytes.{Consumes}
-use Rattle.socket_link.specs.Clocks.{TellsMoment}
+use Rattle.socket_link.specs.Clocks.{ReportsMoment}
 use Rattle.office_events.specs.declared.events.Asked.{Asked}
 use Rattle.office_http.specs.Exchange.{Does, Handles, Passage, Replies}
 use Rattle.office_http.specs.Serving.{Asks, IsAnswered, IsServed, Lasts}
@@ -95,14 +95,14 @@ named_handled names ledger at old new link result h past stands clean = named_do
 -- If the program's state matches `n` served connections, then it matches `n` + 1 after one more
 -- connection. The time of that connection is the clock's time.
 pub one_more : {B : Type 0} (names : List (List ℕ)) (n : ℕ) (begun mid now : Option (List ℕ)) (at : ℕ) (ledger : B → Ledger) (past : History) (old new : Office B)
-    → ServesUpTo names n begun mid ledger past old → TellsMoment mid now at
+    → ServesUpTo names n begun mid ledger past old → ReportsMoment mid now at
     → After ledger old new (λ h. ServesOne names at ledger h new) → (ledger (books_in new)).is_clean → ServesUpTo names (n + 1) begun now ledger past new
-one_more names n begun mid now at ledger past old new first told next clean =
+one_more names n begun mid now at ledger past old new first reported next clean =
     let then = next (history_with past first.connections) first.stands clean in
     record {
       connections = then.connection ∷ first.connections;
       few = omega (arith, first.few);
-      timed = (mid, first.timed, subst (TellsMoment mid now) (sym then.moment) told);
+      timed = (mid, first.timed, subst (ReportsMoment mid now) (sym then.moment) reported);
       stands = then.stands;
     }
 
@@ -117,10 +117,10 @@ pub served_none : {B : Type 0} (names : List (List ℕ)) (n : ℕ) (begun : Opti
 served_none names n begun ledger office past stands clean = record { connections = []; few = omega arith; timed = refl; stands = stands }
 
 pub served_more : {B : Type 0} (names : List (List ℕ)) (n : ℕ) (begun mid now : Option (List ℕ)) (at : ℕ) (ledger : B → Ledger) (begin old new : Office B)
-    → After ledger begin old (λ past. ServesUpTo names n begun mid ledger past old) → TellsMoment mid now at → Lasts ledger old new
+    → After ledger begin old (λ past. ServesUpTo names n begun mid ledger past old) → ReportsMoment mid now at → Lasts ledger old new
     → After ledger old new (λ past. ServesOne names at ledger past new) → After ledger begin new (λ past. ServesUpTo names (n + 1) begun now ledger past new)
-served_more names n begun mid now at ledger begin old new before told lasts next past stands clean =
-    one_more names n begun mid now at ledger past old new (before past stands (lasts.clean clean)) told next clean
+served_more names n begun mid now at ledger begin old new before reported lasts next past stands clean =
+    one_more names n begun mid now at ledger past old new (before past stands (lasts.clean clean)) reported next clean
 
 pub served_no_more : {B : Type 0} (names : List (List ℕ)) (n : ℕ) (begun now : Option (List ℕ)) (ledger : B → Ledger) (begin office : Office B)
     → After ledger begin office (λ past. ServesUpTo names n begun now ledger past office)

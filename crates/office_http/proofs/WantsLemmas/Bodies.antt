@@ -3,7 +3,7 @@ use Rattle.std.proofs.Common.{◌≡◌, ◌∙◌, ◌≢◌, ◌⊎◌, ℕ, L
 use Rattle.serde_json.specs.Data.{Data}
 use Rattle.serde_json.specs.Read.{read}
 use Rattle.http_answer.specs.Commands.Commands.{command_of}
-use Rattle.http_answer.specs.Commands.Given.{Gives, GivesJson, GivesList, IsBody, IsJson, IsListBody, IsNoJson, told}
+use Rattle.http_answer.specs.Commands.Given.{Gives, GivesJson, GivesList, IsBody, IsJson, IsListBody, IsNoJson, reported}
 use Rattle.http_answer.specs.declared.commands.fault.CommandFault.{CommandFault}
 use Rattle.http_answer.specs.declared.commands.fault.CommandFault.TheVariants.{Malformed, Negative, Faulty, Memory}
 use Rattle.http_request.specs.declared.routing.routes.Route.{Route}
@@ -22,7 +22,7 @@ one_json : (at : Route) (name : Option (List ℕ)) (body : List ℕ) (one other 
     → IsBody at name body one → IsBody at name body other → one ≢ Err Memory → other ≢ Err Memory → one ≡ other
 one_json at name body one other (inl a) (inl b) m n =
     let same : a.value ≡ b.value = one_value body a.value b.value a.is b.is in
-    a.gives ∙ ap (λ (d : Data). told (command_of at name d)) same ∙ sym b.gives
+    a.gives ∙ ap (λ (d : Data). reported (command_of at name d)) same ∙ sym b.gives
 one_json at name body one other (inl a) (inr (inl b)) m n = absurd (b.none a.value a.is)
 one_json at name body one other (inl a) (inr (inr b)) m n = absurd (n b)
 one_json at name body one other (inr (inl a)) (inl b) m n = absurd (a.none b.value b.is)

@@ -1,6 +1,6 @@
 -- The program's state after HTTP connections were served.
 use Rattle.std.specs.Prelude.{◌≡◌, ℕ, ◌≤◌, List, [], ◌∷◌, length, Option, Some, None}
-use Rattle.socket_link.specs.Clocks.{TellsMoment}
+use Rattle.socket_link.specs.Clocks.{ReportsMoment}
 use Rattle.office_events.specs.declared.events.Asked.{Asked}
 use Rattle.office_rules.specs.History.{History}
 use Rattle.office_books.specs.Ledgers.{Ledger}
@@ -38,7 +38,7 @@ abbrev pub AreTimed : {names : List (List ℕ)} → (begun now : Option (List �
     → List (Connection names) → Type 0
 AreTimed begun now [] = now ≡ begun
 AreTimed begun now (one ∷ earlier) =
-    (between : Option (List ℕ)) × AreTimed begun between earlier × TellsMoment between now one.at
+    (between : Option (List ℕ)) × AreTimed begun between earlier × ReportsMoment between now one.at
 
 -- The program's state matches its earlier history, extended by one connection that was accepted at
 -- this time.

@@ -39,7 +39,7 @@ AsksNothing table bytes = (asked : Asked) → AsksOffice table bytes asked → �
 
 -- `text` is the response to the bytes for any state of the program, and the bytes hold no request
 -- for a command.
-pub record IsToldOff (table : Table) (bytes text : List ℕ) : Type 0 where
+pub record IsReportedOff (table : Table) (bytes text : List ℕ) : Type 0 where
   pub nothing : AsksNothing table bytes
   pub reply : (office : Office) → IsReply office table bytes text
 
@@ -59,12 +59,12 @@ pub record IsAskedFor (table : Table) (bytes : List ℕ) (asked : Asked) : Type 
 -- The body of the request contains no valid command, for the reason `why`. If the reason is
 -- `Memory`, then memory ran out, and the request is arbitrary.
 abbrev pub IsNoCommand : Table → (bytes : List ℕ) → CommandFault → Type 0
-IsNoCommand table bytes why = (why ≡ Memory) ⊎ IsToldOff table bytes (reply_bytes (fault_said why))
+IsNoCommand table bytes why = (why ≡ Memory) ⊎ IsReportedOff table bytes (reply_bytes (fault_said why))
 
 -- The request in the bytes has this query or this command, or it has neither because of a failed
 -- test or a faulty body.
 abbrev pub Wants : Table → (bytes : List ℕ) → Want → Type 0
-Wants table bytes (want.Rejected status) = IsToldOff table bytes (reply_bytes (fault status))
+Wants table bytes (want.Rejected status) = IsReportedOff table bytes (reply_bytes (fault status))
 Wants table bytes (want.Answer found) = IsQuestion table bytes found
 Wants table bytes (want.Refused why) = IsNoCommand table bytes why
 Wants table bytes (want.Command asked) = IsAskedFor table bytes asked

@@ -7,7 +7,7 @@ use Rattle.command_io.specs.Lines.{Line}
 use Rattle.command_io.specs.declared.status.ExitStatus.{ExitStatus}
 use Rattle.command_io.specs.declared.status.ExitStatus.TheVariants.{Fine, Refused, Failed}
 use Rattle.point_list.specs.declared.fault.FaultyRow.{FaultyRow}
-use Rattle.socket_link.specs.Clocks.{TellsMoment}
+use Rattle.socket_link.specs.Clocks.{ReportsMoment}
 use Rattle.script_lines.specs.declared.line_fault.LineFault.{LineFault}
 use Rattle.script_lines.specs.declared.line_fault.LineFault.TheVariants.{Bad, Memory}
 use Rattle.script_text.specs.AnswerText.{accepted_text, refused_line}
@@ -26,28 +26,28 @@ use Rattle.office_books.specs.declared.failures.Failures.{Failures}
 use Rattle.office_core.specs.EventRun.{Answered}
 use Rattle.office_core.specs.Failing.{IsOutside}
 use Rattle.office_core.specs.Standing.{Stands, outgoing_in}
-use Rattle.office_core.specs.Taking.{IsAnswer, IsTold}
+use Rattle.office_core.specs.Taking.{IsAnswer, IsReported}
 use Rattle.office_core.specs.declared.office.Office.{Office}
 use Rattle.office_rounds.specs.Rounds.{RoundState}
 use Rattle.office_program.specs.declared.entering.entries.Entry.{Entry}
 use Rattle.office_program.specs.declared.entering.entries.Entry.TheVariants as entry
 use Rattle.office_program.specs.declared.entering.progress.Progress.{Progress}
-use Rattle.office_program.specs.Entering.Asking.{HasAsked, HasCome, IsAsked, TellsFault, TellsWhyNot, told_text}
+use Rattle.office_program.specs.Entering.Asking.{HasAsked, HasCome, IsAsked, ReportsFault, ReportsWhyNot, reported_text}
 use Rattle.office_program.specs.Entering.Course.{Asked, Came, Doubted, EntersLine, Faulty, IsAskedAt, IsCameOf, IsShown, IsUntouched, Undecided, Unread, doubted_line, faults_text, progress_after, reply_text, unread_line}
 use Rattle.office_program.specs.Entering.Doubts.{doubt_in, doubt_of}
 use Rattle.office_program.specs.Entering.ReadLines.{asked_at}
 use Rattle.office_program.specs.Entering.Reading.{AsksShown, IsShownFor}
 use Rattle.office_program.specs.declared.entering.files.Shown.{Shown}
 use Rattle.office_program.specs.declared.entering.read_line.ReadRequest.{ReadRequest}
-use Rattle.office_program.specs.Entering.Lines.{IsEntry, ReadsEntry, Telling}
+use Rattle.office_program.specs.Entering.Lines.{IsEntry, ReadsEntry, Reporting}
 
 -- The text of the office's answers equals the text that a script prints for them.
-told_is : {B : Type 0} (office : Office B) (past : History) (at : ℕ) (e : Event) (reply : Result Answer Refusal) → IsTold past at e reply office
-    → told_text office reply ≡ reply_text past at e reply
-told_is office past at e (Ok given) told =
-    ap (λ notes. accepted_text given notes (outgoing_in office)) told.notes
-    ∙ ap (λ frames. accepted_text given (notes_after past at e (Ok given)) frames) told.outgoing
-told_is office past at e (Err why) told = refl
+reported_is : {B : Type 0} (office : Office B) (past : History) (at : ℕ) (e : Event) (reply : Result Answer Refusal) → IsReported past at e reply office
+    → reported_text office reply ≡ reply_text past at e reply
+reported_is office past at e (Ok given) reported =
+    ap (λ notes. accepted_text given notes (outgoing_in office)) reported.notes
+    ∙ ap (λ frames. accepted_text given (notes_after past at e (Ok given)) frames) reported.outgoing
+reported_is office past at e (Err why) reported = refl
 
 abbrev pub one : (at : ℕ) → Event → Result Answer Refusal → Answered
 one at e reply = record { at = at; event = e; result = reply }
@@ -62,7 +62,7 @@ next_is progress next at e reply failed is same =
 -- If an event was fed to the office and its answer was printed, then `IsAsked` holds.
 pub asked : {B : Type 0} (ledger : B → Ledger) (past : History) (progress : Progress) (before after : Failures) (had holds : Option (List ℕ)) (office : Office B)
     (at : ℕ) (e : Event) (reply : Result Answer Refusal) (result : Result Progress Error) (text : List ℕ) → Stands ledger (with_answer past at e reply) office
-    → IsAnswer past at e before after reply → IsTold past at e reply office → text ≡ told_text office reply → GotText result text had holds
+    → IsAnswer past at e before after reply → IsReported past at e reply office → text ≡ reported_text office reply → GotText result text had holds
     → IfOk result (λ next. next ≡ progress_after progress (Asked (one at e reply)))
     → IsAsked ledger past at e progress before after had holds office result
 asked ledger past progress before after had holds office at e reply result text stands answer notes same got next =
@@ -73,7 +73,7 @@ asked ledger past progress before after had holds office at e reply result text 
       event_is = refl;
       stands = stands;
       answer = answer;
-      text = subst P (same ∙ told_is office past at e reply notes) got;
+      text = subst P (same ∙ reported_is office past at e reply notes) got;
       next = next;
     }
 
@@ -105,7 +105,7 @@ undoubted ledger past progress begun now office at request between result timed 
 -- If a request is doubted, then it was not fed to the office.
 pub doubted : {B : Type 0} (ledger : B → Ledger) (past : History) (progress : Progress) (begun now : RoundState) (office : Office B) (at mwh : ℕ) (request : Request)
     (result : Result Progress Error) → IsAskedAt progress.latest begun.moments now.moments at → Stands ledger past office
-    → doubt_of (facts_of past) at request ≡ Some mwh → now.failures ≡ begun.failures → TellsWhyNot (doubted_line mwh) at begun.printed now.printed result
+    → doubt_of (facts_of past) at request ≡ Some mwh → now.failures ≡ begun.failures → ReportsWhyNot (doubted_line mwh) at begun.printed now.printed result
     → HasAsked ledger request past progress begun now office result
 doubted ledger past progress begun now office at mwh request result timed stands doubt same why = record {
   came = Doubted at request mwh;
@@ -121,7 +121,7 @@ doubted ledger past progress begun now office at mwh request result timed stands
 -- office.
 pub undecided : {B : Type 0} (ledger : B → Ledger) (past : History) (progress : Progress) (begun now : RoundState) (office : Office B) (at : ℕ) (request : Request)
     (reason : Refusal) (result : Result Progress Error) → IsAskedAt progress.latest begun.moments now.moments at → Stands ledger past office
-    → IsOutside ⊥ begun.failures now.failures reason → TellsWhyNot (refused_line reason) at begun.printed now.printed result
+    → IsOutside ⊥ begun.failures now.failures reason → ReportsWhyNot (refused_line reason) at begun.printed now.printed result
     → HasAsked ledger request past progress begun now office result
 undecided ledger past progress begun now office at request reason result timed stands outside why = record {
   came = Undecided at request reason;
@@ -135,40 +135,40 @@ undecided ledger past progress begun now office at request reason result timed s
 
 -- ---- The effect of an input line by its parsed form
 
-pub asked_come : {B : Type 0} (ledger : B → Ledger) (tells : Telling) (request : Request) (past : History) (progress : Progress) (begun now : RoundState)
+pub asked_come : {B : Type 0} (ledger : B → Ledger) (reports : Reporting) (request : Request) (past : History) (progress : Progress) (begun now : RoundState)
     (office : Office B) (result : Result Progress Error) → HasAsked ledger request past progress begun now office result
-    → HasCome ledger tells (entry.Ask request) past progress begun now office result
-asked_come ledger tells request past progress begun now office result done = record { came = done.came; comes = done.comes; shown = tt; takes = done.takes }
+    → HasCome ledger reports (entry.Ask request) past progress begun now office result
+asked_come ledger reports request past progress begun now office result done = record { came = done.came; comes = done.comes; shown = tt; takes = done.takes }
 
 -- After the counter was read for a line with `@read`, the outcome of the line is the outcome of its
 -- request.
-read_comes : (tells : Telling) (facts : List Fact) (read : ReadRequest) (raw : ℕ) (sf : ℤ) (came : Came) → IsCameOf (entry.Ask (asked_at read raw sf)) came
-    → AsksShown tells facts read (asked_at read raw sf) → IsCameOf (entry.Read read) came × IsShown tells facts (entry.Read read) came
-read_comes tells facts read raw sf (Asked one) is shown =
+read_comes : (reports : Reporting) (facts : List Fact) (read : ReadRequest) (raw : ℕ) (sf : ℤ) (came : Came) → IsCameOf (entry.Ask (asked_at read raw sf)) came
+    → AsksShown reports facts read (asked_at read raw sf) → IsCameOf (entry.Read read) came × IsShown reports facts (entry.Read read) came
+read_comes reports facts read raw sf (Asked one) is shown =
     let here : one.event ≡ event.Asked (asked_at read raw sf) = is.2 ∙ ap event.Asked is.1 in
     ((asked_at read raw sf, (raw, sf, refl), here), (asked_at read raw sf, shown, here))
-read_comes tells facts read raw sf (Faulty rows) is shown = absurd is
-read_comes tells facts read raw sf (Doubted at request mwh) is shown =
-    let P : Request → Type 0 = AsksShown tells facts read in
+read_comes reports facts read raw sf (Faulty rows) is shown = absurd is
+read_comes reports facts read raw sf (Doubted at request mwh) is shown =
+    let P : Request → Type 0 = AsksShown reports facts read in
     ((raw, sf, is), subst P (sym is) shown)
-read_comes tells facts read raw sf (Undecided at request why) is shown = ((raw, sf, is), tt)
-read_comes tells facts read raw sf (Unread at tried) is shown = absurd is
+read_comes reports facts read raw sf (Undecided at request why) is shown = ((raw, sf, is), tt)
+read_comes reports facts read raw sf (Unread at tried) is shown = absurd is
 
-pub read_come : {B : Type 0} (ledger : B → Ledger) (tells : Telling) (read : ReadRequest) (shown : Shown) (request : Request) (past : History) (progress : Progress)
-    (begun now : RoundState) (office : Office B) (result : Result Progress Error) → IsShownFor tells (facts_of past) read (Some shown)
+pub read_come : {B : Type 0} (ledger : B → Ledger) (reports : Reporting) (read : ReadRequest) (shown : Shown) (request : Request) (past : History) (progress : Progress)
+    (begun now : RoundState) (office : Office B) (result : Result Progress Error) → IsShownFor reports (facts_of past) read (Some shown)
     → request ≡ asked_at read shown.raw shown.sf → HasAsked ledger request past progress begun now office result
-    → HasCome ledger tells (entry.Read read) past progress begun now office result
-read_come ledger tells read shown request past progress begun now office result is same done =
+    → HasCome ledger reports (entry.Read read) past progress begun now office result
+read_come ledger reports read shown request past progress begun now office result is same done =
     let P : Request → Type 0 = λ r. IsCameOf (entry.Ask r) done.came in
-    let both = read_comes tells (facts_of past) read shown.raw shown.sf done.came (subst P same done.comes) (shown, is, refl) in
+    let both = read_comes reports (facts_of past) read shown.raw shown.sf done.came (subst P same done.comes) (shown, is, refl) in
     record { came = done.came; comes = both.0; shown = both.1; takes = done.takes }
 
 -- If the counter for a line with `@read` can't be read, then the line makes no request.
-pub unread : {B : Type 0} (ledger : B → Ledger) (tells : Telling) (read : ReadRequest) (past : History) (progress : Progress) (begun now : RoundState) (office : Office B)
+pub unread : {B : Type 0} (ledger : B → Ledger) (reports : Reporting) (read : ReadRequest) (past : History) (progress : Progress) (begun now : RoundState) (office : Office B)
     (at : ℕ) (result : Result Progress Error) → IsAskedAt progress.latest begun.moments now.moments at → Stands ledger past office
-    → IsShownFor tells (facts_of past) read None → now.failures ≡ begun.failures → TellsWhyNot unread_line at begun.printed now.printed result
-    → HasCome ledger tells (entry.Read read) past progress begun now office result
-unread ledger tells read past progress begun now office at result timed stands none same why = record {
+    → IsShownFor reports (facts_of past) read None → now.failures ≡ begun.failures → ReportsWhyNot unread_line at begun.printed now.printed result
+    → HasCome ledger reports (entry.Read read) past progress begun now office result
+unread ledger reports read past progress begun now office at result timed stands none same why = record {
   came = Unread at read;
   comes = refl;
   shown = none;
@@ -181,11 +181,11 @@ unread ledger tells read past progress begun now office at result timed stands n
 
 -- If the office refused the query for the counter of a line with `@read`, then the line makes no
 -- request.
-pub unknown : {B : Type 0} (ledger : B → Ledger) (tells : Telling) (read : ReadRequest) (past : History) (progress : Progress) (begun now : RoundState) (office : Office B)
+pub unknown : {B : Type 0} (ledger : B → Ledger) (reports : Reporting) (read : ReadRequest) (past : History) (progress : Progress) (begun now : RoundState) (office : Office B)
     (at : ℕ) (reason : Refusal) (result : Result Progress Error) → IsAskedAt progress.latest begun.moments now.moments at → Stands ledger past office
-    → IsOutside ⊥ begun.failures now.failures reason → TellsWhyNot (refused_line reason) at begun.printed now.printed result
-    → HasCome ledger tells (entry.Read read) past progress begun now office result
-unknown ledger tells read past progress begun now office at reason result timed stands outside why = record {
+    → IsOutside ⊥ begun.failures now.failures reason → ReportsWhyNot (refused_line reason) at begun.printed now.printed result
+    → HasCome ledger reports (entry.Read read) past progress begun now office result
+unknown ledger reports read past progress begun now office at reason result timed stands outside why = record {
   came = Undecided at (asked_at read 0 (pos 0)) reason;
   comes = (0, pos 0, refl);
   shown = tt;
@@ -198,12 +198,12 @@ unknown ledger tells read past progress begun now office at reason result timed 
 
 -- If the point list of a line has faulty rows, then the line makes no request, and the rows are
 -- printed.
-pub faulty : {B : Type 0} (ledger : B → Ledger) (tells : Telling) (past : History) (progress : Progress) (begun now : RoundState) (office : Office B) (rows told : List FaultyRow)
-    (result : Result Progress Error) → Stands ledger past office → now.moments ≡ begun.moments → now.failures ≡ begun.failures → told ≡ rows
-    → GotText result (faults_text told) begun.printed now.printed
+pub faulty : {B : Type 0} (ledger : B → Ledger) (reports : Reporting) (past : History) (progress : Progress) (begun now : RoundState) (office : Office B) (rows reported : List FaultyRow)
+    (result : Result Progress Error) → Stands ledger past office → now.moments ≡ begun.moments → now.failures ≡ begun.failures → reported ≡ rows
+    → GotText result (faults_text reported) begun.printed now.printed
     → IfOk result (λ next. next ≡ record { latest = progress.latest; refused = true })
-    → HasCome ledger tells (entry.Faulty rows) past progress begun now office result
-faulty ledger tells past progress begun now office rows told result stands moments failures same got next =
+    → HasCome ledger reports (entry.Faulty rows) past progress begun now office result
+faulty ledger reports past progress begun now office rows reported result stands moments failures same got next =
     let P : List FaultyRow → Type 0 = λ r. GotText result (faults_text r) begun.printed now.printed in
     record {
       came = Faulty rows;
@@ -217,34 +217,34 @@ faulty ledger tells past progress begun now office rows told result stands momen
     }
 
 -- After an input line was processed, its outcome was printed completely or in part.
-pub line_taken : {B : Type 0} (ledger : B → Ledger) (tells : Telling) (caller : Option (List ℕ)) (line : Line) (past : History) (progress next : Progress)
-    (begun now : RoundState) (old new : Office B) (e : Entry) → IsEntry tells caller line.text e
-    → HasCome ledger tells e past progress begun now new (Ok next)
-    → EntersLine ledger tells caller line past progress begun now old new (Ok next)
-line_taken ledger tells caller line past progress next begun now old new e is done = (
+pub line_taken : {B : Type 0} (ledger : B → Ledger) (reports : Reporting) (caller : Option (List ℕ)) (line : Line) (past : History) (progress next : Progress)
+    (begun now : RoundState) (old new : Office B) (e : Entry) → IsEntry reports caller line.text e
+    → HasCome ledger reports e past progress begun now new (Ok next)
+    → EntersLine ledger reports caller line past progress begun now old new (Ok next)
+line_taken ledger reports caller line past progress next begun now old new e is done = (
   done.came,
   record { entry = e; is = is; comes = done.comes; shown = done.shown },
   record { takes = done.takes.takes; text = done.takes.text; next = done.takes.next },
 )
 
-pub line_cut : {B : Type 0} (ledger : B → Ledger) (tells : Telling) (caller : Option (List ℕ)) (line : Line) (past : History) (progress : Progress)
-    (begun now : RoundState) (old new : Office B) (e : Entry) (error : Error) → IsEntry tells caller line.text e
-    → HasCome ledger tells e past progress begun now new (Err error)
-    → EntersLine ledger tells caller line past progress begun now old new (Err Failed)
-line_cut ledger tells caller line past progress begun now old new e error is done = inl (
+pub line_cut : {B : Type 0} (ledger : B → Ledger) (reports : Reporting) (caller : Option (List ℕ)) (line : Line) (past : History) (progress : Progress)
+    (begun now : RoundState) (old new : Office B) (e : Entry) (error : Error) → IsEntry reports caller line.text e
+    → HasCome ledger reports e past progress begun now new (Err error)
+    → EntersLine ledger reports caller line past progress begun now old new (Err Failed)
+line_cut ledger reports caller line past progress begun now old new e error is done = inl (
   done.came,
   record { entry = e; is = is; comes = done.comes; shown = done.shown },
   record { takes = done.takes.takes; text = done.takes.text; next = tt },
 )
 
 -- If an input line is bad or memory ran out, then the line makes no request.
-pub line_faulty : {B : Type 0} (ledger : B → Ledger) (tells : Telling) (caller : Option (List ℕ)) (line : Line) (past : History) (progress : Progress)
+pub line_faulty : {B : Type 0} (ledger : B → Ledger) (reports : Reporting) (caller : Option (List ℕ)) (line : Line) (past : History) (progress : Progress)
     (begun now : RoundState) (old new : Office B) (fault : LineFault) (status : ExitStatus) → IsUntouched begun now old new
-    → ReadsEntry tells caller line.text (Err fault) → TellsFault fault line.number status begun.printed now.printed
-    → EntersLine ledger tells caller line past progress begun now old new (Err status)
-line_faulty ledger tells caller line past progress begun now old new Bad Fine stays bad told = absurd told
-line_faulty ledger tells caller line past progress begun now old new Bad Refused stays bad told = (stays, bad, told)
-line_faulty ledger tells caller line past progress begun now old new Bad Failed stays bad told = inr (inl (stays, bad, told))
-line_faulty ledger tells caller line past progress begun now old new Memory Fine stays bad told = absurd told
-line_faulty ledger tells caller line past progress begun now old new Memory Refused stays bad told = absurd told
-line_faulty ledger tells caller line past progress begun now old new Memory Failed stays bad told = inr (inr (stays, told))
+    → ReadsEntry reports caller line.text (Err fault) → ReportsFault fault line.number status begun.printed now.printed
+    → EntersLine ledger reports caller line past progress begun now old new (Err status)
+line_faulty ledger reports caller line past progress begun now old new Bad Fine stays bad reported = absurd reported
+line_faulty ledger reports caller line past progress begun now old new Bad Refused stays bad reported = (stays, bad, reported)
+line_faulty ledger reports caller line past progress begun now old new Bad Failed stays bad reported = inr (inl (stays, bad, reported))
+line_faulty ledger reports caller line past progress begun now old new Memory Fine stays bad reported = absurd reported
+line_faulty ledger reports caller line past progress begun now old new Memory Refused stays bad reported = absurd reported
+line_faulty ledger reports caller line past progress begun now old new Memory Failed stays bad reported = inr (inr (stays, reported))

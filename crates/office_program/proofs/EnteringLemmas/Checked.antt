@@ -18,7 +18,7 @@ use Rattle.office_core.specs.Leaving.{BooksStand}
 use Rattle.office_program.specs.declared.entering.checking.Known.{Known}
 use Rattle.office_program.specs.declared.entering.checking.Look.{Look}
 use Rattle.office_program.specs.Entering.Checked.{AreLooks, Checks, IsChecked, IsKnown, IsKnownOf, IsLook, IsShown, Looked, LooksOver, OnlyLooks, any_refused, lines_with, look_text, looks_text}
-use Rattle.office_program.specs.Entering.Lines.{Telling}
+use Rattle.office_program.specs.Entering.Lines.{Reporting}
 
 -- The result of checking a request is equal whether its caller is given separately or in the
 -- request.
@@ -54,28 +54,28 @@ still_stand old new past looks stand = record {
 }
 
 -- After an input line was checked, the result was printed completely or in part.
-pub line_shown : (tells : Telling) (caller : Option (List ℕ)) (line : Line) (facts : List Fact) (had holds : Option (List ℕ)) (found : Look) (result : Result Bool ExitStatus)
-    → IsLook tells caller line.text facts found → IsShown line.number found had holds result → IsChecked tells caller line facts had holds result
-line_shown tells caller line facts had holds found (Ok refused) is shown = (found, is, shown.0, shown.1)
-line_shown tells caller line facts had holds found (Err status) is part = inl (record { found = found; is = is; part = part })
+pub line_shown : (reports : Reporting) (caller : Option (List ℕ)) (line : Line) (facts : List Fact) (had holds : Option (List ℕ)) (found : Look) (result : Result Bool ExitStatus)
+    → IsLook reports caller line.text facts found → IsShown line.number found had holds result → IsChecked reports caller line facts had holds result
+line_shown reports caller line facts had holds found (Ok refused) is shown = (found, is, shown.0, shown.1)
+line_shown reports caller line facts had holds found (Err status) is part = inl (record { found = found; is = is; part = part })
 
 -- The progress of checking an input, when the lines `rest` remain to be checked.
-pub record Underway (tells : Telling) (caller : Option (List ℕ)) (lines rest : List Line) (facts : List Fact) (had holds : Option (List ℕ)) (refused : Bool) : Type 0 where
+pub record Underway (reports : Reporting) (caller : Option (List ℕ)) (lines rest : List Line) (facts : List Fact) (had holds : Option (List ℕ)) (refused : Bool) : Type 0 where
   pub looked : List Looked
-  pub each : AreLooks tells caller facts looked
+  pub each : AreLooks reports caller facts looked
   pub follow : lines ≡ lines_with looked rest
   pub printed : Appends had holds (looks_text looked)
   pub come : refused ≡ any_refused looked
 
-pub begins : (tells : Telling) (caller : Option (List ℕ)) (lines rest : List Line) (facts : List Fact) (had : Option (List ℕ)) → rest ≡ lines
-    → Underway tells caller lines rest facts had had false
-begins tells caller lines rest facts had is =
+pub begins : (reports : Reporting) (caller : Option (List ℕ)) (lines rest : List Line) (facts : List Fact) (had : Option (List ℕ)) → rest ≡ lines
+    → Underway reports caller lines rest facts had had false
+begins reports caller lines rest facts had is =
     record { looked = []; each = tt; follow = sym is; printed = Appends-nil had; come = refl }
 
-pub one_more : (tells : Telling) (caller : Option (List ℕ)) (lines rest left : List Line) (facts : List Fact) (had was holds : Option (List ℕ)) (refused more next : Bool) (line : Line)
-    → Underway tells caller lines rest facts had was refused → rest ≡ line ∷ left → IsChecked tells caller line facts was holds (Ok more) → next ≡ (refused || more)
-    → Underway tells caller lines left facts had holds next
-one_more tells caller lines rest left facts had was holds refused more next line under is checked same = record {
+pub one_more : (reports : Reporting) (caller : Option (List ℕ)) (lines rest left : List Line) (facts : List Fact) (had was holds : Option (List ℕ)) (refused more next : Bool) (line : Line)
+    → Underway reports caller lines rest facts had was refused → rest ≡ line ∷ left → IsChecked reports caller line facts was holds (Ok more) → next ≡ (refused || more)
+    → Underway reports caller lines left facts had holds next
+one_more reports caller lines rest left facts had was holds refused more next line under is checked same = record {
   looked = record { line = line; found = checked.0 } ∷ under.looked;
   each = (checked.1, under.each);
   follow = under.follow ∙ ap (lines_with under.looked) is;
@@ -83,10 +83,10 @@ one_more tells caller lines rest left facts had was holds refused more next line
   come = same ∙ ap (λ (b : Bool). b || more) under.come ∙ ap (λ (b : Bool). any_refused under.looked || b) checked.3;
 }
 
-pub ends_whole : (tells : Telling) (caller : Option (List ℕ)) (lines rest : List Line) (facts : List Fact) (had holds : Option (List ℕ)) (refused : Bool) (status : ExitStatus)
-    → Underway tells caller lines rest facts had holds refused → rest ≡ [] → status ≡ (if refused then Refused else Fine)
-    → Checks tells caller lines facts status had holds
-ends_whole tells caller lines rest facts had holds refused status under is means = record {
+pub ends_whole : (reports : Reporting) (caller : Option (List ℕ)) (lines rest : List Line) (facts : List Fact) (had holds : Option (List ℕ)) (refused : Bool) (status : ExitStatus)
+    → Underway reports caller lines rest facts had holds refused → rest ≡ [] → status ≡ (if refused then Refused else Fine)
+    → Checks reports caller lines facts status had holds
+ends_whole reports caller lines rest facts had holds refused status under is means = record {
   looked = under.looked;
   each = under.each;
   ends = inl (record {
@@ -100,10 +100,10 @@ then_nothing : (a b c : Option (List ℕ)) (x : List ℕ) → Appends a b x → 
 then_nothing a b c x whole none =
     (x ++ [], [], sym (append-nil x) ∙ sym (append-nil (x ++ [])), Appends-trans a b c x [] whole none)
 
-pub ends_early : (tells : Telling) (caller : Option (List ℕ)) (lines rest left : List Line) (facts : List Fact) (had was holds : Option (List ℕ)) (refused : Bool) (line : Line)
-    (told status : ExitStatus) → Underway tells caller lines rest facts had was refused → rest ≡ line ∷ left → IsChecked tells caller line facts was holds (Err told) → status ≡ Failed
-    → Checks tells caller lines facts status had holds
-ends_early tells caller lines rest left facts had was holds refused line told status under is (inl cut) means =
+pub ends_early : (reports : Reporting) (caller : Option (List ℕ)) (lines rest left : List Line) (facts : List Fact) (had was holds : Option (List ℕ)) (refused : Bool) (line : Line)
+    (reported status : ExitStatus) → Underway reports caller lines rest facts had was refused → rest ≡ line ∷ left → IsChecked reports caller line facts was holds (Err reported) → status ≡ Failed
+    → Checks reports caller lines facts status had holds
+ends_early reports caller lines rest left facts had was holds refused line reported status under is (inl cut) means =
     let failed : Result (Unit {0}) (Unit {0}) = Err tt in
     let text = looks_text under.looked in
     let more = look_text line.number cut.found in
@@ -117,7 +117,7 @@ ends_early tells caller lines rest left facts had was holds refused line told st
         means = means;
       });
     }
-ends_early tells caller lines rest left facts had was holds refused line told status under is (inr none) means = record {
+ends_early reports caller lines rest left facts had was holds refused line reported status under is (inr none) means = record {
   looked = under.looked;
   each = under.each;
   ends = inr (record {
@@ -129,11 +129,11 @@ ends_early tells caller lines rest left facts had was holds refused line told st
 }
 
 -- After an input was checked over a store, the store still records its history.
-pub checked_over : (tells : Telling) (caller text : List ℕ) (name : Option (List ℕ)) (old new : Ledger) (had holds : Option (List ℕ)) (status : ExitStatus) (past : History)
-    → name ≡ named caller → BooksStand old past → OnlyLooks old new → Checks tells name (speaking_lines text) (facts_of past) status had holds
-    → LooksOver tells caller text new had holds status past
-checked_over tells caller text name old new had holds status past is stand looks checks =
-    let P : Option (List ℕ) → Type 0 = λ n. Checks tells n (speaking_lines text) (facts_of past) status had holds in
+pub checked_over : (reports : Reporting) (caller text : List ℕ) (name : Option (List ℕ)) (old new : Ledger) (had holds : Option (List ℕ)) (status : ExitStatus) (past : History)
+    → name ≡ named caller → BooksStand old past → OnlyLooks old new → Checks reports name (speaking_lines text) (facts_of past) status had holds
+    → LooksOver reports caller text new had holds status past
+checked_over reports caller text name old new had holds status past is stand looks checks =
+    let P : Option (List ℕ) → Type 0 = λ n. Checks reports n (speaking_lines text) (facts_of past) status had holds in
     record { checks = subst P is checks; stand = still_stand old new past looks stand }
 
 pub looks_read : {T : Type 0} (old new : Ledger) (result : Result T BooksFault) → OnlyReads old new result → OnlyLooks old new

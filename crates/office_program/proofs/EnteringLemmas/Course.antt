@@ -17,22 +17,22 @@ use Rattle.office_rounds.specs.Rounds.{RoundState}
 use Rattle.office_program.specs.declared.entering.progress.Progress.{Progress}
 use Rattle.office_program.specs.Entering.Course.{AreAnswered, AreTaken, AreTimed, Came, Comes, EntersLine, IsUntouched, Taken, Takes, TakesLine, came_text, history_with, lines_with, progress_of, text_after}
 use Rattle.office_program.specs.Entering.Entered.{EntersLines, IsStopped, status_of}
-use Rattle.office_program.specs.Entering.Lines.{Telling}
+use Rattle.office_program.specs.Entering.Lines.{Reporting}
 
 -- The progress of entering an input, when the lines `rest` remain to be entered.
-pub record Underway {B : Type 0} (ledger : B → Ledger) (tells : Telling) (caller : Option (List ℕ)) (lines rest : List Line) (past : History) (first : ℕ)
+pub record Underway {B : Type 0} (ledger : B → Ledger) (reports : Reporting) (caller : Option (List ℕ)) (lines rest : List Line) (past : History) (first : ℕ)
     (begun now : RoundState) (progress : Progress) (office : Office B) : Type 0 where
   pub taken : List Taken
-  pub are : AreTaken ledger tells caller past first begun now office taken
+  pub are : AreTaken ledger reports caller past first begun now office taken
   pub follow : lines ≡ lines_with taken rest
   pub printed : Appends begun.printed now.printed (text_after past taken)
   pub come : progress ≡ progress_of first taken
 
 -- The progress before the first line of an input.
-pub begins : {B : Type 0} (ledger : B → Ledger) (tells : Telling) (caller : Option (List ℕ)) (lines rest : List Line) (past : History) (first : ℕ)
+pub begins : {B : Type 0} (ledger : B → Ledger) (reports : Reporting) (caller : Option (List ℕ)) (lines rest : List Line) (past : History) (first : ℕ)
     (begun : RoundState) (progress : Progress) (office : Office B) → Stands ledger past office → rest ≡ lines → progress ≡ progress_of first []
-    → Underway ledger tells caller lines rest past first begun begun progress office
-begins ledger tells caller lines rest past first begun progress office stands is come = record {
+    → Underway ledger reports caller lines rest past first begun begun progress office
+begins ledger reports caller lines rest past first begun progress office stands is come = record {
   taken = [];
   are = record { stands = stands; each = tt; answered = refl; timed = refl };
   follow = sym is;
@@ -41,40 +41,40 @@ begins ledger tells caller lines rest past first begun progress office stands is
 }
 
 -- The progress after one more processed line of an input.
-adds : {B : Type 0} (ledger : B → Ledger) (tells : Telling) (caller : Option (List ℕ)) (past : History) (first : ℕ) (begun was now : RoundState)
-    (old new : Office B) (taken : List Taken) (line : Line) (came : Came) → AreTaken ledger tells caller past first begun was old taken → Comes tells caller (history_with past taken) line.text came
+adds : {B : Type 0} (ledger : B → Ledger) (reports : Reporting) (caller : Option (List ℕ)) (past : History) (first : ℕ) (begun was now : RoundState)
+    (old new : Office B) (taken : List Taken) (line : Line) (came : Came) → AreTaken ledger reports caller past first begun was old taken → Comes reports caller (history_with past taken) line.text came
     → Takes ledger (history_with past taken) (progress_of first taken).latest was now new came
-    → AreTaken ledger tells caller past first begun now new (record { line = line; came = came } ∷ taken)
-adds ledger tells caller past first begun was now old new taken line came are comes takes = record {
+    → AreTaken ledger reports caller past first begun now new (record { line = line; came = came } ∷ taken)
+adds ledger reports caller past first begun was now old new taken line came are comes takes = record {
   stands = takes.stands;
   each = (comes, are.each);
   answered = (was.failures, are.answered, takes.answered);
   timed = (was.moments, are.timed, takes.timed);
 }
 
-pub one_more : {B : Type 0} (ledger : B → Ledger) (tells : Telling) (caller : Option (List ℕ)) (lines rest left : List Line) (past : History) (first : ℕ)
+pub one_more : {B : Type 0} (ledger : B → Ledger) (reports : Reporting) (caller : Option (List ℕ)) (lines rest left : List Line) (past : History) (first : ℕ)
     (begun was now : RoundState) (progress next : Progress) (old new : Office B) (line : Line)
-    → (under : Underway ledger tells caller lines rest past first begun was progress old) → rest ≡ line ∷ left
-    → EntersLine ledger tells caller line (history_with past under.taken) progress was now old new (Ok next)
-    → Underway ledger tells caller lines left past first begun now next new
-one_more {B = B} ledger tells caller lines rest left past first begun was now progress next old new line under is enters =
+    → (under : Underway ledger reports caller lines rest past first begun was progress old) → rest ≡ line ∷ left
+    → EntersLine ledger reports caller line (history_with past under.taken) progress was now old new (Ok next)
+    → Underway ledger reports caller lines left past first begun now next new
+one_more {B = B} ledger reports caller lines rest left past first begun was now progress next old new line under is enters =
     let taken = under.taken in
     let history = history_with past taken in
-    let P : Progress → Type 0 = λ p. EntersLine ledger tells caller line history p was now old new (Ok next) in
+    let P : Progress → Type 0 = λ p. EntersLine ledger reports caller line history p was now old new (Ok next) in
     let done = subst P under.come enters in
     record {
       taken = record { line = line; came = done.0 } ∷ taken;
-      are = adds ledger tells caller past first begun was now old new taken line done.0 under.are done.1 done.2.takes;
+      are = adds ledger reports caller past first begun was now old new taken line done.0 under.are done.1 done.2.takes;
       follow = under.follow ∙ ap (lines_with taken) is;
       printed = Appends-trans begun.printed was.printed now.printed (text_after past taken) (came_text history done.0) under.printed done.2.text;
       come = done.2.next;
     }
 
 -- After an input line that made no request, the progress of the input is unchanged.
-untouched : {B : Type 0} (ledger : B → Ledger) (tells : Telling) (caller : Option (List ℕ)) (past : History) (first : ℕ) (begun was now : RoundState)
-    (old new : Office B) (taken : List Taken) → AreTaken ledger tells caller past first begun was old taken → IsUntouched was now old new
-    → AreTaken ledger tells caller past first begun now new taken
-untouched {B = B} ledger tells caller past first begun was now old new taken are stays =
+untouched : {B : Type 0} (ledger : B → Ledger) (reports : Reporting) (caller : Option (List ℕ)) (past : History) (first : ℕ) (begun was now : RoundState)
+    (old new : Office B) (taken : List Taken) → AreTaken ledger reports caller past first begun was old taken → IsUntouched was now old new
+    → AreTaken ledger reports caller past first begun now new taken
+untouched {B = B} ledger reports caller past first begun was now old new taken are stays =
     let P : Office B → Type 0 = λ o. Stands ledger (history_with past taken) o in
     let Q : Failures → Type 0 = λ n. AreAnswered past begun.failures n taken in
     let R : Option (List ℕ) → Type 0 = λ m. AreTimed first begun.moments m taken in
@@ -96,33 +96,33 @@ then_nothing a b c x whole none =
     (x ++ [], [], sym (append-nil x) ∙ sym (append-nil (x ++ [])), Appends-trans a b c x [] whole none)
 
 -- If a line is bad or the command is broken off, then entering the input ends early.
-pub ends_early : {B : Type 0} (ledger : B → Ledger) (tells : Telling) (caller : Option (List ℕ)) (lines rest left : List Line) (past : History) (first : ℕ)
+pub ends_early : {B : Type 0} (ledger : B → Ledger) (reports : Reporting) (caller : Option (List ℕ)) (lines rest left : List Line) (past : History) (first : ℕ)
     (begun was now : RoundState) (progress : Progress) (old new : Office B) (line : Line) (status : ExitStatus)
-    → (under : Underway ledger tells caller lines rest past first begun was progress old) → rest ≡ line ∷ left
-    → EntersLine ledger tells caller line (history_with past under.taken) progress was now old new (Err status)
-    → EntersLines ledger tells caller lines first begun now new status past
-ends_early ledger tells caller lines rest left past first begun was now progress old new line Fine under is enters = absurd enters
-ends_early ledger tells caller lines rest left past first begun was now progress old new line Refused under is enters =
+    → (under : Underway ledger reports caller lines rest past first begun was progress old) → rest ≡ line ∷ left
+    → EntersLine ledger reports caller line (history_with past under.taken) progress was now old new (Err status)
+    → EntersLines ledger reports caller lines first begun now new status past
+ends_early ledger reports caller lines rest left past first begun was now progress old new line Fine under is enters = absurd enters
+ends_early ledger reports caller lines rest left past first begun was now progress old new line Refused under is enters =
     let taken = under.taken in
-    let stopped : IsStopped tells lines taken =
+    let stopped : IsStopped reports lines taken =
     record { line = line; rest = left; follow = under.follow ∙ ap (lines_with taken) is; bad = enters.1 } in
     record {
       taken = taken;
-      are = untouched ledger tells caller past first begun was now old new taken under.are enters.0;
+      are = untouched ledger reports caller past first begun was now old new taken under.are enters.0;
       ends = inr (inl (record {
         stopped = stopped;
         printed = Appends-trans begun.printed was.printed now.printed (text_after past taken) (bad_line line.number) under.printed enters.2;
         means = refl;
       }));
     }
-ends_early ledger tells caller lines rest left past first begun was now progress old new line Failed under is (inl cut) =
+ends_early ledger reports caller lines rest left past first begun was now progress old new line Failed under is (inl cut) =
     let taken = under.taken in
     let history = history_with past taken in
     let P : Progress → Type 0 = λ p. TakesLine {E = ExitStatus} ledger history p was now new (Err Failed) cut.0 in
     let takes = subst P under.come cut.2 in
     record {
       taken = record { line = line; came = cut.0 } ∷ taken;
-      are = adds ledger tells caller past first begun was now old new taken line cut.0 under.are cut.1 takes.takes;
+      are = adds ledger reports caller past first begun was now old new taken line cut.0 under.are cut.1 takes.takes;
       ends = inr (inr (record {
         rest = left;
         follow = under.follow ∙ ap (lines_with taken) is;
@@ -130,13 +130,13 @@ ends_early ledger tells caller lines rest left past first begun was now progress
         means = refl;
       }));
     }
-ends_early ledger tells caller lines rest left past first begun was now progress old new line Failed under is (inr (inl bad)) =
+ends_early ledger reports caller lines rest left past first begun was now progress old new line Failed under is (inr (inl bad)) =
     let taken = under.taken in
     let follows = under.follow ∙ ap (lines_with taken) is in
-    let stopped : IsStopped tells lines taken = record { line = line; rest = left; follow = follows; bad = bad.1 } in
+    let stopped : IsStopped reports lines taken = record { line = line; rest = left; follow = follows; bad = bad.1 } in
     record {
       taken = taken;
-      are = untouched ledger tells caller past first begun was now old new taken under.are bad.0;
+      are = untouched ledger reports caller past first begun was now old new taken under.are bad.0;
       ends = inr (inr (record {
         rest = line ∷ left;
         follow = follows;
@@ -144,11 +144,11 @@ ends_early ledger tells caller lines rest left past first begun was now progress
         means = refl;
       }));
     }
-ends_early ledger tells caller lines rest left past first begun was now progress old new line Failed under is (inr (inr none)) =
+ends_early ledger reports caller lines rest left past first begun was now progress old new line Failed under is (inr (inr none)) =
     let taken = under.taken in
     record {
       taken = taken;
-      are = untouched ledger tells caller past first begun was now old new taken under.are none.0;
+      are = untouched ledger reports caller past first begun was now old new taken under.are none.0;
       ends = inr (inr (record {
         rest = line ∷ left;
         follow = under.follow ∙ ap (lines_with taken) is;
@@ -158,11 +158,11 @@ ends_early ledger tells caller lines rest left past first begun was now progress
     }
 
 -- After the last line was processed, entering the input ends.
-pub ends_whole : {B : Type 0} (ledger : B → Ledger) (tells : Telling) (caller : Option (List ℕ)) (lines rest : List Line) (past : History) (first : ℕ)
+pub ends_whole : {B : Type 0} (ledger : B → Ledger) (reports : Reporting) (caller : Option (List ℕ)) (lines rest : List Line) (past : History) (first : ℕ)
     (begun now : RoundState) (progress : Progress) (office : Office B) (status : ExitStatus)
-    → Underway ledger tells caller lines rest past first begun now progress office → rest ≡ [] → status ≡ status_of progress
-    → EntersLines ledger tells caller lines first begun now office status past
-ends_whole ledger tells caller lines rest past first begun now progress office status under is means = record {
+    → Underway ledger reports caller lines rest past first begun now progress office → rest ≡ [] → status ≡ status_of progress
+    → EntersLines ledger reports caller lines first begun now office status past
+ends_whole ledger reports caller lines rest past first begun now progress office status under is means = record {
   taken = under.taken;
   are = under.are;
   ends = inl (record {

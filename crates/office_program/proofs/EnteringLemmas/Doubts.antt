@@ -20,7 +20,7 @@ use Rattle.office_books.specs.declared.failures.Failures.{Failures}
 use Rattle.office_core.specs.Asking.{IsRowFound}
 use Rattle.office_core.specs.Failing.{IsOutside}
 use Rattle.office_core.specs.declared.office.Office.{Office}
-use Rattle.office_program.specs.Entering.Doubts.{IsDoubtTold, doubt_of, doubted_at, doubted_in, repeat_in}
+use Rattle.office_program.specs.Entering.Doubts.{IsDoubtReported, doubt_of, doubted_at, doubted_in, repeat_in}
 use Rattle.office_program.specs.Entering.Marks.{is_marked}
 
 -- The energy from count `raw` to count `up_to - 1` equals the energy of `up_to - raw - 1` counts.
@@ -42,20 +42,20 @@ within_is energy seconds load ceiling up_to less raw unit moment at energy_is le
 -- ---- The office's answer to the query for a meter with a doubted entry
 
 pub row_found : {T : Type 0} (found : Option T) (before after : Failures) (x : T) → IsRowFound found before after (Ok x) → (found ≡ Some x) × (after ≡ before)
-row_found None before after x (inl told) = let never = told.0 in absurd (cc never)
-row_found (Some y) before after x (inl told) = let same = told.0 in (cc same, told.1)
+row_found None before after x (inl reported) = let never = reported.0 in absurd (cc never)
+row_found (Some y) before after x (inl reported) = let same = reported.0 in (cc same, reported.1)
 row_found found before after x (inr fails) = absurd fails
 
 pub row_missing : {T : Type 0} (found : Option T) (before after : Failures) (why : Refusal) → why ≡ refusal.NotFound → IsRowFound found before after (Err why)
     → (found ≡ None) × (after ≡ before)
-row_missing None before after why is (inl told) = (refl, told.1)
-row_missing (Some y) before after why is (inl told) = let never = told.0 in absurd (cc never)
+row_missing None before after why is (inl reported) = (refl, reported.1)
+row_missing (Some y) before after why is (inl reported) = let never = reported.0 in absurd (cc never)
 row_missing found before after why is (inr fails) = absurd (subst (λ (w : Refusal). IsOutside ⊥ before after w) is fails)
 
 pub row_failed : {T : Type 0} (found : Option T) (before after : Failures) (why : Refusal) → (why ≡ refusal.NotFound → ⊥) → IsRowFound found before after (Err why)
     → IsOutside ⊥ before after why
-row_failed None before after why other (inl told) = let same = told.0 in absurd (other (cc same))
-row_failed (Some y) before after why other (inl told) = let never = told.0 in absurd (cc never)
+row_failed None before after why other (inl reported) = let same = reported.0 in absurd (other (cc same))
+row_failed (Some y) before after why other (inl reported) = let never = reported.0 in absurd (cc never)
 row_failed found before after why other (inr fails) = fails
 
 -- ---- The open meter at an accounting register
@@ -111,26 +111,26 @@ doubt_is facts at asked new unmarked =
 -- ---- The office's answer to the query whether an entry is doubted
 
 -- If the query has no failure, then the office answers whether an entry is doubted.
-pub told_on : {B : Type 0} (ledger : B → Ledger) (past : History) (before between after : Failures) (office : Office B) (doubt other : Option ℕ)
-    (result : Result (Option ℕ) Refusal) → between ≡ before → doubt ≡ other → IsDoubtTold ledger past between after office doubt result
-    → IsDoubtTold ledger past before after office other result
-told_on ledger past before between after office doubt other result is same told =
-    let P : Failures → Type 0 = λ n. IsDoubtTold ledger past n after office doubt result in
-    let Q : Option ℕ → Type 0 = λ d. IsDoubtTold ledger past before after office d result in
-    subst Q same (subst P is told)
+pub reported_on : {B : Type 0} (ledger : B → Ledger) (past : History) (before between after : Failures) (office : Office B) (doubt other : Option ℕ)
+    (result : Result (Option ℕ) Refusal) → between ≡ before → doubt ≡ other → IsDoubtReported ledger past between after office doubt result
+    → IsDoubtReported ledger past before after office other result
+reported_on ledger past before between after office doubt other result is same reported =
+    let P : Failures → Type 0 = λ n. IsDoubtReported ledger past n after office doubt result in
+    let Q : Option ℕ → Type 0 = λ d. IsDoubtReported ledger past before after office d result in
+    subst Q same (subst P is reported)
 
-pub told_so : {B : Type 0} (ledger : B → Ledger) (past : History) (before after : Failures) (office : Office B) (doubt found : Option ℕ)
-    → IsDoubtTold ledger past before after office doubt (Ok found) → (found ≡ doubt) × (after ≡ before)
-told_so ledger past before after office doubt found is =
-    elim is.told [
-      | inl told ↦ let same = told.0 in (cc same, told.1)
+pub reported_so : {B : Type 0} (ledger : B → Ledger) (past : History) (before after : Failures) (office : Office B) (doubt found : Option ℕ)
+    → IsDoubtReported ledger past before after office doubt (Ok found) → (found ≡ doubt) × (after ≡ before)
+reported_so ledger past before after office doubt found is =
+    elim is.reported [
+      | inl reported ↦ let same = reported.0 in (cc same, reported.1)
       | inr fails ↦ absurd fails
     ]
 
-pub told_why : {B : Type 0} (ledger : B → Ledger) (past : History) (before after : Failures) (office : Office B) (doubt : Option ℕ) (why : Refusal)
-    → IsDoubtTold ledger past before after office doubt (Err why) → IsOutside ⊥ before after why
-told_why ledger past before after office doubt why is =
-    elim is.told [
-      | inl told ↦ let never = told.0 in absurd (cc never)
+pub reported_why : {B : Type 0} (ledger : B → Ledger) (past : History) (before after : Failures) (office : Office B) (doubt : Option ℕ) (why : Refusal)
+    → IsDoubtReported ledger past before after office doubt (Err why) → IsOutside ⊥ before after why
+reported_why ledger past before after office doubt why is =
+    elim is.reported [
+      | inl reported ↦ let never = reported.0 in absurd (cc never)
       | inr fails ↦ fails
     ]

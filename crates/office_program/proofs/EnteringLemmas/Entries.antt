@@ -21,7 +21,7 @@ use Rattle.office_program.specs.Entering.FileLines.{FileLine, IsFileLine, IsNoFi
 use Rattle.office_program.specs.Entering.Marks.{is_marked, unmarked}
 use Rattle.office_program.specs.declared.entering.read_line.ReadLine.{ReadLine}
 use Rattle.office_program.specs.Entering.ReadLines.{IsNoRead, IsRead}
-use Rattle.office_program.specs.Entering.Lines.{IsWantedEntry, ReadsCounter, ReadsEntry, ReadsFile, ReadsList, ReadsScript, ReadsUnnamed, ReadsWanted, Telling, asked_by, file_request, append_by, wanted_in}
+use Rattle.office_program.specs.Entering.Lines.{IsWantedEntry, ReadsCounter, ReadsEntry, ReadsFile, ReadsList, ReadsScript, ReadsUnnamed, ReadsWanted, Reporting, asked_by, file_request, append_by, wanted_in}
 
 -- If a line has a command, then its request has the command, and the line's bytes as stored bytes.
 pub command_wanted : (caller : Option (List ℕ)) (text kept : List ℕ) (number : ℕ) (c : Command) (want : Wanted) → want ≡ wanted.Command number c → kept ≡ text
@@ -62,27 +62,27 @@ no_script caller text Bad reads = λ said line. absurd (reads said line)
 no_script caller text Memory reads = tt
 
 -- If a line names a file, then its parsed form has the point list in the file.
-pub file_reads : (tells : Telling) (caller : Option (List ℕ)) (text bytes : List ℕ) (named : FileLine) (result : Result Entry LineFault)
-    → tells.files named.name (Some bytes) → ReadsList caller named.number named.device bytes (file_request text bytes) result
-    → ReadsFile tells caller text named result
-file_reads tells caller text bytes named (Ok entry) told reads = (bytes, told, reads)
-file_reads tells caller text bytes named (Err Bad) told reads = absurd reads
-file_reads tells caller text bytes named (Err Memory) told reads = tt
+pub file_reads : (reports : Reporting) (caller : Option (List ℕ)) (text bytes : List ℕ) (named : FileLine) (result : Result Entry LineFault)
+    → reports.files named.name (Some bytes) → ReadsList caller named.number named.device bytes (file_request text bytes) result
+    → ReadsFile reports caller text named result
+file_reads reports caller text bytes named (Ok entry) reported reads = (bytes, reported, reads)
+file_reads reports caller text bytes named (Err Bad) reported reads = absurd reads
+file_reads reports caller text bytes named (Err Memory) reported reads = tt
 
 -- If a line names a file, then the parser returns the request with the file's point list. Otherwise
 -- it returns the parsed form of a line without a file.
-pub named_reads : (tells : Telling) (caller : Option (List ℕ)) (text : List ℕ) (named : FileLine) (result : Result Entry LineFault)
-    → IsFileLine (words_of text) named → ReadsFile tells caller text named result → ReadsEntry tells caller text result
-named_reads tells caller text named (Ok entry) is reads =
-    inl (record { line = named; is = is; bytes = reads.0; told = reads.1; comes = reads.2 })
-named_reads tells caller text named (Err Bad) is reads = inl (named, is, reads)
-named_reads tells caller text named (Err Memory) is reads = tt
+pub named_reads : (reports : Reporting) (caller : Option (List ℕ)) (text : List ℕ) (named : FileLine) (result : Result Entry LineFault)
+    → IsFileLine (words_of text) named → ReadsFile reports caller text named result → ReadsEntry reports caller text result
+named_reads reports caller text named (Ok entry) is reads =
+    inl (record { line = named; is = is; bytes = reads.0; reported = reads.1; comes = reads.2 })
+named_reads reports caller text named (Err Bad) is reads = inl (named, is, reads)
+named_reads reports caller text named (Err Memory) is reads = tt
 
-pub unnamed_reads : (tells : Telling) (caller : Option (List ℕ)) (text : List ℕ) (result : Result Entry LineFault)
-    → IsNoFileLine (words_of text) → ReadsUnnamed caller text result → ReadsEntry tells caller text result
-unnamed_reads tells caller text (Ok entry) none reads = inr (none, reads)
-unnamed_reads tells caller text (Err Bad) none reads = inr (none, reads.0, reads.1)
-unnamed_reads tells caller text (Err Memory) none reads = tt
+pub unnamed_reads : (reports : Reporting) (caller : Option (List ℕ)) (text : List ℕ) (result : Result Entry LineFault)
+    → IsNoFileLine (words_of text) → ReadsUnnamed caller text result → ReadsEntry reports caller text result
+unnamed_reads reports caller text (Ok entry) none reads = inr (none, reads)
+unnamed_reads reports caller text (Err Bad) none reads = inr (none, reads.0, reads.1)
+unnamed_reads reports caller text (Err Memory) none reads = tt
 
 -- If a line has `@read`, then the parser returns its parsed form. Any other line without a file is
 -- parsed as a script's line.
@@ -106,8 +106,8 @@ list_read caller number device text request points planned spells same is =
     (planned, record { points = subst (SpellsList text) (sym same) spells; planned = is }, refl)
 
 -- If a point list could not be parsed, then its line has faulty rows.
-pub list_faulty : (caller : Option (List ℕ)) (number : ℕ) (device : Option (List ℕ)) (text request : List ℕ) (fault : ListFault) (told : List FaultyRow)
-    → fault ≡ Faults told → ExplainsList (list_faults (rows_read text)) fault → ReadsList caller number device text request (Ok (Faulty told))
-list_faulty caller number device text request fault told is explains =
-    let are : AreFaults (list_faults (rows_read text)) told = subst (ExplainsList (list_faults (rows_read text))) is explains in
+pub list_faulty : (caller : Option (List ℕ)) (number : ℕ) (device : Option (List ℕ)) (text request : List ℕ) (fault : ListFault) (reported : List FaultyRow)
+    → fault ≡ Faults reported → ExplainsList (list_faults (rows_read text)) fault → ReadsList caller number device text request (Ok (Faulty reported))
+list_faulty caller number device text request fault reported is explains =
+    let are : AreFaults (list_faults (rows_read text)) reported = subst (ExplainsList (list_faults (rows_read text))) is explains in
     ((λ none. are.1 (are.0 ∙ none)), are.0)

@@ -19,49 +19,49 @@ use Rattle.office_program.specs.declared.entering.files.Shown.{Shown}
 use Rattle.office_program.specs.declared.entering.progress.Progress.{Progress}
 use Rattle.office_program.specs.declared.entering.read_line.ReadRequest.{ReadRequest}
 use Rattle.office_program.specs.Entering.Asking.{HasAsked}
-use Rattle.office_program.specs.Entering.Lines.{Telling}
+use Rattle.office_program.specs.Entering.Lines.{Reporting}
 use Rattle.office_program.specs.Entering.ReadLines as line
 use Rattle.office_program.specs.Entering.Reading.{HasShown, IsCounterFor, IsFilled, IsReadThere, IsShownFor, repeat_of_read}
 
-pub counter_told : (tells : Telling) (facts : List Fact) (register : Option (List ℕ)) (counter : Register) (device : Device) (shown : Option Shown)
-    → option_and_then (register_of facts) register ≡ Some counter → device_of facts counter.device ≡ Some device → tells.counters device counter shown
-    → IsCounterFor tells facts register shown
-counter_told tells facts register counter device None found there told =
-    inr (inr (record { counter = counter; device = device; register_is = found; device_is = there; told = told }))
-counter_told tells facts register counter device (Some shown) found there told =
-    record { counter = counter; device = device; register_is = found; device_is = there; told = told }
+pub counter_reported : (reports : Reporting) (facts : List Fact) (register : Option (List ℕ)) (counter : Register) (device : Device) (shown : Option Shown)
+    → option_and_then (register_of facts) register ≡ Some counter → device_of facts counter.device ≡ Some device → reports.counters device counter shown
+    → IsCounterFor reports facts register shown
+counter_reported reports facts register counter device None found there reported =
+    inr (inr (record { counter = counter; device = device; register_is = found; device_is = there; reported = reported }))
+counter_reported reports facts register counter device (Some shown) found there reported =
+    record { counter = counter; device = device; register_is = found; device_is = there; reported = reported }
 
 -- If the query has no failure, then the office finds the counter's reading.
-pub read_on : {B : Type 0} (ledger : B → Ledger) (tells : Telling) (register : Option (List ℕ)) (past : History) (before between after : Failures) (office : Office B)
-    (result : Result (Option Shown) Refusal) → between ≡ before → IsReadThere ledger tells register past between after office result
-    → IsReadThere ledger tells register past before after office result
-read_on ledger tells register past before between after office result same done =
-    let P : Failures → Type 0 = λ n. IsReadThere ledger tells register past n after office result in
+pub read_on : {B : Type 0} (ledger : B → Ledger) (reports : Reporting) (register : Option (List ℕ)) (past : History) (before between after : Failures) (office : Office B)
+    (result : Result (Option Shown) Refusal) → between ≡ before → IsReadThere ledger reports register past between after office result
+    → IsReadThere ledger reports register past before after office result
+read_on ledger reports register past before between after office result same done =
+    let P : Failures → Type 0 = λ n. IsReadThere ledger reports register past n after office result in
     subst P same done
 
 -- If the store does not have a request with `@read`, then the counter is read for the request.
-pub filled : {B : Type 0} (ledger : B → Ledger) (tells : Telling) (read : ReadRequest) (register : Option (List ℕ)) (past : History) (before between after : Failures)
+pub filled : {B : Type 0} (ledger : B → Ledger) (reports : Reporting) (read : ReadRequest) (register : Option (List ℕ)) (past : History) (before between after : Failures)
     (office : Office B) (result : Result (Option Shown) Refusal) → repeat_of_read (facts_of past) read ≡ None → register ≡ line.register_of read.line
-    → between ≡ before → IsReadThere ledger tells register past between after office result → IsFilled ledger tells read past before after office result
-filled ledger tells read register past before between after office (Ok (Some shown)) new same none done =
-    let P : Option (List ℕ) → Type 0 = λ r. IsCounterFor tells (facts_of past) r (Some shown) in
-    record { stands = done.stands; told = (inr (subst P same done.told.0), done.told.1 ∙ none) }
-filled ledger tells read register past before between after office (Ok None) new same none done =
-    let P : Option (List ℕ) → Type 0 = λ r. IsCounterFor tells (facts_of past) r None in
-    record { stands = done.stands; told = ((new, subst P same done.told.0), done.told.1 ∙ none) }
-filled ledger tells read register past before between after office (Err why) new same none done =
-    let on = read_on ledger tells register past before between after office (Err why) none done in
-    record { stands = on.stands; told = on.told }
+    → between ≡ before → IsReadThere ledger reports register past between after office result → IsFilled ledger reports read past before after office result
+filled ledger reports read register past before between after office (Ok (Some shown)) new same none done =
+    let P : Option (List ℕ) → Type 0 = λ r. IsCounterFor reports (facts_of past) r (Some shown) in
+    record { stands = done.stands; reported = (inr (subst P same done.reported.0), done.reported.1 ∙ none) }
+filled ledger reports read register past before between after office (Ok None) new same none done =
+    let P : Option (List ℕ) → Type 0 = λ r. IsCounterFor reports (facts_of past) r None in
+    record { stands = done.stands; reported = ((new, subst P same done.reported.0), done.reported.1 ∙ none) }
+filled ledger reports read register past before between after office (Err why) new same none done =
+    let on = read_on ledger reports register past before between after office (Err why) none done in
+    record { stands = on.stands; reported = on.reported }
 
 -- If the request of a line with `@read` is stored, then the comparison finds the stored request.
 pub kept_read : (facts : List Fact) (read : ReadRequest) (repeat : Repeat) → repeat_of_read facts read ≡ Some repeat → is_some (repeat_of_read facts read) ≡ is_some (Some repeat)
 kept_read facts read repeat kept = ap is_some kept
 
-pub found_as : (tells : Telling) (past : History) (read : ReadRequest) (found shown : Option Shown) (before after : Failures) → found ≡ shown
-    → HasShown tells (facts_of past) read before after (Ok found) → IsShownFor tells (facts_of past) read shown × (after ≡ before)
-found_as tells past read found shown before after same told =
-    let P : Option Shown → Type 0 = λ s. IsShownFor tells (facts_of past) read s in
-    (subst P same told.0, told.1)
+pub found_as : (reports : Reporting) (past : History) (read : ReadRequest) (found shown : Option Shown) (before after : Failures) → found ≡ shown
+    → HasShown reports (facts_of past) read before after (Ok found) → IsShownFor reports (facts_of past) read shown × (after ≡ before)
+found_as reports past read found shown before after same reported =
+    let P : Option Shown → Type 0 = λ s. IsShownFor reports (facts_of past) read s in
+    (subst P same reported.0, reported.1)
 
 -- If a query has no failure, then a request after the query has the same effect as without the
 -- query.

@@ -28,7 +28,7 @@ use Rattle.office_program.specs.declared.entering.wanted.Wanted.{Wanted}
 use Rattle.office_program.specs.declared.entering.wanted.Wanted.TheVariants as wanted
 use Rattle.office_program.specs.Entering.FileLines.{FileLine}
 use Rattle.office_program.specs.Entering.Marks.{is_marked, unmarked}
-use Rattle.office_program.specs.Entering.Lines.{IsEntry, IsFileEntry, IsListEntry, IsReadEntry, IsScriptEntry, IsWantedEntry, Telling, asked_by, file_request, wanted_in}
+use Rattle.office_program.specs.Entering.Lines.{IsEntry, IsFileEntry, IsListEntry, IsReadEntry, IsScriptEntry, IsWantedEntry, Reporting, asked_by, file_request, wanted_in}
 use Rattle.office_program.specs.Entering.ReadLines.{IsNoRead, asked_at, number_of}
 use Rattle.office_program.specs.declared.entering.read_line.ReadRequest.{ReadRequest}
 use Rattle.office_program.specs.Entering.Course.{AreAnswered, AreComing, Came, Doubted, Faulty, IsCameAnswered, IsCameOf, IsShown, Taken, Undecided, Unread, history_with, lines_with, with_came}
@@ -115,23 +115,23 @@ same_unnamed caller text a b (inr first) (inr second) = same_script caller text 
 some_bytes : (a b : List ℕ) → Some a ≡ Some b → a ≡ b
 some_bytes a b h = cc h
 
-same_file : (tells : Telling) (caller : Option (List ℕ)) (text : List ℕ) (a b : Entry) → AreSteady tells → IsFileEntry tells caller text a → IsFileEntry tells caller text b
+same_file : (reports : Reporting) (caller : Option (List ℕ)) (text : List ℕ) (a b : Entry) → AreSteady reports → IsFileEntry reports caller text a → IsFileEntry reports caller text b
     → SameEntry a b
-same_file tells caller text a b steady first second =
+same_file reports caller text a b steady first second =
     let line : second.line ≡ first.line = one_line (words_of text) second.line first.line second.is first.is in
-    let P : FileLine → Type 0 = λ l. tells.files l.name (Some second.bytes) in
-    let told = subst P line second.told in
-    let bytes : second.bytes ≡ first.bytes = some_bytes second.bytes first.bytes (steady first.line.name (Some second.bytes) (Some first.bytes) told first.told) in
+    let P : FileLine → Type 0 = λ l. reports.files l.name (Some second.bytes) in
+    let reported = subst P line second.reported in
+    let bytes : second.bytes ≡ first.bytes = some_bytes second.bytes first.bytes (steady first.line.name (Some second.bytes) (Some first.bytes) reported first.reported) in
     let Q : FileLine → Type 0 = λ l. IsListEntry caller l.number l.device second.bytes (file_request text second.bytes) b in
     let R : List ℕ → Type 0 = λ bs. IsListEntry caller first.line.number first.line.device bs (file_request text bs) b in
     same_list caller first.line.number first.line.device first.bytes (file_request text first.bytes) a b first.comes
     (subst R bytes (subst Q line second.comes))
 
-same_entry : (tells : Telling) (caller : Option (List ℕ)) (text : List ℕ) (a b : Entry) → AreSteady tells → IsEntry tells caller text a → IsEntry tells caller text b → SameEntry a b
-same_entry tells caller text a b steady (inl first) (inl second) = same_file tells caller text a b steady first second
-same_entry tells caller text a b steady (inl first) (inr second) = absurd (second.0 first.line first.is)
-same_entry tells caller text a b steady (inr first) (inl second) = absurd (first.0 second.line second.is)
-same_entry tells caller text a b steady (inr first) (inr second) = same_unnamed caller text a b first.1 second.1
+same_entry : (reports : Reporting) (caller : Option (List ℕ)) (text : List ℕ) (a b : Entry) → AreSteady reports → IsEntry reports caller text a → IsEntry reports caller text b → SameEntry a b
+same_entry reports caller text a b steady (inl first) (inl second) = same_file reports caller text a b steady first second
+same_entry reports caller text a b steady (inl first) (inr second) = absurd (second.0 first.line first.is)
+same_entry reports caller text a b steady (inr first) (inl second) = absurd (first.0 second.line second.is)
+same_entry reports caller text a b steady (inr first) (inr second) = same_unnamed caller text a b first.1 second.1
 
 -- ---- Proof that the request of an accepted line is stored
 
@@ -150,10 +150,10 @@ Acted history at asked result kept why =
 acted_by : (history : History) (at : ℕ) (asked : Asked) (result : Result Answer Refusal) (kept : Option (Result CommandKind Refusal)) (why : Option Refusal)
     → result ≡ unless_kept (unless_refused (answer_of (slots_of history) (facts_of history) at (event.Asked asked)) why) kept → IsOk result
     → Acted history at asked result kept why
-acted_by history at asked result (Some (Ok kind)) why told ok = inl (kind, told, refl)
-acted_by history at asked result (Some (Err other)) why told ok = let never = rw told at ok in cc never
-acted_by history at asked result None None told ok = inr (refl, refl, told)
-acted_by history at asked result None (Some reason) told ok = let never = rw told at ok in cc never
+acted_by history at asked result (Some (Ok kind)) why reported ok = inl (kind, reported, refl)
+acted_by history at asked result (Some (Err other)) why reported ok = let never = rw reported at ok in cc never
+acted_by history at asked result None None reported ok = inr (refl, refl, reported)
+acted_by history at asked result None (Some reason) reported ok = let never = rw reported at ok in cc never
 
 not_outside : (takes_memory : Type 0) (result : Result Answer Refusal) (before after : Failures) → IsOk result → FailsOutside takes_memory before after result → ⊥
 not_outside takes_memory (Ok given) before after ok fails = fails
@@ -202,11 +202,11 @@ keeps_acted later more history one asked is goes accepted (inr new) =
 keeps_asked : (later more history : History) (one : Answered) (asked : Asked) (before after : Failures) → one.event ≡ event.Asked asked
     → later ≡ more ++ with_answer history one.at one.event one.result → AreAccepted later → IsAnswer history one.at one.event before after one.result
     → IsOk one.result → KeepsEntry later (entry.Ask asked) × GrowsTo later history
-keeps_asked later more history one asked before after is goes accepted (inl told) ok =
+keeps_asked later more history one asked before after is goes accepted (inl reported) ok =
     let P : Event → Type 0 = λ e. later ≡ more ++ with_answer history one.at e one.result in
     let Q : Event → Type 0 = λ e. one.result ≡ decision_of history one.at e in
     keeps_acted later more history one asked is (subst P is goes) accepted
-    (acted_by history one.at asked one.result (kept_of (facts_of history) (event.Asked asked)) (refusal_of history one.at (event.Asked asked)) (subst Q is told.0) ok)
+    (acted_by history one.at asked one.result (kept_of (facts_of history) (event.Asked asked)) (refusal_of history one.at (event.Asked asked)) (subst Q is reported.0) ok)
 keeps_asked later more history one asked before after is goes accepted (inr fails) ok = absurd (not_outside (IsAccepted history one.at one.event) one.result before after ok fails)
 
 keeps_same : (facts : List Fact) (asked again : Asked) (kind : CommandKind) → IsSameRequest asked again → Keeps facts asked kind → Keeps facts again kind
@@ -252,13 +252,13 @@ repeats_by later (entry.Read x) (entry.Faulty rows) same kept = absurd same
 repeats_by later (entry.Read x) (entry.Ask y) same kept = absurd same
 repeats_by later (entry.Faulty rows) b same kept = absurd kept
 
-abbrev LineKept : Telling → (caller : Option (List ℕ)) → History → Line → Type 0
-LineKept tells caller later line = (e : Entry) → IsEntry tells caller line.text e → KeepsEntry later e
+abbrev LineKept : Reporting → (caller : Option (List ℕ)) → History → Line → Type 0
+LineKept reports caller later line = (e : Entry) → IsEntry reports caller line.text e → KeepsEntry later e
 
-line_kept : (tells : Telling) (caller : Option (List ℕ)) (later : History) (line : Line) (e : Entry) → AreSteady tells → IsEntry tells caller line.text e
-    → KeepsEntry later e → LineKept tells caller later line
-line_kept tells caller later line e steady is kept = λ other again.
-    repeats_by later e other (same_entry tells caller line.text e other steady is again) kept
+line_kept : (reports : Reporting) (caller : Option (List ℕ)) (later : History) (line : Line) (e : Entry) → AreSteady reports → IsEntry reports caller line.text e
+    → KeepsEntry later e → LineKept reports caller later line
+line_kept reports caller later line e steady is kept = λ other again.
+    repeats_by later e other (same_entry reports caller line.text e other steady is again) kept
 
 abbrev EachLine : (Line → Type 0) → List Line → Type 0
 EachLine P [] = Unit {0}
@@ -276,15 +276,15 @@ each_out : (P : Line → Type 0) (again : List Taken) (rest : List Line) → Eac
 each_out P [] rest all = (tt, all)
 each_out P (two ∷ earlier) rest all = let more = each_out P earlier (two.line ∷ rest) all in ((more.1.0, more.0), more.1.1)
 
-each_kept : (tells : Telling) (caller : Option (List ℕ)) (taken : List Taken) (past later more : History) (before after : Failures) → AreSteady tells
-    → later ≡ more ++ history_with past taken → AreAccepted later → AreComing tells caller past taken → AreAnswered past before after taken → HaveActed taken
-    → EachTaken (LineKept tells caller later) taken
-each_kept tells caller [] past later more before after steady goes accepted are answered acted = tt
-each_kept tells caller (one ∷ earlier) past later more before after steady goes accepted are answered acted =
+each_kept : (reports : Reporting) (caller : Option (List ℕ)) (taken : List Taken) (past later more : History) (before after : Failures) → AreSteady reports
+    → later ≡ more ++ history_with past taken → AreAccepted later → AreComing reports caller past taken → AreAnswered past before after taken → HaveActed taken
+    → EachTaken (LineKept reports caller later) taken
+each_kept reports caller [] past later more before after steady goes accepted are answered acted = tt
+each_kept reports caller (one ∷ earlier) past later more before after steady goes accepted are answered acted =
     let comes = are.0 in
     let here = keeps_entry later more (history_with past earlier) comes.entry one.came answered.0 after comes.comes goes accepted answered.2 acted.0 in (
-      line_kept tells caller later one.line comes.entry steady comes.is here.0,
-      each_kept tells caller earlier past later here.1.0 before answered.0 steady here.1.1 accepted are.1 answered.1 acted.1,
+      line_kept reports caller later one.line comes.entry steady comes.is here.0,
+      each_kept reports caller earlier past later here.1.0 before answered.0 steady here.1.1 accepted are.1 answered.1 acted.1,
     )
 
 -- ---- Proof that a line that is entered again does not act
@@ -310,10 +310,10 @@ without_memory takes_memory before after (Err why) none fails = outside_more tak
 stays_asked : (later : History) (one : Answered) (asked : Asked) (kind : CommandKind) (before after : Failures) → one.event ≡ event.Asked asked
     → Keeps (facts_of later) asked kind → IsAnswer later one.at one.event before after one.result
     → (with_answer later one.at one.event one.result ≡ later) × IsRepeated one.result
-stays_asked later one asked kind before after is keeps (inl told) =
+stays_asked later one asked kind before after is keeps (inl reported) =
     let Q : Event → Type 0 = λ e. decision_of later one.at e ≡ Ok (answer.Again kind) in
     let decision = subst Q (sym is) (decided later one.at (event.Asked asked) kind (answers (facts_of later) asked asked kind refl refl refl keeps)) in
-    let again : one.result ≡ Ok (answer.Again kind) = told.0 ∙ decision in
+    let again : one.result ≡ Ok (answer.Again kind) = reported.0 ∙ decision in
     (ap (with_answer later one.at one.event) again, inl (kind, again))
 stays_asked later one asked kind before after is keeps (inr fails) =
     let none = not_accepted later one.at one.event asked kind is keeps in
@@ -332,47 +332,47 @@ not_doubted facts at asked request kind mwh is keeps doubt =
 kept_repeat : (facts : List Fact) (asked : Asked) (kind : CommandKind) → Keeps facts asked kind → (repeat : Repeat) × (repeat_in facts asked ≡ Some repeat)
 kept_repeat facts asked kind keeps = (as_repeat asked.request keeps.reply, rw (keeps.named, keeps.found) refl)
 
-stays_one : (tells : Telling) (later : History) (e : Entry) (came : Came) (before after : Failures) → IsCameOf e came → IsShown tells (facts_of later) e came
+stays_one : (reports : Reporting) (later : History) (e : Entry) (came : Came) (before after : Failures) → IsCameOf e came → IsShown reports (facts_of later) e came
     → KeepsEntry later e → IsCameAnswered later before after came → (with_came later came ≡ later) × HasRepeated came
-stays_one tells later (entry.Ask asked) (course.Asked one) before after is shown kept answered =
+stays_one reports later (entry.Ask asked) (course.Asked one) before after is shown kept answered =
     stays_asked later one asked kept.0 before after (is.2 ∙ ap event.Asked is.1) kept.1 answered.answer
-stays_one tells later (entry.Ask asked) (Faulty rows) before after is shown kept answered = absurd is
-stays_one tells later (entry.Ask asked) (Doubted at request mwh) before after is shown kept answered =
+stays_one reports later (entry.Ask asked) (Faulty rows) before after is shown kept answered = absurd is
+stays_one reports later (entry.Ask asked) (Doubted at request mwh) before after is shown kept answered =
     absurd (not_doubted (facts_of later) at asked request kept.0 mwh is kept.1 answered.0)
-stays_one tells later (entry.Ask asked) (Undecided at request why) before after is shown kept answered = (refl, (before, after, answered))
-stays_one tells later (entry.Ask asked) (Unread at read) before after is shown kept answered = absurd is
-stays_one tells later (entry.Read read) (course.Asked one) before after is shown kept answered =
+stays_one reports later (entry.Ask asked) (Undecided at request why) before after is shown kept answered = (refl, (before, after, answered))
+stays_one reports later (entry.Ask asked) (Unread at read) before after is shown kept answered = absurd is
+stays_one reports later (entry.Read read) (course.Asked one) before after is shown kept answered =
     let asked = asked_at read is.1.0 is.1.1 in
     stays_asked later one asked kept.0 before after (is.2 ∙ ap event.Asked is.1.2)
     (keeps_same (facts_of later) (asked_like read) asked kept.0 (unlike read is.1.0 is.1.1) kept.1) answered.answer
-stays_one tells later (entry.Read read) (Faulty rows) before after is shown kept answered = absurd is
-stays_one tells later (entry.Read read) (Doubted at request mwh) before after is shown kept answered =
+stays_one reports later (entry.Read read) (Faulty rows) before after is shown kept answered = absurd is
+stays_one reports later (entry.Read read) (Doubted at request mwh) before after is shown kept answered =
     let asked = asked_at read is.0 is.1 in
     absurd (not_doubted (facts_of later) at asked request kept.0 mwh is.2
     (keeps_same (facts_of later) (asked_like read) asked kept.0 (unlike read is.0 is.1) kept.1) answered.0)
-stays_one tells later (entry.Read read) (Undecided at request why) before after is shown kept answered = (refl, (before, after, answered))
-stays_one tells later (entry.Read read) (Unread at tried) before after is shown kept answered =
+stays_one reports later (entry.Read read) (Undecided at request why) before after is shown kept answered = (refl, (before, after, answered))
+stays_one reports later (entry.Read read) (Unread at tried) before after is shown kept answered =
     let repeat = kept_repeat (facts_of later) (asked_like read) kept.0 kept.1 in
     let never : (let o : Option Repeat = None in o) ≡ Some repeat.0 = sym shown.0 ∙ repeat.1 in
     absurd (cc never)
-stays_one tells later (entry.Faulty rows) came before after is shown kept answered = absurd kept
+stays_one reports later (entry.Faulty rows) came before after is shown kept answered = absurd kept
 
-stays : (tells : Telling) (caller : Option (List ℕ)) (later : History) (again : List Taken) (before after : Failures) → EachTaken (LineKept tells caller later) again
-    → AreComing tells caller later again → AreAnswered later before after again → ActsNoMore later again
-stays tells caller later [] before after kept are answered = record { same = refl; repeated = tt }
-stays tells caller later (two ∷ earlier) before after kept are answered =
-    let rest = stays tells caller later earlier before answered.0 kept.1 are.1 answered.1 in
+stays : (reports : Reporting) (caller : Option (List ℕ)) (later : History) (again : List Taken) (before after : Failures) → EachTaken (LineKept reports caller later) again
+    → AreComing reports caller later again → AreAnswered later before after again → ActsNoMore later again
+stays reports caller later [] before after kept are answered = record { same = refl; repeated = tt }
+stays reports caller later (two ∷ earlier) before after kept are answered =
+    let rest = stays reports caller later earlier before answered.0 kept.1 are.1 answered.1 in
     let P : History → Type 0 = λ h. IsCameAnswered h answered.0 after two.came in
     let comes = are.0 in
-    let Q : History → Type 0 = λ h. IsShown tells (facts_of h) comes.entry two.came in
-    let here = stays_one tells later comes.entry two.came answered.0 after comes.comes (subst Q rest.same comes.shown) (kept.0 comes.entry comes.is)
+    let Q : History → Type 0 = λ h. IsShown reports (facts_of h) comes.entry two.came in
+    let here = stays_one reports later comes.entry two.came answered.0 after comes.comes (subst Q rest.same comes.shown) (kept.0 comes.entry comes.is)
     (subst P rest.same answered.2) in
     record { same = ap (λ (h : History). with_came h two.came) rest.same ∙ here.0; repeated = (here.1, rest.repeated) }
 
-pub inputs_act_once : (tells : Telling) → AreSteady tells → InputsActOnce tells
-inputs_act_once tells steady caller lines past later taken again entered enters =
-    let P : Line → Type 0 = LineKept tells caller later in
-    let kept = each_kept tells caller taken past later enters.more entered.before entered.after steady enters.later_is enters.accepted entered.are entered.answered entered.acted in
+pub inputs_act_once : (reports : Reporting) → AreSteady reports → InputsActOnce reports
+inputs_act_once reports steady caller lines past later taken again entered enters =
+    let P : Line → Type 0 = LineKept reports caller later in
+    let kept = each_kept reports caller taken past later enters.more entered.before entered.after steady enters.later_is enters.accepted entered.are entered.answered entered.acted in
     let all : EachLine P lines = subst (EachLine P) (sym entered.whole) (each_in P taken [] kept tt) in
     let part = each_out P again enters.rest (subst (EachLine P) enters.part all) in
-    stays tells caller later again enters.before enters.after part.0 enters.are enters.answered
+    stays reports caller later again enters.before enters.after part.0 enters.are enters.answered

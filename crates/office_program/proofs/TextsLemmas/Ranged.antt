@@ -16,7 +16,7 @@ use Rattle.office_core.specs.DayRange.{HandsDaysWithin}
 use Rattle.office_events.specs.declared.refusals.Refusal.{Refusal}
 use Rattle.office_rules.specs.History.{History, facts_of}
 use Rattle.script_text.specs.AnswerText.{refused_line}
-use Rattle.office_program.specs.Texts.EndTexts.{IsTold}
+use Rattle.office_program.specs.Texts.EndTexts.{IsReported}
 use Rattle.office_program.specs.Texts.RangedReports.{IsRangedReport, PrintsRest}
 use Rattle.office_program.specs.Texts.Reports.{meant_by}
 
@@ -35,10 +35,10 @@ taken_all contents days (day ∷ more) from at to has took =
     subst P (append_assoc days (day ∷ []) more)
     (taken_all contents (days ++ day ∷ []) more from took.0 to (took.1.taken from days has) took.2)
 
-told_by : (failed : Bool) (status : ExitStatus) (text : List ℕ) (old new : Option (List ℕ)) → status ≡ (if failed then Failed else Fine)
-    → GotUnless failed text old new → IsTold text Fine status old new
-told_by false status text old new is got = inl (is, got)
-told_by true status text old new is got = inr (is, got)
+reported_by : (failed : Bool) (status : ExitStatus) (text : List ℕ) (old new : Option (List ℕ)) → status ≡ (if failed then Failed else Fine)
+    → GotUnless failed text old new → IsReported text Fine status old new
+reported_by false status text old new is got = inl (is, got)
+reported_by true status text old new is got = inr (is, got)
 
 -- If the office passed the days of a range to the writer of a report, then the report's text was
 -- printed. If the report was refused, the refusal was printed.
@@ -48,17 +48,17 @@ pub printed : {W : Type 0} (contents : W → Option (List ℕ)) (zone : Zone) (p
     → HandsDaysWithin (TakesDay contents) zone (facts_of past) register form.range before after from to reply
     → PrintsRest contents reply status to left
     → (text : List ℕ) × IsRangedReport zone past register form reply text
-    × IsTold text (meant_by reply) status (contents output) (contents left.output.now)
+    × IsReported text (meant_by reply) status (contents output) (contents left.output.now)
 printed {W} contents zone past register form before after from to left output status (Ok done) fresh hands rest =
     let days = hands.whole.days in
     let taken = taken_all contents [] days from from to fresh.taken hands.whole.took in
     let got = rest.finishes.finished from days taken hands.whole.few in
-    let told = told_by left.failed status (report_text from.form days) (contents from.output.now) (contents left.output.now) rest.means got in
-    (report_text form days, (days, hands.whole.are, refl), rw (sym fresh.form, sym fresh.output) told)
+    let reported = reported_by left.failed status (report_text from.form days) (contents from.output.now) (contents left.output.now) rest.means got in
+    (report_text form days, (days, hands.whole.are, refl), rw (sym fresh.form, sym fresh.output) reported)
 printed {W} contents zone past register form before after from to left output status (Err why) fresh hands rest =
     let same : to.output.now ≡ output = ap (λ (rows : ReportRows W). rows.output.now) hands.none ∙ fresh.output in
-    let P : W → Type 0 = λ w. IsTold (refused_line why) Refused status (contents w) (contents left.output.now) in
-    (refused_line why, refl, subst P same rest.told)
+    let P : W → Type 0 = λ w. IsReported (refused_line why) Refused status (contents w) (contents left.output.now) in
+    (refused_line why, refl, subst P same rest.reported)
 
 -- While the days of a report are written, the writer of the report remains the same writer.
 taken_by : {W : Type 0} (contents : W → Option (List ℕ)) (days : List DayTotal) (from to : ReportRows W)

@@ -31,21 +31,21 @@ use Rattle.office_program.specs.declared.entering.entries.Entry.{Entry}
 use Rattle.office_program.specs.declared.entering.entries.Entry.TheVariants as entry
 use Rattle.office_program.specs.declared.entering.progress.Progress.{Progress}
 use Rattle.office_program.specs.Entering.Course.{Asked, Came, EntersLine, IsAskedAt, IsCameOf, IsShown, TakesLine, progress_after, reply_text}
-use Rattle.office_program.specs.Entering.Lines.{Telling}
+use Rattle.office_program.specs.Entering.Lines.{Reporting}
 
 -- The text that reports the office's answer to the last event. It has the notifications and the
 -- answer, or the number of the refusal.
-abbrev pub told_text : {B : Type 0} → Office B → Result Answer Refusal → List ℕ
-told_text office (Ok given) = accepted_text given (notes_in office) (outgoing_in office)
-told_text office (Err why) = refused_line why
+abbrev pub reported_text : {B : Type 0} → Office B → Result Answer Refusal → List ℕ
+reported_text office (Ok given) = accepted_text given (notes_in office) (outgoing_in office)
+reported_text office (Err why) = refused_line why
 
 -- True if the message for a bad input line was printed, or a part of the message if the write
 -- failed. If memory ran out, nothing was printed.
-abbrev pub TellsFault : LineFault → (number : ℕ) → ExitStatus → (old new : Option (List ℕ)) → Type 0
-TellsFault Bad number Refused old new = Appends old new (bad_line number)
-TellsFault Bad number Failed old new = GotPart (bad_line number) old new
-TellsFault Memory number Failed old new = Appends old new []
-TellsFault _ number _ old new = ⊥
+abbrev pub ReportsFault : LineFault → (number : ℕ) → ExitStatus → (old new : Option (List ℕ)) → Type 0
+ReportsFault Bad number Refused old new = Appends old new (bad_line number)
+ReportsFault Bad number Failed old new = GotPart (bad_line number) old new
+ReportsFault Memory number Failed old new = Appends old new []
+ReportsFault _ number _ old new = ⊥
 
 -- True if the event was fed to the office at timestamp `at` and the answer was printed. If the
 -- write failed, a part of the answer was printed.
@@ -69,28 +69,28 @@ AsksAt b w at e progress old new had holds result = After b.ledger old new (λ p
 
 -- True if the reason why an input line makes no request was printed, or a part of the reason if the
 -- write failed.
-pub record TellsWhyNot (line : List ℕ) (at : ℕ) (had holds : Option (List ℕ))
+pub record ReportsWhyNot (line : List ℕ) (at : ℕ) (had holds : Option (List ℕ))
     (result : Result Progress Error) : Type 0 where
   pub text : GotText result line had holds
   pub next : IfOk result (λ next. next ≡ record { latest = at; refused = true })
 
 -- True if the input line was processed and its outcome was printed, whether or not it made a
 -- request. If the write failed, a part of the outcome was printed.
-pub record HasCome {B : Type 0} (ledger : B → Ledger) (tells : Telling) (entry : Entry)
+pub record HasCome {B : Type 0} (ledger : B → Ledger) (reports : Reporting) (entry : Entry)
     (past : History) (progress : Progress) (begun now : RoundState) (office : Office B)
     (result : Result Progress Error) : Type 0 where
   pub came : Came
   pub comes : IsCameOf entry came
-  pub shown : IsShown tells (facts_of past) entry came
+  pub shown : IsShown reports (facts_of past) entry came
   pub takes : TakesLine {E = Error} ledger past progress begun now office result came
 
 -- True if `HasCome` holds for every history of the office and every reading of the clock, if `at`
 -- is the line's timestamp.
-abbrev pub EntersAt : {B W : Type 0} → stores.Ghosts B → writers.Ghosts W → Telling → Entry
+abbrev pub EntersAt : {B W : Type 0} → stores.Ghosts B → writers.Ghosts W → Reporting → Entry
     → Progress → (at : ℕ) → (old new : Office B) → (had holds : W) → Result Progress Error → Type 0
-EntersAt b w tells entry progress at old new had holds result = (moments later : Option (List ℕ))
+EntersAt b w reports entry progress at old new had holds result = (moments later : Option (List ℕ))
     → IsAskedAt progress.latest moments later at → After b.ledger old new (λ past.
-    HasCome b.ledger tells entry past progress
+    HasCome b.ledger reports entry past progress
     (round_state (w.contents had) moments (failures_of b.ledger old))
     (round_state (w.contents holds) later (failures_of b.ledger new)) new result)
 
@@ -115,16 +115,16 @@ AsksTimed b w request progress at old new had holds result = (moments later : Op
 module _ {B C W : Type 0} (b : stores.Ghosts B) (c : clocks.Ghosts C) (w : writers.Ghosts W) where
   -- True if the input line with the parsed form `entry` was processed and its outcome was printed.
   -- The line may have made a request or not.
-  abbrev pub EntersEntry : Telling → Entry → Progress → (old new : Office B) → (before after : C)
+  abbrev pub EntersEntry : Reporting → Entry → Progress → (old new : Office B) → (before after : C)
       → (had holds : W) → Result Progress Error → Type 0
-  EntersEntry tells entry progress old new before after had holds result = After b.ledger old new
-      (λ past. HasCome b.ledger tells entry past progress
+  EntersEntry reports entry progress old new before after had holds result = After b.ledger old new
+      (λ past. HasCome b.ledger reports entry past progress
       (desk_of b c w old before had) (desk_of b c w new after holds) new result)
 
   -- True if the next line of the input was processed, or the next line is bad and the command ends.
-  abbrev pub EntersNext : Telling → (caller : Option (List ℕ)) → Line → Progress
+  abbrev pub EntersNext : Reporting → (caller : Option (List ℕ)) → Line → Progress
       → (old new : Office B) → (before after : C) → (had holds : W) → Result Progress ExitStatus
       → Type 0
-  EntersNext tells caller line progress old new before after had holds result =
-      After b.ledger old new (λ past. EntersLine b.ledger tells caller line past progress
+  EntersNext reports caller line progress old new before after had holds result =
+      After b.ledger old new (λ past. EntersLine b.ledger reports caller line past progress
       (desk_of b c w old before had) (desk_of b c w new after holds) old new result)

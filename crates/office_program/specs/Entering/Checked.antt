@@ -26,7 +26,7 @@ use Rattle.office_program.specs.declared.entering.checking.Look.TheVariants as l
 use Rattle.office_program.specs.declared.entering.entries.Entry.{Entry}
 use Rattle.office_program.specs.declared.entering.entries.Entry.TheVariants as entry
 use Rattle.office_program.specs.Entering.Course as course
-use Rattle.office_program.specs.Entering.Lines.{IsBad, IsEntry, MayAsk, Telling}
+use Rattle.office_program.specs.Entering.Lines.{IsBad, IsEntry, MayAsk, Reporting}
 
 -- ---- The result of looking up a request in the store
 
@@ -75,27 +75,27 @@ KnowsRequest old new asked what =
 
 -- True for the result of checking an input line. The result is the stored state of its request, the
 -- faulty rows of its point list, or that the line is bad.
-abbrev pub IsLook : Telling → (caller : Option (List ℕ)) → (text : List ℕ) → List Fact → Look
+abbrev pub IsLook : Reporting → (caller : Option (List ℕ)) → (text : List ℕ) → List Fact → Look
     → Type 0
-IsLook tells caller text facts (look.Known what) =
-    (e : Entry) × IsEntry tells caller text e
+IsLook reports caller text facts (look.Known what) =
+    (e : Entry) × IsEntry reports caller text e
     × (asked : Asked) × MayAsk e asked × IsKnown facts asked what
-IsLook tells caller text facts (look.Faulty rows) = IsEntry tells caller text (entry.Faulty rows)
-IsLook tells caller text facts look.Bad = IsBad tells text
+IsLook reports caller text facts (look.Faulty rows) = IsEntry reports caller text (entry.Faulty rows)
+IsLook reports caller text facts look.Bad = IsBad reports text
 
 -- True if on `Ok` the result is the result of checking the line. If memory ran out, nothing is
 -- known of the line.
-abbrev pub FindsLook : Telling → (caller : Option (List ℕ)) → (text : List ℕ) → List Fact
+abbrev pub FindsLook : Reporting → (caller : Option (List ℕ)) → (text : List ℕ) → List Fact
     → Result Look AllocError → Type 0
-FindsLook tells caller text facts (Ok found) = IsLook tells caller text facts found
-FindsLook tells caller text facts (Err e) = Unit {0}
+FindsLook reports caller text facts (Ok found) = IsLook reports caller text facts found
+FindsLook reports caller text facts (Err e) = Unit {0}
 
 -- True if the result is that of checking the line against the store's records, provided that no
 -- wrong result of the store was used.
-abbrev pub LooksAt : Telling → (caller : Option (List ℕ)) → (text : List ℕ) → (old new : Ledger)
+abbrev pub LooksAt : Reporting → (caller : Option (List ℕ)) → (text : List ℕ) → (old new : Ledger)
     → Result Look AllocError → Type 0
-LooksAt tells caller text old new result = (facts : List Fact) → old.holds facts → new.is_clean
-    → FindsLook tells caller text facts result
+LooksAt reports caller text old new result = (facts : List Fact) → old.holds facts → new.is_clean
+    → FindsLook reports caller text facts result
 
 -- The text that is printed for a checked request: `new`, `again`, or the number of the refusal.
 abbrev pub known_text : Known → List ℕ
@@ -132,28 +132,28 @@ IsShown number found had holds (Ok refused) =
 IsShown number found had holds (Err status) = GotPart (look_text number found) had holds
 
 -- True if the line was checked, but a write failed, so that only a part of its text was printed.
-pub record IsCut (tells : Telling) (caller : Option (List ℕ)) (line : Line) (facts : List Fact)
+pub record IsCut (reports : Reporting) (caller : Option (List ℕ)) (line : Line) (facts : List Fact)
     (had holds : Option (List ℕ)) : Type 0 where
   pub found : Look
-  pub is : IsLook tells caller line.text facts found
+  pub is : IsLook reports caller line.text facts found
   pub part : GotPart (look_text line.number found) had holds
 
 -- True if the line was checked and its text was printed. On an error a write failed, or memory ran
 -- out and nothing was printed.
-abbrev pub IsChecked : Telling → (caller : Option (List ℕ)) → Line → List Fact
+abbrev pub IsChecked : Reporting → (caller : Option (List ℕ)) → Line → List Fact
     → (had holds : Option (List ℕ)) → Result Bool ExitStatus → Type 0
-IsChecked tells caller line facts had holds (Ok refused) =
-    (found : Look) × IsLook tells caller line.text facts found
+IsChecked reports caller line facts had holds (Ok refused) =
+    (found : Look) × IsLook reports caller line.text facts found
     × Appends had holds (look_text line.number found) × (refused ≡ is_refused found)
-IsChecked tells caller line facts had holds (Err status) =
-    IsCut tells caller line facts had holds ⊎ Appends had holds []
+IsChecked reports caller line facts had holds (Err status) =
+    IsCut reports caller line facts had holds ⊎ Appends had holds []
 
 -- True if the line was checked against the store's records, provided that no wrong result of the
 -- store was used.
-abbrev pub ChecksLine : Telling → (caller : Option (List ℕ)) → Line → (old new : Ledger)
+abbrev pub ChecksLine : Reporting → (caller : Option (List ℕ)) → Line → (old new : Ledger)
     → (had holds : Option (List ℕ)) → Result Bool ExitStatus → Type 0
-ChecksLine tells caller line old new had holds result = (facts : List Fact) → old.holds facts
-    → new.is_clean → IsChecked tells caller line facts had holds result
+ChecksLine reports caller line old new had holds result = (facts : List Fact) → old.holds facts
+    → new.is_clean → IsChecked reports caller line facts had holds result
 
 -- ---- The results of checking all lines of an input, with the latest line first
 
@@ -168,10 +168,10 @@ lines_with [] rest = rest
 lines_with (one ∷ earlier) rest = lines_with earlier (one.line ∷ rest)
 
 -- True if each checked line has the result of checking the line against the records.
-abbrev pub AreLooks : Telling → (caller : Option (List ℕ)) → List Fact → List Looked → Type 0
-AreLooks tells caller facts [] = Unit {0}
-AreLooks tells caller facts (one ∷ earlier) =
-    IsLook tells caller one.line.text facts one.found × AreLooks tells caller facts earlier
+abbrev pub AreLooks : Reporting → (caller : Option (List ℕ)) → List Fact → List Looked → Type 0
+AreLooks reports caller facts [] = Unit {0}
+AreLooks reports caller facts (one ∷ earlier) =
+    IsLook reports caller one.line.text facts one.found × AreLooks reports caller facts earlier
 
 -- The text that is printed for the checked lines, in the order of the lines.
 abbrev pub looks_text : List Looked → List ℕ
@@ -202,30 +202,30 @@ pub record IsBrokenOff (lines : List Line) (looked : List Looked) (status : Exit
 
 -- True if the lines were checked in order, to the end of the input or until the command was broken
 -- off.
-pub record Checks (tells : Telling) (caller : Option (List ℕ)) (lines : List Line)
+pub record Checks (reports : Reporting) (caller : Option (List ℕ)) (lines : List Line)
     (facts : List Fact) (status : ExitStatus) (had holds : Option (List ℕ)) : Type 0 where
   pub looked : List Looked
-  pub each : AreLooks tells caller facts looked
+  pub each : AreLooks reports caller facts looked
   pub ends : IsWhole lines looked status had holds ⊎ IsBrokenOff lines looked status had holds
 
 -- True if the input was checked against the store's records, provided that no wrong result of the
 -- store was used.
-abbrev pub ChecksText : Telling → (caller : Option (List ℕ)) → (text : List ℕ) → (old new : Ledger)
+abbrev pub ChecksText : Reporting → (caller : Option (List ℕ)) → (text : List ℕ) → (old new : Ledger)
     → (had holds : Option (List ℕ)) → ExitStatus → Type 0
-ChecksText tells caller text old new had holds status = (facts : List Fact) → old.holds facts
-    → new.is_clean → Checks tells caller (speaking_lines text) facts status had holds
+ChecksText reports caller text old new had holds status = (facts : List Fact) → old.holds facts
+    → new.is_clean → Checks reports caller (speaking_lines text) facts status had holds
 
 -- True if the input was checked over a store that records the history `past`, and the store still
 -- records `past` afterwards.
-pub record LooksOver (tells : Telling) (caller text : List ℕ) (new : Ledger)
+pub record LooksOver (reports : Reporting) (caller text : List ℕ) (new : Ledger)
     (had holds : Option (List ℕ)) (status : ExitStatus) (past : History) : Type 0 where
-  pub checks : Checks tells (named caller) (speaking_lines text) (facts_of past) status had holds
+  pub checks : Checks reports (named caller) (speaking_lines text) (facts_of past) status had holds
   pub stand : BooksStand new past
 
 -- True if `LooksOver` holds for every history that the store records, provided that no wrong result
 -- of the store was used.
-abbrev pub ChecksOver : {B : Type 0} → (B → Ledger) → Telling → (caller text : List ℕ)
+abbrev pub ChecksOver : {B : Type 0} → (B → Ledger) → Reporting → (caller text : List ℕ)
     → (books back : B) → (had holds : Option (List ℕ)) → ExitStatus → Type 0
-ChecksOver ledger tells caller text books back had holds status =
+ChecksOver ledger reports caller text books back had holds status =
     (past : History) → BooksStand (ledger books) past → (ledger back).is_clean
-    → LooksOver tells caller text (ledger back) had holds status past
+    → LooksOver reports caller text (ledger back) had holds status past

@@ -9,7 +9,7 @@ use Rattle.command_io.specs.Lines.{Line}
 use Rattle.command_io.specs.declared.status.ExitStatus.{ExitStatus}
 use Rattle.command_io.specs.declared.status.ExitStatus.TheVariants.{Fine, Refused, Failed}
 use Rattle.point_list.specs.declared.fault.FaultyRow.{FaultyRow}
-use Rattle.socket_link.specs.Clocks.{TellsMoment}
+use Rattle.socket_link.specs.Clocks.{ReportsMoment}
 use Rattle.sun_points.specs.Writing.{GotPart, GotText}
 use Rattle.script_text.specs.AnswerText.{accepted_text, bad_line, fault_line, refused_line}
 use Rattle.office_events.specs.declared.answers.Answer.{Answer}
@@ -35,7 +35,7 @@ use Rattle.office_program.specs.declared.entering.entries.Entry.TheVariants as e
 use Rattle.office_program.specs.declared.entering.progress.Progress.{Progress}
 use Rattle.office_program.specs.declared.entering.read_line.ReadRequest.{ReadRequest}
 use Rattle.office_program.specs.Entering.Doubts.{doubt_in, doubt_of}
-use Rattle.office_program.specs.Entering.Lines.{IsBad, IsEntry, MayAsk, Telling}
+use Rattle.office_program.specs.Entering.Lines.{IsBad, IsEntry, MayAsk, Reporting}
 use Rattle.office_program.specs.Entering.Reading.{AsksShown, IsShownFor}
 
 -- ---- The outcome of one input line, with its text and its timestamp
@@ -60,7 +60,7 @@ IsCameOf e (Asked one) =
     (request : Request) × MayAsk e request × (one.event ≡ event.Asked request)
 IsCameOf e (Doubted at request mwh) = MayAsk e request
 IsCameOf e (Undecided at request why) = MayAsk e request
-IsCameOf (entry.Faulty rows) (Faulty told) = told ≡ rows
+IsCameOf (entry.Faulty rows) (Faulty reported) = reported ≡ rows
 IsCameOf (entry.Read read) (Unread at tried) = tried ≡ read
 IsCameOf _ _ = ⊥
 
@@ -68,22 +68,22 @@ IsCameOf _ _ = ⊥
 -- installs the meter at this reading.
 --
 -- The accounting register and its device are those in the store's records.
-abbrev pub IsShown : Telling → List Fact → Entry → Came → Type 0
-IsShown tells facts (entry.Read read) (Asked one) =
-    (request : Request) × AsksShown tells facts read request × (one.event ≡ event.Asked request)
-IsShown tells facts (entry.Read read) (Doubted at request mwh) =
-    AsksShown tells facts read request
-IsShown tells facts (entry.Read read) (Unread at tried) = IsShownFor tells facts read None
-IsShown tells facts _ _ = Unit {0}
+abbrev pub IsShown : Reporting → List Fact → Entry → Came → Type 0
+IsShown reports facts (entry.Read read) (Asked one) =
+    (request : Request) × AsksShown reports facts read request × (one.event ≡ event.Asked request)
+IsShown reports facts (entry.Read read) (Doubted at request mwh) =
+    AsksShown reports facts read request
+IsShown reports facts (entry.Read read) (Unread at tried) = IsShownFor reports facts read None
+IsShown reports facts _ _ = Unit {0}
 
 -- True if the input line has a parsed form that may have the outcome `came`, when the history of
 -- the office is `past`.
-pub record Comes (tells : Telling) (caller : Option (List ℕ)) (past : History) (text : List ℕ)
+pub record Comes (reports : Reporting) (caller : Option (List ℕ)) (past : History) (text : List ℕ)
     (came : Came) : Type 0 where
   pub entry : Entry
-  pub is : IsEntry tells caller text entry
+  pub is : IsEntry reports caller text entry
   pub comes : IsCameOf entry came
-  pub shown : IsShown tells (facts_of past) entry came
+  pub shown : IsShown reports (facts_of past) entry came
 
 -- The history of the office after an input line with this outcome.
 abbrev pub with_came : History → Came → History
@@ -140,9 +140,9 @@ came_text past (Unread at read) = unread_line
 -- True if the timestamp of an input line is the clock's time, or the timestamp of the previous line
 -- if that timestamp is later.
 pub record IsAskedAt (latest : ℕ) (begun now : Option (List ℕ)) (at : ℕ) : Type 0 where
-  pub told : ℕ
-  pub tells : TellsMoment begun now told
-  pub is : at ≡ max latest told
+  pub reported : ℕ
+  pub reports : ReportsMoment begun now reported
+  pub is : at ≡ max latest reported
 
 -- True if the outcome has the timestamp of its input line. For faulty rows the clock is not read.
 abbrev pub IsTimed : (latest : ℕ) → (begun now : Option (List ℕ)) → Came → Type 0
@@ -188,20 +188,20 @@ pub record IsUntouched {B : Type 0} (begun now : RoundState) (old new : Office B
 
 -- The effect of the next input line. On `Ok` the line was processed. On `Refused` the line is bad,
 -- and the message was printed. On `Failed` a write failed, or memory ran out.
-abbrev pub EntersLine : {B : Type 0} → (B → Ledger) → Telling → (caller : Option (List ℕ)) → Line
+abbrev pub EntersLine : {B : Type 0} → (B → Ledger) → Reporting → (caller : Option (List ℕ)) → Line
     → (past : History) → Progress → (begun now : RoundState) → (old new : Office B)
     → Result Progress ExitStatus → Type 0
-EntersLine ledger tells caller line past progress begun now old new (Ok next) =
-    (came : Came) × Comes tells caller past line.text came
+EntersLine ledger reports caller line past progress begun now old new (Ok next) =
+    (came : Came) × Comes reports caller past line.text came
     × TakesLine {E = ExitStatus} ledger past progress begun now new (Ok next) came
-EntersLine ledger tells caller line past progress begun now old new (Err Fine) = ⊥
-EntersLine ledger tells caller line past progress begun now old new (Err Refused) =
-    IsUntouched begun now old new × IsBad tells line.text
+EntersLine ledger reports caller line past progress begun now old new (Err Fine) = ⊥
+EntersLine ledger reports caller line past progress begun now old new (Err Refused) =
+    IsUntouched begun now old new × IsBad reports line.text
     × Appends begun.printed now.printed (bad_line line.number)
-EntersLine ledger tells caller line past progress begun now old new (Err Failed) =
-    ((came : Came) × Comes tells caller past line.text came
+EntersLine ledger reports caller line past progress begun now old new (Err Failed) =
+    ((came : Came) × Comes reports caller past line.text came
     × TakesLine {E = ExitStatus} ledger past progress begun now new (Err Failed) came)
-    ⊎ (IsUntouched begun now old new × IsBad tells line.text
+    ⊎ (IsUntouched begun now old new × IsBad reports line.text
     × GotPart (bad_line line.number) begun.printed now.printed)
     ⊎ (IsUntouched begun now old new × Appends begun.printed now.printed [])
 
@@ -224,11 +224,11 @@ history_with past (one ∷ earlier) = with_came (history_with past earlier) one.
 
 -- True if each input line in the list has an outcome that may occur for its parsed form, after the
 -- earlier lines.
-abbrev pub AreComing : Telling → (caller : Option (List ℕ)) → History → List Taken → Type 0
-AreComing tells caller past [] = Unit {0}
-AreComing tells caller past (one ∷ earlier) =
-    Comes tells caller (history_with past earlier) one.line.text one.came
-    × AreComing tells caller past earlier
+abbrev pub AreComing : Reporting → (caller : Option (List ℕ)) → History → List Taken → Type 0
+AreComing reports caller past [] = Unit {0}
+AreComing reports caller past (one ∷ earlier) =
+    Comes reports caller (history_with past earlier) one.line.text one.came
+    × AreComing reports caller past earlier
 
 -- True if each input line in the list has the defined outcome after the earlier lines.
 abbrev pub AreAnswered : History → (before after : Failures) → List Taken → Type 0
@@ -260,10 +260,10 @@ text_after past (one ∷ earlier) =
 --
 -- Each line has the defined outcome after the earlier lines, at its timestamp. The office is in the
 -- state after all lines.
-pub record AreTaken {B : Type 0} (ledger : B → Ledger) (tells : Telling)
+pub record AreTaken {B : Type 0} (ledger : B → Ledger) (reports : Reporting)
     (caller : Option (List ℕ)) (past : History) (first : ℕ) (begun now : RoundState)
     (office : Office B) (taken : List Taken) : Type 0 where
   pub stands : Stands ledger (history_with past taken) office
-  pub each : AreComing tells caller past taken
+  pub each : AreComing reports caller past taken
   pub answered : AreAnswered past begun.failures now.failures taken
   pub timed : AreTimed first begun.moments now.moments taken

@@ -100,14 +100,14 @@ doubt_in facts at _ = None
 
 -- True if the history of the office is still `past`, and the office answered whether an entry is
 -- doubted or refused the query for a failure.
-pub record IsDoubtTold {B : Type 0} (ledger : B → Ledger) (past : History) (before after : Failures)
+pub record IsDoubtReported {B : Type 0} (ledger : B → Ledger) (past : History) (before after : Failures)
     (office : Office B) (doubt : Option ℕ) (result : Result (Option ℕ) Refusal) : Type 0 where
   pub stands : Stands ledger past office
-  pub told : ((result ≡ Ok doubt) × (after ≡ before)) ⊎ FailsOutside ⊥ before after result
+  pub reported : ((result ≡ Ok doubt) × (after ≡ before)) ⊎ FailsOutside ⊥ before after result
 
 -- True if the office answered whether an entry is doubted, from the records of all accepted events.
-abbrev pub TellsDoubt : {B : Type 0} → (B → Ledger) → (old new : Office B)
+abbrev pub ReportsDoubt : {B : Type 0} → (B → Ledger) → (old new : Office B)
     → Result (Option ℕ) Refusal → (List Fact → Option ℕ) → Type 0
-TellsDoubt ledger old new result doubt = After ledger old new (λ past.
-    IsDoubtTold ledger past (failures_of ledger old) (failures_of ledger new) new
+ReportsDoubt ledger old new result doubt = After ledger old new (λ past.
+    IsDoubtReported ledger past (failures_of ledger old) (failures_of ledger new) new
     (doubt (facts_of past)) result)

@@ -18,11 +18,11 @@ use Rattle.office_core.specs.Taking.{failures_of}
 use Rattle.office_core.specs.declared.office.Office.{Office}
 use Rattle.office_rounds.specs.Between.{desk_of}
 use Rattle.office_rounds.specs.Rounds.{RoundState, round_state}
-use Rattle.office_program.specs.Texts.OpenedOffice.{TellsUnopened}
+use Rattle.office_program.specs.Texts.OpenedOffice.{ReportsUnopened}
 use Rattle.office_program.specs.Opened.{OverStanding, WithOffice}
 use Rattle.office_program.specs.declared.entering.progress.Progress.{Progress}
 use Rattle.office_program.specs.Entering.Course.{AreTaken, Taken, lines_with, progress_of, text_after}
-use Rattle.office_program.specs.Entering.Lines.{IsBad, Telling}
+use Rattle.office_program.specs.Entering.Lines.{IsBad, Reporting}
 
 -- The exit status if no line of an input is bad. If a line was refused or made no request, the
 -- status is `Refused`, otherwise `Fine`.
@@ -31,16 +31,16 @@ status_of progress = if progress.refused then Refused else Fine
 
 -- True if a bad line followed the processed lines, and the lines after the bad line were not
 -- processed.
-pub record IsStopped (tells : Telling) (lines : List Line) (taken : List Taken) : Type 0 where
+pub record IsStopped (reports : Reporting) (lines : List Line) (taken : List Taken) : Type 0 where
   pub line : Line
   pub rest : List Line
   pub follow : lines ≡ lines_with taken (line ∷ rest)
-  pub bad : IsBad tells line.text
+  pub bad : IsBad reports line.text
 
 -- The text that is printed if a bad line ends the command. It is the text of the processed lines,
 -- followed by the message for the bad line.
-abbrev pub stopped_text : {tells : Telling} {lines : List Line} {taken : List Taken} → History
-    → IsStopped tells lines taken → List ℕ
+abbrev pub stopped_text : {reports : Reporting} {lines : List Line} {taken : List Taken} → History
+    → IsStopped reports lines taken → List ℕ
 stopped_text {taken = taken} past stopped = text_after past taken ++ bad_line stopped.line.number
 
 -- True if the command ended after the last line. The text of all lines was printed, and the exit
@@ -53,9 +53,9 @@ pub record IsWhole (lines : List Line) (past : History) (first : ℕ) (taken : L
 
 -- True if the command ended at a bad line. The text up to the message for the bad line was printed,
 -- and the exit status is `Refused`.
-pub record IsStoppedTold (tells : Telling) (lines : List Line) (past : History) (taken : List Taken)
+pub record IsStoppedReported (reports : Reporting) (lines : List Line) (past : History) (taken : List Taken)
     (status : ExitStatus) (had holds : Option (List ℕ)) : Type 0 where
-  pub stopped : IsStopped tells lines taken
+  pub stopped : IsStopped reports lines taken
   pub printed : Appends had holds (stopped_text past stopped)
   pub means : status ≡ Refused
 
@@ -63,66 +63,66 @@ pub record IsStoppedTold (tells : Telling) (lines : List Line) (past : History) 
 --
 -- A part of the text of the processed lines was printed, or the complete text and a part of the
 -- message for a bad line.
-pub record IsBrokenOff (tells : Telling) (lines : List Line) (past : History) (taken : List Taken)
+pub record IsBrokenOff (reports : Reporting) (lines : List Line) (past : History) (taken : List Taken)
     (status : ExitStatus) (had holds : Option (List ℕ)) : Type 0 where
   pub rest : List Line
   pub follow : lines ≡ lines_with taken rest
   pub printed : GotPart (text_after past taken) had holds
-      ⊎ ((stopped : IsStopped tells lines taken) × GotPart (stopped_text past stopped) had holds)
+      ⊎ ((stopped : IsStopped reports lines taken) × GotPart (stopped_text past stopped) had holds)
   pub means : status ≡ Failed
 
 -- True if entering an input ended in one of three ways: after the last line, at a bad line, or
 -- broken off.
-abbrev pub IsEnd : Telling → List Line → History → (first : ℕ) → List Taken → ExitStatus
+abbrev pub IsEnd : Reporting → List Line → History → (first : ℕ) → List Taken → ExitStatus
     → (had holds : Option (List ℕ)) → Type 0
-IsEnd tells lines past first taken status had holds =
+IsEnd reports lines past first taken status had holds =
     IsWhole lines past first taken status had holds
-    ⊎ IsStoppedTold tells lines past taken status had holds
-    ⊎ IsBrokenOff tells lines past taken status had holds
+    ⊎ IsStoppedReported reports lines past taken status had holds
+    ⊎ IsBrokenOff reports lines past taken status had holds
 
 -- The state after the lines were entered into an office with the history `past`. No line has a
 -- timestamp before `first`.
-pub record EntersLines {B : Type 0} (ledger : B → Ledger) (tells : Telling)
+pub record EntersLines {B : Type 0} (ledger : B → Ledger) (reports : Reporting)
     (caller : Option (List ℕ)) (lines : List Line) (first : ℕ) (begun now : RoundState)
     (office : Office B) (status : ExitStatus) (past : History) : Type 0 where
   pub taken : List Taken
-  pub are : AreTaken ledger tells caller past first begun now office taken
-  pub ends : IsEnd tells lines past first taken status begun.printed now.printed
+  pub are : AreTaken ledger reports caller past first begun now office taken
+  pub ends : IsEnd reports lines past first taken status begun.printed now.printed
 
 -- True if `EntersLines` holds for every history of the office, with the clock and the writer before
 -- and after the input.
 abbrev pub EntersTextOf : {B C W : Type 0} → stores.Ghosts B → clocks.Ghosts C → writers.Ghosts W
-    → Telling → (caller : Option (List ℕ)) → (text : List ℕ) → (first : ℕ) → (old new : Office B)
+    → Reporting → (caller : Option (List ℕ)) → (text : List ℕ) → (first : ℕ) → (old new : Office B)
     → (before after : C) → (had holds : W) → ExitStatus → Type 0
-EntersTextOf b c w tells caller text first old new before after had holds status =
-    After b.ledger old new (EntersLines b.ledger tells caller (speaking_lines text) first
+EntersTextOf b c w reports caller text first old new before after had holds status =
+    After b.ledger old new (EntersLines b.ledger reports caller (speaking_lines text) first
     (desk_of b c w old before had) (desk_of b c w new after holds) new status)
 
 -- True if the input was entered into an office that was opened for the input. The timestamp of each
 -- line is at least the timestamp of the opening.
-abbrev pub Enters : {B : Type 0} → (B → Ledger) → Telling → (caller : Option (List ℕ))
+abbrev pub Enters : {B : Type 0} → (B → Ledger) → Reporting → (caller : Option (List ℕ))
     → (text : List ℕ) → (later had holds : Option (List ℕ)) → ExitStatus
     → (following : History) → (since : Option (List ℕ)) → (opened left : Office B) → Type 0
-Enters ledger tells caller text later had holds status following since opened left =
-    EntersLines ledger tells caller (speaking_lines text) (latest_of following)
+Enters ledger reports caller text later had holds status following since opened left =
+    EntersLines ledger reports caller (speaking_lines text) (latest_of following)
     (round_state had since (failures_of ledger opened))
     (round_state holds later (failures_of ledger left)) left status following
 
 -- True if the office was opened and the input was entered. If the opening was refused, only the
 -- refusal was printed.
-abbrev pub TellsEntering : {B : Type 0} → (B → Ledger) → (past : History) → Telling
+abbrev pub ReportsEntering : {B : Type 0} → (B → Ledger) → (past : History) → Reporting
     → (caller text : List ℕ) → (moments later : Option (List ℕ)) → (books back : B)
     → (had holds : Option (List ℕ)) → ExitStatus → Type 0
-TellsEntering ledger past tells caller text moments later books back had holds status =
-    TellsUnopened past moments later (ledger books) (ledger back) status had holds
+ReportsEntering ledger past reports caller text moments later books back had holds status =
+    ReportsUnopened past moments later (ledger books) (ledger back) status had holds
     ⊎ WithOffice ledger past moments back
-    (Enters ledger tells (named caller) text later had holds status)
+    (Enters ledger reports (named caller) text later had holds status)
 
--- True if `TellsEntering` holds for every history that the store records, with the clock and the
+-- True if `ReportsEntering` holds for every history that the store records, with the clock and the
 -- writer before and after the command.
 abbrev pub EntersOver : {B C W : Type 0} → stores.Ghosts B → clocks.Ghosts C → writers.Ghosts W
-    → Telling → (caller text : List ℕ) → (books back : B) → (before after : C) → (had holds : W)
+    → Reporting → (caller text : List ℕ) → (books back : B) → (before after : C) → (had holds : W)
     → ExitStatus → Type 0
-EntersOver b c w tells caller text books back before after had holds status =
-    OverStanding b.ledger books back (λ past. TellsEntering b.ledger past tells caller text
+EntersOver b c w reports caller text books back before after had holds status =
+    OverStanding b.ledger books back (λ past. ReportsEntering b.ledger past reports caller text
     (c.moments before) (c.moments after) books back (w.contents had) (w.contents holds) status)

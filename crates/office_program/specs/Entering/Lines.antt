@@ -34,13 +34,13 @@ use Rattle.office_program.specs.Entering.ReadLines.{IsNoRead, IsRead, asked_at}
 
 -- The possible results of reading files and counters. A file gives its bytes or `None`, and a
 -- register's counter gives its reading or `None`.
-pub record Telling : Type 1 where
+pub record Reporting : Type 1 where
   pub files : List ℕ → Option (List ℕ) → Type 0
   pub counters : Device → Register → Option Shown → Type 0
 
 -- The possible results of reading files and counters by an implementation of `Surroundings`.
-abbrev pub telling_of : {F : Type 0} → surroundings.Ghosts F → F → Telling
-telling_of f files = record { files = f.tells files; counters = f.shows files }
+abbrev pub reporting_of : {F : Type 0} → surroundings.Ghosts F → F → Reporting
+reporting_of f files = record { files = f.reports files; counters = f.shows files }
 
 -- ---- The request in a line of a script
 
@@ -136,12 +136,12 @@ abbrev pub file_request : (text bytes : List ℕ) → List ℕ
 file_request text bytes = text ++ 10 ∷ bytes
 
 -- True for the parsed form of a line that names the file of a point list. The file exists.
-pub record IsFileEntry (tells : Telling) (caller : Option (List ℕ)) (text : List ℕ) (entry : Entry)
+pub record IsFileEntry (reports : Reporting) (caller : Option (List ℕ)) (text : List ℕ) (entry : Entry)
     : Type 0 where
   pub line : FileLine
   pub is : IsFileLine (words_of text) line
   pub bytes : List ℕ
-  pub told : tells.files line.name (Some bytes)
+  pub reported : reports.files line.name (Some bytes)
   pub comes : IsListEntry caller line.number line.device bytes (file_request text bytes) entry
 
 -- True for the parsed form of a line with `@read`. The store keeps the line's bytes, whatever the
@@ -153,9 +153,9 @@ pub record IsReadEntry (caller : Option (List ℕ)) (text : List ℕ) (entry : E
 
 -- True for the parsed form of an input line. The line names a file, has `@read`, or is a line of a
 -- script.
-abbrev pub IsEntry : Telling → (caller : Option (List ℕ)) → (text : List ℕ) → Entry → Type 0
-IsEntry tells caller text entry =
-    IsFileEntry tells caller text entry
+abbrev pub IsEntry : Reporting → (caller : Option (List ℕ)) → (text : List ℕ) → Entry → Type 0
+IsEntry reports caller text entry =
+    IsFileEntry reports caller text entry
     ⊎ (IsNoFileLine (words_of text)
     × (IsReadEntry caller text entry ⊎ (IsNoRead text × IsScriptEntry caller text entry)))
 
@@ -167,9 +167,9 @@ MayAsk (Read read) request = (raw : ℕ) × (sf : ℤ) × (request ≡ asked_at 
 MayAsk (Faulty rows) request = ⊥
 
 -- True if the line names a file that does not exist.
-abbrev pub LacksFile : Telling → (text : List ℕ) → Type 0
-LacksFile tells text =
-    (named : FileLine) × IsFileLine (words_of text) named × tells.files named.name None
+abbrev pub LacksFile : Reporting → (text : List ℕ) → Type 0
+LacksFile reports text =
+    (named : FileLine) × IsFileLine (words_of text) named × reports.files named.name None
 
 -- True if the text is no line of a script that makes a request.
 abbrev pub IsNoRequest : (text : List ℕ) → Type 0
@@ -178,9 +178,9 @@ IsNoRequest text = (said : ScriptLine) → IsLine (words_of (unmarked text)) sai
 
 -- True if the line is bad. A bad line names a file that does not exist, or is of none of the three
 -- kinds of input line.
-abbrev pub IsBad : Telling → (text : List ℕ) → Type 0
-IsBad tells text =
-    LacksFile tells text ⊎ (IsNoFileLine (words_of text) × IsNoRead text × IsNoRequest text)
+abbrev pub IsBad : Reporting → (text : List ℕ) → Type 0
+IsBad reports text =
+    LacksFile reports text ⊎ (IsNoFileLine (words_of text) × IsNoRead text × IsNoRequest text)
 
 -- ---- The result of parsing an input line. If memory runs out, nothing is known of the line.
 
@@ -229,18 +229,18 @@ ReadsUnnamed caller text (Err Memory) = Unit {0}
 
 -- True if on `Ok` the result is the parsed form of a line that names a file, or `Bad` if the file
 -- does not exist.
-abbrev pub ReadsFile : Telling → (caller : Option (List ℕ)) → (text : List ℕ) → FileLine
+abbrev pub ReadsFile : Reporting → (caller : Option (List ℕ)) → (text : List ℕ) → FileLine
     → Result Entry LineFault → Type 0
-ReadsFile tells caller text named (Ok entry) =
-    (bytes : List ℕ) × tells.files named.name (Some bytes)
+ReadsFile reports caller text named (Ok entry) =
+    (bytes : List ℕ) × reports.files named.name (Some bytes)
     × IsListEntry caller named.number named.device bytes (file_request text bytes) entry
-ReadsFile tells caller text named (Err Bad) = tells.files named.name None
-ReadsFile tells caller text named (Err Memory) = Unit {0}
+ReadsFile reports caller text named (Err Bad) = reports.files named.name None
+ReadsFile reports caller text named (Err Memory) = Unit {0}
 
 -- True if on `Ok` the result is the parsed form of the line, or `Bad` if the line is bad. If memory
 -- ran out, nothing is known of the line.
-abbrev pub ReadsEntry : Telling → (caller : Option (List ℕ)) → (text : List ℕ)
+abbrev pub ReadsEntry : Reporting → (caller : Option (List ℕ)) → (text : List ℕ)
     → Result Entry LineFault → Type 0
-ReadsEntry tells caller text (Ok entry) = IsEntry tells caller text entry
-ReadsEntry tells caller text (Err Bad) = IsBad tells text
-ReadsEntry tells caller text (Err Memory) = Unit {0}
+ReadsEntry reports caller text (Ok entry) = IsEntry reports caller text entry
+ReadsEntry reports caller text (Err Bad) = IsBad reports text
+ReadsEntry reports caller text (Err Memory) = Unit {0}

@@ -19,7 +19,7 @@ use Rattle.office_core.specs.declared.office.Office.{Office}
 use Rattle.office_program.specs.declared.entering.files.Shown.{Shown}
 use Rattle.office_program.specs.declared.entering.read_line.ReadRequest.{ReadRequest}
 use Rattle.office_program.specs.Entering.Doubts.{repeat_in}
-use Rattle.office_program.specs.Entering.Lines.{Telling}
+use Rattle.office_program.specs.Entering.Lines.{Reporting}
 use Rattle.office_program.specs.Entering.ReadLines as line
 use Rattle.office_program.specs.Entering.ReadLines.{asked_at}
 
@@ -30,13 +30,13 @@ repeat_of_read facts read = repeat_in facts (asked_at read 0 (pos 0))
 
 -- True if the counter of the accounting register was read from its device, with this result. The
 -- result is `None` if the device gave no reading.
-pub record IsCounterTold (tells : Telling) (facts : List Fact) (register : Option (List ℕ))
+pub record IsCounterReported (reports : Reporting) (facts : List Fact) (register : Option (List ℕ))
     (shown : Option Shown) : Type 0 where
   pub counter : Register
   pub device : Device
   pub register_is : option_and_then (register_of facts) register ≡ Some counter
   pub device_is : device_of facts counter.device ≡ Some device
-  pub told : tells.counters device counter shown
+  pub reported : reports.counters device counter shown
 
 -- True if the device of the accounting register does not exist. Then the register's counter can't
 -- be read.
@@ -47,88 +47,88 @@ pub record LacksDevice (facts : List Fact) (register : Option (List ℕ)) : Type
 
 -- True if the counter can't be read, because the register or its device does not exist or the
 -- device gave no reading.
-abbrev pub IsNotShown : Telling → List Fact → (register : Option (List ℕ)) → Type 0
-IsNotShown tells facts register =
+abbrev pub IsNotShown : Reporting → List Fact → (register : Option (List ℕ)) → Type 0
+IsNotShown reports facts register =
     (option_and_then (register_of facts) register ≡ None) ⊎ LacksDevice facts register
-    ⊎ IsCounterTold tells facts register None
+    ⊎ IsCounterReported reports facts register None
 
 -- True for the reading at which the line installs its meter, or for `None` if the counter can't be
 -- read.
 --
 -- If the store already has the request, the counter is not read. Otherwise the reading is that of
 -- the register's counter.
-abbrev pub IsShownFor : Telling → List Fact → ReadRequest → Option Shown → Type 0
-IsShownFor tells facts read (Some shown) =
+abbrev pub IsShownFor : Reporting → List Fact → ReadRequest → Option Shown → Type 0
+IsShownFor reports facts read (Some shown) =
     (is_some (repeat_of_read facts read) ≡ true)
-    ⊎ IsCounterTold tells facts (line.register_of read.line) (Some shown)
-IsShownFor tells facts read None =
-    (repeat_of_read facts read ≡ None) × IsNotShown tells facts (line.register_of read.line)
+    ⊎ IsCounterReported reports facts (line.register_of read.line) (Some shown)
+IsShownFor reports facts read None =
+    (repeat_of_read facts read ≡ None) × IsNotShown reports facts (line.register_of read.line)
 
 -- True if the request installs the meter at the reading that was found for the line.
-abbrev pub AsksShown : Telling → List Fact → ReadRequest → Asked → Type 0
-AsksShown tells facts read request =
-    (shown : Shown) × IsShownFor tells facts read (Some shown)
+abbrev pub AsksShown : Reporting → List Fact → ReadRequest → Asked → Type 0
+AsksShown reports facts read request =
+    (shown : Shown) × IsShownFor reports facts read (Some shown)
     × (request ≡ asked_at read shown.raw shown.sf)
 
 -- ---- The office's answer to the query for the counter's reading
 
 -- True if the office found the reading, or found that there is no reading, and the store did not
 -- fail. Also true if the office refused the query for a failure.
-abbrev pub HasShown : Telling → List Fact → ReadRequest → (before after : Failures)
+abbrev pub HasShown : Reporting → List Fact → ReadRequest → (before after : Failures)
     → Result (Option Shown) Refusal → Type 0
-HasShown tells facts read before after (Ok found) =
-    IsShownFor tells facts read found × (after ≡ before)
-HasShown tells facts read before after (Err why) = IsOutside ⊥ before after why
+HasShown reports facts read before after (Ok found) =
+    IsShownFor reports facts read found × (after ≡ before)
+HasShown reports facts read before after (Err why) = IsOutside ⊥ before after why
 
 -- True if the history of the office is still `past`. The office found the reading for the line, or
 -- refused the query for a failure.
-pub record IsFilled {B : Type 0} (ledger : B → Ledger) (tells : Telling) (read : ReadRequest)
+pub record IsFilled {B : Type 0} (ledger : B → Ledger) (reports : Reporting) (read : ReadRequest)
     (past : History) (before after : Failures) (office : Office B)
     (result : Result (Option Shown) Refusal) : Type 0 where
   pub stands : Stands ledger past office
-  pub told : HasShown tells (facts_of past) read before after result
+  pub reported : HasShown reports (facts_of past) read before after result
 
 -- True if `IsFilled` holds for every history of the office before the query.
-abbrev pub Fills : {B : Type 0} → (B → Ledger) → Telling → ReadRequest → (old new : Office B)
+abbrev pub Fills : {B : Type 0} → (B → Ledger) → Reporting → ReadRequest → (old new : Office B)
     → Result (Option Shown) Refusal → Type 0
-Fills ledger tells read old new result = After ledger old new (λ past.
-    IsFilled ledger tells read past (failures_of ledger old) (failures_of ledger new) new result)
+Fills ledger reports read old new result = After ledger old new (λ past.
+    IsFilled ledger reports read past (failures_of ledger old) (failures_of ledger new) new result)
 
 -- ---- The register, the device and the reading of a counter, looked up one by one
 
 -- True for the reading of the register's counter, or for `None` if the counter can't be read.
-abbrev pub IsCounterFor : Telling → List Fact → (register : Option (List ℕ)) → Option Shown → Type 0
-IsCounterFor tells facts register (Some shown) = IsCounterTold tells facts register (Some shown)
-IsCounterFor tells facts register None = IsNotShown tells facts register
+abbrev pub IsCounterFor : Reporting → List Fact → (register : Option (List ℕ)) → Option Shown → Type 0
+IsCounterFor reports facts register (Some shown) = IsCounterReported reports facts register (Some shown)
+IsCounterFor reports facts register None = IsNotShown reports facts register
 
 -- True if the office found the register's counter and its reading, and the store did not fail. Also
 -- true if the office refused the query for a failure.
-abbrev pub HasCounter : Telling → List Fact → (register : Option (List ℕ))
+abbrev pub HasCounter : Reporting → List Fact → (register : Option (List ℕ))
     → (before after : Failures) → Result (Option Shown) Refusal → Type 0
-HasCounter tells facts register before after (Ok found) =
-    IsCounterFor tells facts register found × (after ≡ before)
-HasCounter tells facts register before after (Err why) = IsOutside ⊥ before after why
+HasCounter reports facts register before after (Ok found) =
+    IsCounterFor reports facts register found × (after ≡ before)
+HasCounter reports facts register before after (Err why) = IsOutside ⊥ before after why
 
 -- True if the history of the office is still `past`. The office found the counter's reading, or
 -- refused the query for a failure.
-pub record IsReadThere {B : Type 0} (ledger : B → Ledger) (tells : Telling)
+pub record IsReadThere {B : Type 0} (ledger : B → Ledger) (reports : Reporting)
     (register : Option (List ℕ)) (past : History) (before after : Failures) (office : Office B)
     (result : Result (Option Shown) Refusal) : Type 0 where
   pub stands : Stands ledger past office
-  pub told : HasCounter tells (facts_of past) register before after result
+  pub reported : HasCounter reports (facts_of past) register before after result
 
 -- True if `IsReadThere` holds for every history of the office before the query.
-abbrev pub ReadsThere : {B : Type 0} → (B → Ledger) → Telling → (register : Option (List ℕ))
+abbrev pub ReadsThere : {B : Type 0} → (B → Ledger) → Reporting → (register : Option (List ℕ))
     → (old new : Office B) → Result (Option Shown) Refusal → Type 0
-ReadsThere ledger tells register old new result = After ledger old new (λ past.
-    IsReadThere ledger tells register past (failures_of ledger old) (failures_of ledger new) new
+ReadsThere ledger reports register old new result = After ledger old new (λ past.
+    IsReadThere ledger reports register past (failures_of ledger old) (failures_of ledger new) new
     result)
 
 -- True if `IsReadThere` holds for every history of the office, and for every name under which the
 -- store records this register.
-abbrev pub ReadsAt : {B : Type 0} → (B → Ledger) → Telling → Register → (old new : Office B)
+abbrev pub ReadsAt : {B : Type 0} → (B → Ledger) → Reporting → Register → (old new : Office B)
     → Result (Option Shown) Refusal → Type 0
-ReadsAt ledger tells counter old new result = (register : Option (List ℕ)) → After ledger old new
+ReadsAt ledger reports counter old new result = (register : Option (List ℕ)) → After ledger old new
     (λ past. option_and_then (register_of (facts_of past)) register ≡ Some counter
-    → IsReadThere ledger tells register past (failures_of ledger old) (failures_of ledger new) new
+    → IsReadThere ledger reports register past (failures_of ledger old) (failures_of ledger new) new
     result)

@@ -15,7 +15,7 @@ use Rattle.office_books.specs.declared.failures.Failures.{Failures}
 use Rattle.office_core.specs.Failing.{FailsOutside, IsOutside}
 use Rattle.office_program.specs.Entering.Course.{AreAnswered, AreComing, Came, Taken, Undecided, history_with, lines_with}
 use Rattle.office_program.specs.Entering.Course as course
-use Rattle.office_program.specs.Entering.Lines.{Telling}
+use Rattle.office_program.specs.Entering.Lines.{Reporting}
 
 -- True if both requests have the same caller, number and bytes.
 pub record IsSameRequest (asked again : Asked) : Type 0 where
@@ -32,9 +32,9 @@ RequestsAreRepeated = (past more : History) (at then : ℕ) (asked again : Asked
     ≡ Ok (answer.Again (kind_of asked.command))
 
 -- True if each file has the same contents whenever the file is read.
-abbrev pub AreSteady : Telling → Type 0
-AreSteady tells =
-    (name : List ℕ) (a b : Option (List ℕ)) → tells.files name a → tells.files name b → a ≡ b
+abbrev pub AreSteady : Reporting → Type 0
+AreSteady reports =
+    (name : List ℕ) (a b : Option (List ℕ)) → reports.files name a → reports.files name b → a ≡ b
 
 -- True if the request of an input line was accepted, now or earlier.
 abbrev pub HasActed : Came → Type 0
@@ -67,10 +67,10 @@ HaveRepeated (one ∷ earlier) = HasRepeated one.came × HaveRepeated earlier
 
 -- True if an office with the history `past` processed all lines of the input, and accepted each
 -- request.
-pub record HasEntered (tells : Telling) (caller : Option (List ℕ)) (lines : List Line)
+pub record HasEntered (reports : Reporting) (caller : Option (List ℕ)) (lines : List Line)
     (past : History) (taken : List Taken) : Type 0 where
   pub whole : lines ≡ lines_with taken []
-  pub are : AreComing tells caller past taken
+  pub are : AreComing reports caller past taken
   pub before : Failures
   pub after : Failures
   pub answered : AreAnswered past before after taken
@@ -78,14 +78,14 @@ pub record HasEntered (tells : Telling) (caller : Option (List ℕ)) (lines : Li
 
 -- True if the first lines of the input are processed again later. The office may have accepted
 -- other events after the input was entered first.
-pub record EntersAgain (tells : Telling) (caller : Option (List ℕ)) (lines : List Line)
+pub record EntersAgain (reports : Reporting) (caller : Option (List ℕ)) (lines : List Line)
     (following later : History) (again : List Taken) : Type 0 where
   pub more : History
   pub later_is : later ≡ more ++ following
   pub accepted : AreAccepted later
   pub rest : List Line
   pub part : lines ≡ lines_with again rest
-  pub are : AreComing tells caller later again
+  pub are : AreComing reports caller later again
   pub before : Failures
   pub after : Failures
   pub answered : AreAnswered later before after again
@@ -100,9 +100,9 @@ pub record ActsNoMore (later : History) (again : List Taken) : Type 0 where
 
 -- The theorem that if an input was entered completely, then entering the input again has no effect.
 -- The files of the input must have the same contents each time.
-abbrev pub InputsActOnce : Telling → Type 0
-InputsActOnce tells =
+abbrev pub InputsActOnce : Reporting → Type 0
+InputsActOnce reports =
     (caller : Option (List ℕ)) (lines : List Line) (past later : History) (taken again : List Taken)
-    → HasEntered tells caller lines past taken
-    → EntersAgain tells caller lines (history_with past taken) later again
+    → HasEntered reports caller lines past taken
+    → EntersAgain reports caller lines (history_with past taken) later again
     → ActsNoMore later again

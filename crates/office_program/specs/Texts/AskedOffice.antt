@@ -15,16 +15,16 @@ use Rattle.office_core.specs.Standing.{Stands, books_in}
 use Rattle.office_core.specs.declared.office.Office.{Office}
 use Rattle.script_text.specs.AnswerText.{refused_line}
 use Rattle.socket_link.specs.Clocks as clocks
-use Rattle.office_program.specs.Texts.EndTexts.{IsTold}
+use Rattle.office_program.specs.Texts.EndTexts.{IsReported}
 use Rattle.office_program.specs.declared.texts.opened_office.Unopened.{Unopened}
 
 -- True if the office was opened for queries. The office is in the state after the opening, and the
 -- polls that were pending are lost.
 pub record OpensToAsk {B : Type 0} (ledger : B → Ledger) (past : History)
     (moments later : Option (List ℕ)) (office : Office B) : Type 0 where
-  pub told : ℕ
-  pub timed : clocks.TellsMoment moments later told
-  pub stands : Stands ledger (Opened (asking_moment past told) ∷ past) office
+  pub reported : ℕ
+  pub timed : clocks.ReportsMoment moments later reported
+  pub stands : Stands ledger (Opened (asking_moment past reported) ∷ past) office
 
 -- True if `OpensToAsk` holds, provided that no wrong result of the store was used.
 abbrev pub OpensToAskWhereClean : {B : Type 0} → (B → Ledger) → (past : History)
@@ -34,21 +34,21 @@ OpensToAskWhereClean ledger past moments later office =
 
 -- True if the office was not opened, because of the timestamp or a failure. The store is in its
 -- state before the call, and the reason was printed.
-pub record TellsUnasked (past : History) (moments later : Option (List ℕ)) (old new : Ledger)
+pub record ReportsUnasked (past : History) (moments later : Option (List ℕ)) (old new : Ledger)
     (status : ExitStatus) (had holds : Option (List ℕ)) : Type 0 where
-  pub told : ℕ
-  pub timed : clocks.TellsMoment moments later told
+  pub reported : ℕ
+  pub timed : clocks.ReportsMoment moments later reported
   pub why : Refusal
-  pub refused : IsNotOpened past (asking_moment past told) old new why
-  pub printed : IsTold (refused_line why) Refused status had holds
+  pub refused : IsNotOpened past (asking_moment past reported) old new why
+  pub printed : IsReported (refused_line why) Refused status had holds
 
--- True if `TellsUnasked` holds with the returned store, provided that no wrong result of the store
--- was used.
-abbrev pub TellsUnaskedWhereClean : {B : Type 0} → (B → Ledger) → (past : History)
+-- True if `ReportsUnasked` holds with the returned store, provided that no wrong result of the
+-- store was used.
+abbrev pub ReportsUnaskedWhereClean : {B : Type 0} → (B → Ledger) → (past : History)
     → (moments later : Option (List ℕ)) → (books : B) → (had holds : Option (List ℕ))
     → Unopened B → Type 0
-TellsUnaskedWhereClean ledger past moments later books had holds unopened =
-    (ledger unopened.books).is_clean → TellsUnasked past moments later (ledger books)
+ReportsUnaskedWhereClean ledger past moments later books had holds unopened =
+    (ledger unopened.books).is_clean → ReportsUnasked past moments later (ledger books)
     (ledger unopened.books) unopened.status had holds
 
 -- True if on `Ok` the office was opened for queries, whatever history the store records.
@@ -65,5 +65,5 @@ abbrev pub RefusesToAskOver : {B C W : Type 0} → stores.Ghosts B → a_clock.G
     → Result (Office B) (Unopened B) → Type 0
 RefusesToAskOver b c w books before after had holds result =
     (past : History) → BooksStand (b.ledger books) past
-    → IfErr result (TellsUnaskedWhereClean b.ledger past (c.moments before) (c.moments after) books
+    → IfErr result (ReportsUnaskedWhereClean b.ledger past (c.moments before) (c.moments after) books
     (w.contents had) (w.contents holds))

@@ -7,16 +7,16 @@ use Rattle.sun_points.specs.Writing.{GotPart}
 
 -- True if the text was printed and the exit status is `meant`. If a write failed, a part of the
 -- text was printed, and the exit status is `Failed`.
-abbrev pub IsTold : (text : List ℕ) → (meant status : ExitStatus)
+abbrev pub IsReported : (text : List ℕ) → (meant status : ExitStatus)
     → (old new : Option (List ℕ)) → Type 0
-IsTold text meant status old new =
+IsReported text meant status old new =
     ((status ≡ meant) × Appends old new text) ⊎ ((status ≡ Failed) × GotPart text old new)
 
 -- True if one of the texts that `Prints` allows was printed, with its exit status. If a write
 -- failed, a part of the text was printed, with the exit status `Failed`.
-pub record TellsEnd (Prints : List ℕ → ExitStatus → Type 0) (status : ExitStatus)
+pub record ReportsEnd (Prints : List ℕ → ExitStatus → Type 0) (status : ExitStatus)
     (old new : Option (List ℕ)) : Type 0 where
   pub text : List ℕ
   pub meant : ExitStatus
   pub prints : Prints text meant
-  pub told : IsTold text meant status old new
+  pub reported : IsReported text meant status old new

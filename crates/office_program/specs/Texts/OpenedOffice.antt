@@ -14,7 +14,7 @@ use Rattle.office_core.specs.Standing.{Stands, books_in}
 use Rattle.office_core.specs.declared.office.Office.{Office}
 use Rattle.script_text.specs.AnswerText.{refused_line}
 use Rattle.socket_link.specs.Clocks as clocks
-use Rattle.office_program.specs.Texts.EndTexts.{IsTold}
+use Rattle.office_program.specs.Texts.EndTexts.{IsReported}
 use Rattle.office_program.specs.Texts.Passing.{Lasts}
 use Rattle.office_program.specs.declared.texts.opened_office.Unopened.{Unopened}
 
@@ -24,7 +24,7 @@ pub record Opens {B : Type 0} (ledger : B → Ledger) (past : History)
     (moments later : Option (List ℕ))
     (office : Office B) : Type 0 where
   pub at : ℕ
-  pub timed : clocks.TellsMoment moments later at
+  pub timed : clocks.ReportsMoment moments later at
   pub stands : Stands ledger (Opened at ∷ past) office
 
 -- True if `Opens` holds, provided that no wrong result of the store was used.
@@ -35,22 +35,22 @@ OpensWhereClean ledger past moments later office =
 
 -- True if the office was not opened, because of the timestamp or a failure. The store is in its
 -- state before the call, and the reason was printed.
-pub record TellsUnopened (past : History) (moments later : Option (List ℕ)) (old new : Ledger)
+pub record ReportsUnopened (past : History) (moments later : Option (List ℕ)) (old new : Ledger)
     (status : ExitStatus)
     (had holds : Option (List ℕ)) : Type 0 where
   pub at : ℕ
-  pub timed : clocks.TellsMoment moments later at
+  pub timed : clocks.ReportsMoment moments later at
   pub why : Refusal
   pub refused : IsNotOpened past at old new why
-  pub told : IsTold (refused_line why) Refused status had holds
+  pub reported : IsReported (refused_line why) Refused status had holds
 
--- True if `TellsUnopened` holds with the returned store, provided that no wrong result of the store
--- was used.
-abbrev pub TellsWhereClean : {B : Type 0} → (B → Ledger) → (past : History)
+-- True if `ReportsUnopened` holds with the returned store, provided that no wrong result of the
+-- store was used.
+abbrev pub ReportsWhereClean : {B : Type 0} → (B → Ledger) → (past : History)
     → (moments later : Option (List ℕ)) → (books : B) → (had holds : Option (List ℕ))
     → Unopened B → Type 0
-TellsWhereClean ledger past moments later books had holds unopened =
-    (ledger unopened.books).is_clean → TellsUnopened past moments later (ledger books)
+ReportsWhereClean ledger past moments later books had holds unopened =
+    (ledger unopened.books).is_clean → ReportsUnopened past moments later (ledger books)
     (ledger unopened.books) unopened.status had holds
 
 -- True if on `Ok` the office was opened, whatever history the store records.
@@ -66,7 +66,7 @@ abbrev pub RefusesOver : {B C W : Type 0} → stores.Ghosts B → a_clock.Ghosts
     → (books : B) → (before after : C) → (had holds : W) → Result (Office B) (Unopened B) → Type 0
 RefusesOver b c w books before after had holds result =
     (past : History) → BooksStand (b.ledger books) past
-    → IfErr result (TellsWhereClean b.ledger past (c.moments before) (c.moments after) books
+    → IfErr result (ReportsWhereClean b.ledger past (c.moments before) (c.moments after) books
     (w.contents had) (w.contents holds))
 
 -- True if the time zone of the store is unchanged, whether the office is opened or not. If the

@@ -22,7 +22,7 @@ use Rattle.office_core.specs.Standing.{After, books_in}
 use Rattle.office_core.specs.Taking.{failures_of}
 use Rattle.office_core.specs.declared.office.Office.{Office}
 use Rattle.script_text.specs.AnswerText.{refused_line}
-use Rattle.office_program.specs.Texts.EndTexts.{IsTold, TellsEnd}
+use Rattle.office_program.specs.Texts.EndTexts.{IsReported, ReportsEnd}
 use Rattle.office_program.specs.Texts.Reports.{meant_by}
 
 -- True for the text of a register's report on a range of days. The text has the days in the range,
@@ -56,7 +56,7 @@ abbrev pub ReportsRange : {B W : Type 0} → stores.Ghosts B → writers.Ghosts 
     → (register : Option (List ℕ)) → ReportForm → (old new : Office B) → (had holds : W)
     → ExitStatus → Type 0
 ReportsRange b w register form old new had holds status = After b.ledger old new
-    (λ past. TellsEnd (RangePrints (b.ledger (books_in old)).zone past register form
+    (λ past. ReportsEnd (RangePrints (b.ledger (books_in old)).zone past register form
     (failures_of b.ledger old) (failures_of b.ledger new))
     status (w.contents had) (w.contents holds))
 
@@ -64,7 +64,7 @@ ReportsRange b w register form old new had holds status = After b.ledger old new
 pub record PrintsRefusal {W : Type 0} (contents : W → Option (List ℕ)) (why : Refusal)
     (status : ExitStatus) (old new : ReportRows W) : Type 0 where
   pub output : new.output.ghost_name ≡ old.output.ghost_name
-  pub told : IsTold (refused_line why) Refused status (contents old.output.now)
+  pub reported : IsReported (refused_line why) Refused status (contents old.output.now)
       (contents new.output.now)
 
 -- True if the last text of the report was printed. If any write failed, the exit status is

@@ -19,7 +19,7 @@ use Rattle.office_core.specs.Taking.{failures_of}
 use Rattle.office_core.specs.declared.office.Office.{Office}
 use Rattle.interval_core.specs.Lines.{days_text, end_line}
 use Rattle.script_text.specs.AnswerText.{refused_line}
-use Rattle.office_program.specs.Texts.EndTexts.{TellsEnd}
+use Rattle.office_program.specs.Texts.EndTexts.{ReportsEnd}
 
 -- The exit status of a command that prints a report. If the report was refused, the status is
 -- `Refused`, otherwise `Fine`.
@@ -61,7 +61,7 @@ pub record ReportPrints (zone : Zone) (past : History) (register : Option (List 
 abbrev pub ReportsDays : {B W : Type 0} → stores.Ghosts B → writers.Ghosts W
     → (register : Option (List ℕ)) → (old new : Office B) → (had holds : W) → ExitStatus → Type 0
 ReportsDays b w register old new had holds status = After b.ledger old new
-    (λ past. TellsEnd (ReportPrints (b.ledger (books_in old)).zone past register
+    (λ past. ReportsEnd (ReportPrints (b.ledger (books_in old)).zone past register
     (failures_of b.ledger old) (failures_of b.ledger new))
     status (w.contents had) (w.contents holds))
 

@@ -23,15 +23,15 @@ use Rattle.sun_points.specs.Writing.{GotPart}
 -- the refusal was printed, and the fault is `Output`.
 --
 -- For other results of the round, nothing was printed.
-abbrev pub IsRefusalTold : (done result : Result (Unit {0}) RoundFault)
+abbrev pub IsRefusalReported : (done result : Result (Unit {0}) RoundFault)
     → (old new : Option (List ℕ)) → Type 0
-IsRefusalTold (Ok x) result old new = (result ≡ Ok x) × (new ≡ old)
-IsRefusalTold (Err (Refused why)) result old new =
+IsRefusalReported (Ok x) result old new = (result ≡ Ok x) × (new ≡ old)
+IsRefusalReported (Err (Refused why)) result old new =
     ((result ≡ Err (Refused why)) × Appends old new (refused_line why))
     ⊎ ((result ≡ Err Output) × GotPart (refused_line why) old new)
-IsRefusalTold (Err Link) result old new = (result ≡ Err Link) × (new ≡ old)
-IsRefusalTold (Err Output) result old new = (result ≡ Err Output) × (new ≡ old)
-IsRefusalTold (Err TurnsUsed) result old new = (result ≡ Err TurnsUsed) × (new ≡ old)
+IsRefusalReported (Err Link) result old new = (result ≡ Err Link) × (new ≡ old)
+IsRefusalReported (Err Output) result old new = (result ≡ Err Output) × (new ≡ old)
+IsRefusalReported (Err TurnsUsed) result old new = (result ≡ Err TurnsUsed) × (new ≡ old)
 
 -- The state at the start of the polling round and at its end. The end is before the refusal that
 -- broke the round off was printed.
@@ -48,7 +48,7 @@ pub record PollsRound {B : Type 0} (ledger : B → Ledger) (device : Option (Lis
   pub printed : Option (List ℕ)
   pub done : Result (Unit {0}) RoundFault
   pub round : one.Rounds ledger device past (without_cause through printed) office done
-  pub told : IsRefusalTold done result printed through.ended.printed
+  pub reported : IsRefusalReported done result printed through.ended.printed
 
 -- True if `PollsRound` holds for every history of the office, with the link, the clock and the
 -- writer before and after the polling round.

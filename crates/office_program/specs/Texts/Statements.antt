@@ -34,7 +34,7 @@ use Rattle.office_core.specs.Standing.{After}
 use Rattle.office_core.specs.Taking.{failures_of}
 use Rattle.office_core.specs.declared.office.Office.{Office}
 use Rattle.script_text.specs.AnswerText.{refused_line}
-use Rattle.office_program.specs.Texts.EndTexts.{TellsEnd}
+use Rattle.office_program.specs.Texts.EndTexts.{ReportsEnd}
 
 -- ---- The statement of one meter
 
@@ -42,9 +42,9 @@ use Rattle.office_program.specs.Texts.EndTexts.{TellsEnd}
 -- mWh, and the counts of its rejected readings.
 --
 -- Without an opening the meter has neither entries nor energy.
-abbrev pub told_of : Zone → DayRange → List Fact → (meter : List ℕ) → Option Opening
+abbrev pub reported_of : Zone → DayRange → List Fact → (meter : List ℕ) → Option Opening
     → MeterStatement
-told_of zone range facts meter opening = record {
+reported_of zone range facts meter opening = record {
   meter = meter;
   entries = tally_of zone range (entries_at facts opening);
   mwh = energy_within zone range (rows_of_installed facts opening);
@@ -53,7 +53,7 @@ told_of zone range facts meter opening = record {
 
 -- The statement of the meter with this name.
 abbrev pub statement_of : Zone → DayRange → List Fact → (meter : List ℕ) → MeterStatement
-statement_of zone range facts meter = told_of zone range facts meter (opening_of facts meter)
+statement_of zone range facts meter = reported_of zone range facts meter (opening_of facts meter)
 
 -- The statements of the meters that were installed in the range, in the order of installation.
 abbrev pub statements_of : Zone → DayRange → List Fact → List Installation → List MeterStatement
@@ -83,7 +83,7 @@ held_in zone range facts meter =
 -- The statement of the meter, or `None` if no meter has the name.
 abbrev pub statement_in : Zone → DayRange → List Fact → (meter : List ℕ) → Option MeterStatement
 statement_in zone range facts meter =
-    option_map (λ opening. told_of zone range facts meter (Some opening)) (opening_of facts meter)
+    option_map (λ opening. reported_of zone range facts meter (Some opening)) (opening_of facts meter)
 
 -- True if the office answered a query from the records of all accepted events. The query needs
 -- memory outside the store.
@@ -157,5 +157,5 @@ abbrev pub PrintsStatement : {B W : Type 0} → stores.Ghosts B → writers.Ghos
     → (register : Option (List ℕ)) → StatementForm → (old new : Office B) → (had holds : W)
     → ExitStatus → Type 0
 PrintsStatement b w zone register form old new had holds status = After b.ledger old new
-    (λ past. TellsEnd (StatementPrints zone past register form (failures_of b.ledger old)
+    (λ past. ReportsEnd (StatementPrints zone past register form (failures_of b.ledger old)
     (failures_of b.ledger new)) status (w.contents had) (w.contents holds))

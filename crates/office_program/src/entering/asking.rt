@@ -3,11 +3,11 @@ ghost use Rattle.std.specs.Prelude.{◌≡◌, IfOk, true};
 ghost use Rattle.office_rounds.specs.Passing.{Lasts};
 ghost use Rattle.sun_points.specs.Writing.{GotText};
 ghost use Rattle.script_text.specs.AnswerText.{refused_line};
-ghost use Rattle.office_program.specs.Entering.Asking.{AsksAt, AsksTimed, EntersAt, EntersEntry, EntersNext, TellsFault, TellsWhyNot, told_text};
+ghost use Rattle.office_program.specs.Entering.Asking.{AsksAt, AsksTimed, EntersAt, EntersEntry, EntersNext, ReportsFault, ReportsWhyNot, reported_text};
 ghost use Rattle.command_io.specs.Lines.{seen_line};
 ghost use Rattle.office_program.specs.Entering.Course as course;
 ghost use Rattle.office_program.specs.Entering.Course.{IsAskedAt, faults_text};
-ghost use Rattle.office_program.specs.Entering.Lines.{telling_of};
+ghost use Rattle.office_program.specs.Entering.Lines.{reporting_of};
 
 use crate::entering::doubts::doubt_of;
 use crate::entering::entries::{Entry, entry_in};
@@ -34,7 +34,7 @@ fn print_reply<B: Books, W: Write>(
     reply: Result<Answer, Refusal>,
     output: &mut W,
 ) -> io::Result<()>
-    ensures { GotText result (told_text office.now reply)
+    ensures { GotText result (reported_text office.now reply)
         (W.contents output.old) (W.contents output.new) }
 {
     match reply {
@@ -81,7 +81,7 @@ fn print_doubt<W: Write>(mwh: u128, output: &mut W) -> io::Result<()>
 // Prints that an entry by hand is doubted (above the meter's ceiling). Returns the progress of the
 // input after the entry's line.
 fn print_doubted<W: Write>(mwh: u128, at: u64, output: &mut W) -> io::Result<Progress>
-    ensures { TellsWhyNot (course.doubted_line mwh) at
+    ensures { ReportsWhyNot (course.doubted_line mwh) at
         (W.contents output.old) (W.contents output.new) result }
 {
     match print_doubt(mwh, output) {
@@ -93,7 +93,7 @@ fn print_doubted<W: Write>(mwh: u128, at: u64, output: &mut W) -> io::Result<Pro
 // Prints the refusal of a query that an input line needs. Returns the progress of the input after
 // the line.
 fn print_undecided<W: Write>(why: Refusal, at: u64, output: &mut W) -> io::Result<Progress>
-    ensures { TellsWhyNot (refused_line why) at
+    ensures { ReportsWhyNot (refused_line why) at
         (W.contents output.old) (W.contents output.new) result }
 {
     match write_refusal(why, output) {
@@ -103,7 +103,7 @@ fn print_undecided<W: Write>(why: Refusal, at: u64, output: &mut W) -> io::Resul
 }
 
 fn print_unread<W: Write>(at: u64, output: &mut W) -> io::Result<Progress>
-    ensures { TellsWhyNot course.unread_line at
+    ensures { ReportsWhyNot course.unread_line at
         (W.contents output.old) (W.contents output.new) result }
 {
     match output.take_text(b"unread\n") {
@@ -117,8 +117,8 @@ fn print_unread<W: Write>(at: u64, output: &mut W) -> io::Result<Progress>
 fn moment<C: Clock>(progress: Progress, clock: &mut C) -> u64
     ensures { IsAskedAt progress.latest (C.moments clock.old) (C.moments clock.new) result }
 {
-    let told = clock.now();
-    progress.latest.max(told)
+    let reported = clock.now();
+    progress.latest.max(reported)
 }
 
 // Feeds a request to the office and prints the office's answer. If the request's entry is doubted,
@@ -153,7 +153,7 @@ fn read_and_ask<B: Books, F: NamedFiles, W: Write>(
     files: &F,
     output: &mut W,
 ) -> io::Result<Progress>
-    ensures enters { EntersAt B.Books W.Write (telling_of F.NamedFiles files.now) (Entry.Read read)
+    ensures enters { EntersAt B.Books W.Write (reporting_of F.NamedFiles files.now) (Entry.Read read)
         progress at office.old office.new output.old output.new result }
     ensures lasts { Lasts B.ledger office.old office.new }
 {
@@ -202,7 +202,7 @@ fn enter_entry<B: Books, C: Clock, F: NamedFiles, W: Write>(
     clock: &mut C,
     output: &mut W,
 ) -> io::Result<Progress>
-    ensures enters { EntersEntry B.Books C.Clock W.Write (telling_of F.NamedFiles files.now) entry
+    ensures enters { EntersEntry B.Books C.Clock W.Write (reporting_of F.NamedFiles files.now) entry
         progress office.old office.new clock.old clock.new output.old output.new result }
     ensures lasts { Lasts B.ledger office.old office.new }
 {
@@ -222,7 +222,7 @@ fn enter_entry<B: Books, C: Clock, F: NamedFiles, W: Write>(
 // Prints that an input line is bad, and returns the command's exit status. If memory ran out,
 // prints nothing.
 fn print_one_fault<W: Write>(fault: LineFault, number: u64, output: &mut W) -> ExitStatus
-    ensures { TellsFault fault number result (W.contents output.old) (W.contents output.new) }
+    ensures { ReportsFault fault number result (W.contents output.old) (W.contents output.new) }
 {
     match fault {
         LineFault::Bad => match write_bad_line(number, output) {
@@ -245,7 +245,7 @@ pub(crate) fn enter_line<B: Books, C: Clock, F: NamedFiles, W: Write>(
     clock: &mut C,
     output: &mut W,
 ) -> Result<Progress, ExitStatus>
-    ensures enters { EntersNext B.Books C.Clock W.Write (telling_of F.NamedFiles files.now)
+    ensures enters { EntersNext B.Books C.Clock W.Write (reporting_of F.NamedFiles files.now)
         caller.now (seen_line line.entry) progress office.old office.new clock.old clock.new
         output.old output.new result }
     ensures lasts { Lasts B.ledger office.old office.new }

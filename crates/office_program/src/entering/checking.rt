@@ -5,7 +5,7 @@ ghost use Rattle.sun_points.specs.Writing.{GotText};
 ghost use Rattle.office_program.specs.Texts.Passing.{Lasts};
 ghost use Rattle.office_program.specs.Entering.Checked as spec;
 ghost use Rattle.office_program.specs.Entering.Checked.{ChecksLine, ChecksOver, ChecksText, IsShown, KnowsRequest, LooksAt, OnlyLooks};
-ghost use Rattle.office_program.specs.Entering.Lines.{telling_of};
+ghost use Rattle.office_program.specs.Entering.Lines.{reporting_of};
 
 use crate::command_end::CommandEnd;
 use crate::entering::asking::print_faults;
@@ -83,7 +83,7 @@ fn look_at<B: Books, F: NamedFiles>(
     line: &[u8],
     files: &F,
 ) -> Result<Look, AllocError>
-    ensures finds { LooksAt (telling_of F.NamedFiles files.now) caller line.now
+    ensures finds { LooksAt (reporting_of F.NamedFiles files.now) caller line.now
         (B.ledger books.old) (B.ledger books.new) result }
     ensures looks { OnlyLooks (B.ledger books.old) (B.ledger books.new) }
 {
@@ -165,7 +165,7 @@ fn check_line<B: Books, F: NamedFiles, W: Write>(
     files: &F,
     output: &mut W,
 ) -> Result<bool, ExitStatus>
-    ensures checks { ChecksLine (telling_of F.NamedFiles files.now)
+    ensures checks { ChecksLine (reporting_of F.NamedFiles files.now)
         caller.now (seen_line line.entry) (B.ledger books.old) (B.ledger books.new)
         (W.contents output.old) (W.contents output.new) result }
     ensures looks { OnlyLooks (B.ledger books.old) (B.ledger books.new) }
@@ -192,7 +192,7 @@ fn check_text<B: Books, F: NamedFiles, W: Write>(
     files: &F,
     output: &mut W,
 ) -> ExitStatus
-    ensures checks { ChecksText (telling_of F.NamedFiles files.now) caller.now text.now
+    ensures checks { ChecksText (reporting_of F.NamedFiles files.now) caller.now text.now
         (B.ledger books.old) (B.ledger books.new)
         (W.contents output.old) (W.contents output.new) result }
     ensures looks { OnlyLooks (B.ledger books.old) (B.ledger books.new) }
@@ -233,7 +233,7 @@ pub fn check_books<B: Books, F: NamedFiles, W: Write>(
     files: &F,
     output: &mut W,
 ) -> CommandEnd<B, ExitStatus>
-    ensures checks { ChecksOver B.ledger (telling_of F.NamedFiles files.now) caller.now text.now
+    ensures checks { ChecksOver B.ledger (reporting_of F.NamedFiles files.now) caller.now text.now
         books result.books (W.contents output.old) (W.contents output.new) result.end }
     ensures lasts { Lasts (B.ledger books) (B.ledger result.books) }
 {

@@ -7,7 +7,7 @@ ghost use Rattle.office_rules.specs.Meters.{if_open};
 ghost use Rattle.office_rules.specs.Ranges.{IsSound};
 ghost use Rattle.office_rounds.specs.Passing.{Lasts};
 ghost use Rattle.office_program.specs.Entering.Doubts as spec;
-ghost use Rattle.office_program.specs.Entering.Doubts.{TellsDoubt, doubt_of, doubted_in};
+ghost use Rattle.office_program.specs.Entering.Doubts.{ReportsDoubt, doubt_of, doubted_in};
 
 use crate::entering::marks::is_marked;
 use energy_core::energy_up_to;
@@ -125,7 +125,7 @@ fn doubted_in<B: Books>(
     command: &Command,
     register: &Option<Name>,
 ) -> Result<Option<u128>, Refusal>
-    ensures tells { TellsDoubt B.ledger office.old office.new result
+    ensures reports { ReportsDoubt B.ledger office.old office.new result
         (λ facts. doubted_in facts at command.now register.now) }
     ensures lasts { Lasts B.ledger office.old office.new }
 {
@@ -147,7 +147,7 @@ pub(crate) fn doubt_of<B: Books>(
     at: u64,
     asked: &Asked,
 ) -> Result<Option<u128>, Refusal>
-    ensures tells { TellsDoubt B.ledger office.old office.new result
+    ensures reports { ReportsDoubt B.ledger office.old office.new result
         (λ facts. doubt_of facts at asked.now) }
     ensures lasts { Lasts B.ledger office.old office.new }
 {

@@ -2,7 +2,7 @@
 ghost use Rattle.office_rounds.specs.Passing as rounds;
 ghost use Rattle.office_program.specs.Texts.Passing.{Lasts};
 ghost use Rattle.office_program.specs.Entering.Entered.{EntersOver, EntersTextOf};
-ghost use Rattle.office_program.specs.Entering.Lines.{telling_of};
+ghost use Rattle.office_program.specs.Entering.Lines.{reporting_of};
 
 use crate::command_end::CommandEnd;
 use crate::entering::asking::enter_line;
@@ -29,7 +29,7 @@ fn enter_text<B: Books, C: Clock, F: NamedFiles, W: Write>(
     clock: &mut C,
     output: &mut W,
 ) -> ExitStatus
-    ensures enters { EntersTextOf B.Books C.Clock W.Write (telling_of F.NamedFiles files.now)
+    ensures enters { EntersTextOf B.Books C.Clock W.Write (reporting_of F.NamedFiles files.now)
         caller.now text.now first office.old office.new clock.old clock.new
         output.old output.new result }
     ensures lasts { rounds.Lasts B.ledger office.old office.new }
@@ -58,8 +58,9 @@ fn enter_text<B: Books, C: Clock, F: NamedFiles, W: Write>(
 /// An entry by hand above the meter's ceiling is not requested, unless its line ends with ` !`. For
 /// such an entry the command prints `doubted` and the energy in mWh that the entry would record.
 ///
-/// If the opening is refused, the command prints only `refused N`. If the caller is no valid name,
-/// no line is accepted. Returns the store.
+/// If the office cannot be opened, the command prints only `refused N`. Each entry is stored with
+/// the name of its caller; a name that breaks the rules for names makes each line a `bad line`.
+/// Returns the store.
 pub fn enter_books<B: Books, C: Clock, F: NamedFiles, W: Write>(
     alloc: Global,
     books: B,
@@ -69,7 +70,7 @@ pub fn enter_books<B: Books, C: Clock, F: NamedFiles, W: Write>(
     clock: &mut C,
     output: &mut W,
 ) -> CommandEnd<B, ExitStatus>
-    ensures tells { EntersOver B.Books C.Clock W.Write (telling_of F.NamedFiles files.now)
+    ensures reports { EntersOver B.Books C.Clock W.Write (reporting_of F.NamedFiles files.now)
         caller.now text.now books result.books clock.old clock.new
         output.old output.new result.end }
     ensures lasts { Lasts (B.ledger books) (B.ledger result.books) }

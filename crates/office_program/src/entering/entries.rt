@@ -3,7 +3,7 @@ ghost use Rattle.std.specs.Prelude.{◌≡◌, Some, IfOk};
 ghost use Rattle.script_lines.specs.LineWords.Words.{words_of};
 ghost use Rattle.office_program.specs.Entering.FileLines.{seen_line};
 ghost use Rattle.office_program.specs.Entering.Lines as lines;
-ghost use Rattle.office_program.specs.Entering.Lines.{ReadsCounter, ReadsEntry, ReadsFile, ReadsList, ReadsScript, ReadsUnnamed, ReadsWanted, telling_of};
+ghost use Rattle.office_program.specs.Entering.Lines.{ReadsCounter, ReadsEntry, ReadsFile, ReadsList, ReadsScript, ReadsUnnamed, ReadsWanted, reporting_of};
 
 use crate::entering::file_line::{FileLine, file_line};
 use crate::entering::files::NamedFiles;
@@ -142,7 +142,7 @@ fn file_entry<F: NamedFiles>(
     named: &FileLine<'_>,
     files: &F,
 ) -> Result<Entry, LineFault>
-    ensures { ReadsFile (telling_of F.NamedFiles files.now)
+    ensures { ReadsFile (reporting_of F.NamedFiles files.now)
         caller line.now (seen_line named.now) result }
 {
     match files.read(alloc, named.name) {
@@ -190,7 +190,7 @@ pub(crate) fn entry_in<F: NamedFiles>(
     line: &[u8],
     files: &F,
 ) -> Result<Entry, LineFault>
-    ensures { ReadsEntry (telling_of F.NamedFiles files.now) caller line.now result }
+    ensures { ReadsEntry (reporting_of F.NamedFiles files.now) caller line.now result }
 {
     match file_line(line) {
         Some(named) => file_entry(alloc, caller, line, &named, files),

@@ -23,7 +23,7 @@ pub trait NamedFiles {
 
     // The possible results of reading a file by its name. These are its bytes, or `None` if the
     // file can't be read.
-    ghost tells: { Self → List ℕ → Option (List ℕ) → Type 0 } = { λ _ _ _. Unit {0} };
+    ghost reports: { Self → List ℕ → Option (List ℕ) → Type 0 } = { λ _ _ _. Unit {0} };
 
     // The possible results of reading the counter of an accounting register from the register's
     // device. These are its reading, or `None` if the counter can't be read.
@@ -34,8 +34,8 @@ pub trait NamedFiles {
     /// Returns `None` if the file does not exist, can't be read or is longer. The implementation
     /// may report why.
     fn read(&self, alloc: Global, name: &[u8]) -> Result<Option<Vec<u8>>, AllocError>
-        ensures told { IfOk result
-            (λ found. tells self.now name.now (option_map (λ v. v.items) found)) }
+        ensures reported { IfOk result
+            (λ found. reports self.now name.now (option_map (λ v. v.items) found)) }
         ensures few { IfOk result (λ found. IfSome found (λ v. length v.items ≤ 65536)) };
 
     /// Reads the counter of an accounting register from its device.

@@ -1,6 +1,6 @@
 //! Theorems on retries of single requests and of complete inputs.
 ghost use Rattle.office_program.specs.Entering.Repeats.{AreSteady, InputsActOnce, RequestsAreRepeated};
-ghost use Rattle.office_program.specs.Entering.Lines.{telling_of};
+ghost use Rattle.office_program.specs.Entering.Lines.{reporting_of};
 
 use crate::entering::files::NamedFiles;
 
@@ -13,6 +13,6 @@ pub fn requests_are_repeated()
 /// Proves that if an input was entered completely, then entering the input again has no effect. The
 /// theorem assumes that the files of the input have the same contents each time.
 pub fn inputs_act_once<F: NamedFiles>(files: &F)
-    ensures { AreSteady (telling_of F.NamedFiles files.now)
-        → InputsActOnce (telling_of F.NamedFiles files.now) }
+    ensures { AreSteady (reporting_of F.NamedFiles files.now)
+        → InputsActOnce (reporting_of F.NamedFiles files.now) }
 {}

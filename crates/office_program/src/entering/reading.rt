@@ -1,6 +1,6 @@
 //! Reads a meter's counter, so that the meter is installed at the counter's present reading.
 ghost use Rattle.office_rounds.specs.Passing.{Lasts};
-ghost use Rattle.office_program.specs.Entering.Lines.{telling_of};
+ghost use Rattle.office_program.specs.Entering.Lines.{reporting_of};
 ghost use Rattle.office_program.specs.Entering.Reading.{Fills, ReadsAt, ReadsThere};
 
 use crate::entering::files::{NamedFiles, Shown};
@@ -19,7 +19,7 @@ fn shown_at<B: Books, F: NamedFiles>(
     register: Register,
     files: &F,
 ) -> Result<Option<Shown>, Refusal>
-    ensures reads { ReadsAt B.ledger (telling_of F.NamedFiles files.now) register
+    ensures reads { ReadsAt B.ledger (reporting_of F.NamedFiles files.now) register
         office.old office.new result }
     ensures lasts { Lasts B.ledger office.old office.new }
 {
@@ -39,7 +39,7 @@ fn shown_there<B: Books, F: NamedFiles>(
     name: &Option<Name>,
     files: &F,
 ) -> Result<Option<Shown>, Refusal>
-    ensures reads { ReadsThere B.ledger (telling_of F.NamedFiles files.now) name.now
+    ensures reads { ReadsThere B.ledger (reporting_of F.NamedFiles files.now) name.now
         office.old office.new result }
     ensures lasts { Lasts B.ledger office.old office.new }
 {
@@ -61,7 +61,7 @@ pub(crate) fn shown_for<B: Books, F: NamedFiles>(
     read: &ReadRequest,
     files: &F,
 ) -> Result<Option<Shown>, Refusal>
-    ensures fills { Fills B.ledger (telling_of F.NamedFiles files.now) read.now
+    ensures fills { Fills B.ledger (reporting_of F.NamedFiles files.now) read.now
         office.old office.new result }
     ensures lasts { Lasts B.ledger office.old office.new }
 {

@@ -1,6 +1,6 @@
 //! The text that a command prints last, and its exit status.
 ghost use Rattle.std.specs.Prelude.{◌≡◌, is_ok, if◌then◌else◌};
-ghost use Rattle.office_program.specs.Texts.EndTexts.{IsTold};
+ghost use Rattle.office_program.specs.Texts.EndTexts.{IsReported};
 ghost use Rattle.script_text.specs.AnswerText.{refused_line};
 
 use command_io::ExitStatus;
@@ -21,7 +21,7 @@ pub(crate) fn ended(written: io::Result<()>, meant: ExitStatus) -> ExitStatus
 
 /// Prints `refused N` for a refusal, and returns the command's exit status.
 pub(crate) fn print_refusal<W: Write>(why: Refusal, output: &mut W) -> ExitStatus
-    ensures { IsTold (refused_line why) ExitStatus.Refused result
+    ensures { IsReported (refused_line why) ExitStatus.Refused result
         (W.contents output.old) (W.contents output.new) }
 {
     let written = write_refusal(why, output);

@@ -11,10 +11,10 @@ use office_events::{Name, Refusal};
 use std::io::Write;
 
 // Prints the last text of a report, or `refused N` if the report was refused.
-fn print_rest<W: Write>(told: Result<(), Refusal>, rows: &mut ReportRows<'_, W>) -> ExitStatus
-    ensures { PrintsRest W.contents told result rows.old rows.new }
+fn print_rest<W: Write>(reported: Result<(), Refusal>, rows: &mut ReportRows<'_, W>) -> ExitStatus
+    ensures { PrintsRest W.contents reported result rows.old rows.new }
 {
-    match told {
+    match reported {
         Ok(()) => {
             rows.finish();
             if rows.has_failed() {
@@ -43,6 +43,6 @@ pub fn report_range<B: Books, W: Write>(
     ensures asks { Asks B.ledger office.old office.new }
 {
     let mut rows = ReportRows::to(*form, output);
-    let told = office.days_within(register, form.range, &mut rows);
-    print_rest(told, &mut rows)
+    let reported = office.days_within(register, form.range, &mut rows);
+    print_rest(reported, &mut rows)
 }

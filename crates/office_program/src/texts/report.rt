@@ -1,6 +1,6 @@
 //! Prints the report of an accounting register by civil day.
 ghost use Rattle.office_program.specs.Texts.Reports.{Asks, ReportsDays, last_line, meant_by};
-ghost use Rattle.office_program.specs.Texts.EndTexts.{IsTold};
+ghost use Rattle.office_program.specs.Texts.EndTexts.{IsReported};
 
 use crate::texts::end_texts::{ended, print_refusal};
 use command_io::ExitStatus;
@@ -12,11 +12,11 @@ use script_text::write_end;
 use std::io::Write;
 
 // Prints the number of days of a report, or `refused N` if the report was refused.
-fn print_last<W: Write>(told: Result<(), Refusal>, count: u64, output: &mut W) -> ExitStatus
-    ensures { IsTold (last_line count told) (meant_by told) result
+fn print_last<W: Write>(reported: Result<(), Refusal>, count: u64, output: &mut W) -> ExitStatus
+    ensures { IsReported (last_line count reported) (meant_by reported) result
         (W.contents output.old) (W.contents output.new) }
 {
-    match told {
+    match reported {
         Ok(()) => {
             let written = write_end(count, output);
             ended(written, ExitStatus::Fine)
@@ -40,9 +40,9 @@ pub fn report_days<B: Books, W: Write>(
     ensures asks { Asks B.ledger office.old office.new }
 {
     let mut days = RowLines::to(output);
-    let told = office.days(register, &mut days);
+    let reported = office.days(register, &mut days);
     if days.failed {
         return ExitStatus::Failed;
     }
-    print_last(told, days.count, days.output)
+    print_last(reported, days.count, days.output)
 }

@@ -2,7 +2,7 @@
 ghost use Rattle.std.specs.Prelude.{◌≡◌, Err};
 ghost use Rattle.office_rounds.specs.Passing.{AreAtMost, AreTakes, CountsFailures, Lasts};
 ghost use Rattle.office_program.specs.Texts.Rounds as rounds;
-ghost use Rattle.office_program.specs.Texts.Rounds.{IsRefusalTold, PollsRoundOver};
+ghost use Rattle.office_program.specs.Texts.Rounds.{IsRefusalReported, PollsRoundOver};
 
 use crate::texts::end_texts::print_refusal;
 use command_io::ExitStatus;
@@ -17,7 +17,7 @@ use std::io::Write;
 
 // Prints `refused N` if a refusal broke the polling round off. Prints nothing for any other result.
 fn print_cause<W: Write>(done: Result<(), RoundFault>, output: &mut W) -> Result<(), RoundFault>
-    ensures { IsRefusalTold done result (W.contents output.old) (W.contents output.new) }
+    ensures { IsRefusalReported done result (W.contents output.old) (W.contents output.new) }
 {
     match done {
         Err(RoundFault::Refused(why)) => match print_refusal(why, output) {

@@ -33,7 +33,7 @@ fn tally<B: Books>(
     range: &DayRange,
     meter: &Option<Name>,
 ) -> Result<EntryTally, Refusal>
-    ensures tells { AnswersOf B.ledger office.old office.new result
+    ensures reports { AnswersOf B.ledger office.old office.new result
         (λ facts. statements.tally_in zone.now range.now facts meter.now) }
     ensures asks { OnlyAsks B.ledger office.old office.new result }
 {
@@ -60,7 +60,7 @@ fn energy<B: Books>(
     range: &DayRange,
     meter: &Option<Name>,
 ) -> Result<u128, Refusal>
-    ensures tells { AnswersOf B.ledger office.old office.new result
+    ensures reports { AnswersOf B.ledger office.old office.new result
         (λ facts. statements.energy_in zone.now range.now facts meter.now) }
     ensures asks { OnlyAsks B.ledger office.old office.new result }
 {
@@ -78,7 +78,7 @@ fn held<B: Books>(
     range: &DayRange,
     meter: &Option<Name>,
 ) -> Result<RejectedCounts, Refusal>
-    ensures tells { AnswersOf B.ledger office.old office.new result
+    ensures reports { AnswersOf B.ledger office.old office.new result
         (λ facts. statements.held_in zone.now range.now facts meter.now) }
     ensures asks { OnlyAsks B.ledger office.old office.new result }
 {
@@ -96,7 +96,7 @@ fn meter_statement<B: Books>(
     range: &DayRange,
     meter: &Name,
 ) -> Result<MeterStatement, Refusal>
-    ensures tells { AnswersOf B.ledger office.old office.new result
+    ensures reports { AnswersOf B.ledger office.old office.new result
         (λ facts. statements.statement_in zone.now range.now facts meter.now) }
     ensures asks { OnlyAsks B.ledger office.old office.new result }
 {
@@ -172,7 +172,7 @@ fn statements<B: Books>(
     range: &DayRange,
     register: &Option<Name>,
 ) -> Result<Vec<MeterStatement>, Refusal>
-    ensures tells { AnswersOf B.ledger office.old office.new (statements.items_of result)
+    ensures reports { AnswersOf B.ledger office.old office.new (statements.items_of result)
         (λ facts. statements.statements_in zone.now range.now facts register.now) }
     ensures asks { OnlyAsks B.ledger office.old office.new result }
 {

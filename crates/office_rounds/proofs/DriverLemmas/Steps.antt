@@ -11,12 +11,12 @@ use Rattle.office_books.specs.declared.failures.Failures.{Failures}
 use Rattle.office_books.specs.Ledgers.{Ledger}
 use Rattle.office_core.specs.EventRun.{Answered}
 use Rattle.office_core.specs.Standing.{Stands, books_in, notes_in, outgoing_in}
-use Rattle.office_core.specs.Taking.{IsAnswer, IsTold}
+use Rattle.office_core.specs.Taking.{IsAnswer, IsReported}
 use Rattle.office_rounds.specs.FedEvents.{history_with}
 use Rattle.office_rounds.specs.DeviceRounds.Rounds.{heard}
 use Rattle.office_rounds.specs.declared.device_rounds.round.Round.{Round}
 use Rattle.office_events.specs.Showing.{Shown, shown}
-use Rattle.office_rounds.specs.Driver.Turns.{IsNext, Table, Wished, answered_for, first_request, next_by, next_of, place_of, table, table_after, table_with, told, wished}
+use Rattle.office_rounds.specs.Driver.Turns.{IsNext, Table, Wished, answered_for, first_request, next_by, next_of, place_of, table, table_after, table_with, reported, wished}
 use Rattle.office_rounds.specs.Driver.Going.{FeedsNext, Going, OfficeGoesOn, Scene, Start, TakesTurn, start}
 
 is_next : (first : Option Wished) (rounds : List Round) (at : Table) (one : Wished) → table first rounds ≡ at
@@ -31,8 +31,8 @@ next_rounds : (first : Option Wished) (rounds mid new : List Round) (at : Table)
     → new ≡ map (heard notes) mid → notes ≡ now → table None new ≡ table_after at answer now
 next_rounds first rounds mid new at place e answer notes now is next mid_is new_is notes_are =
     ap (table None)
-    (new_is ∙ ap (map (heard notes)) mid_is ∙ ap (λ n. told place answer n rounds) notes_are
-    ∙ ap (λ p. told p answer now rounds) (sym (ap place_of next)) ∙ ap (λ t. told (place_of (next_of at)) answer now t.rounds) is)
+    (new_is ∙ ap (map (heard notes)) mid_is ∙ ap (λ n. reported place answer n rounds) notes_are
+    ∙ ap (λ p. reported p answer now rounds) (sym (ap place_of next)) ∙ ap (λ t. reported (place_of (next_of at)) answer now t.rounds) is)
 
 next_shown : {V : Type 0} (sees : V → Shown → V → Type 0) (old new : V) (next : Option Wished) (place : Option ℕ) (at : ℕ) (e : Event)
     (answer : Result Answer Refusal) (notes now : List Note) (frames out : List ℕ) → next ≡ Some (wished place e) → notes ≡ now → frames ≡ out
@@ -49,7 +49,7 @@ next_shown sees old new next place at e answer notes now frames out is notes_are
 pub feeds_next : {B V : Type 0} (ledger : B → Ledger) (sees : V → Shown → V → Type 0) (at : ℕ) (place : Option ℕ) (e : Event)
     (answer : Result Answer Refusal) (old new : Scene B V) (mid : List Round) (notes : List Note) (frames : List ℕ)
     → ((past : History) → Stands ledger past old.office → (ledger (books_in new.office)).is_clean
-    → Stands ledger (with_answer past at e answer) new.office × IsAnswer past at e old.failures new.failures answer × IsTold past at e answer new.office)
+    → Stands ledger (with_answer past at e answer) new.office × IsAnswer past at e old.failures new.failures answer × IsReported past at e answer new.office)
     → mid ≡ answered_for place answer old.rounds → new.rounds ≡ map (heard notes) mid → notes ≡ notes_in new.office
     → frames ≡ outgoing_in new.office → sees old.observer (shown place at e answer notes frames) new.observer
     → FeedsNext ledger sees at (wished place e) old new

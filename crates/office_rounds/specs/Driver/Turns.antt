@@ -92,8 +92,8 @@ answered_for (Some place) answer rounds = at_place place (answered answer) round
 
 -- The polling rounds after an event. The round in the event's slot gets the answer, and then all
 -- rounds get the notifications.
-abbrev pub told : Option ℕ → Result Answer Refusal → List Note → List Round → List Round
-told place answer notes rounds = map (heard notes) (answered_for place answer rounds)
+abbrev pub reported : Option ℕ → Result Answer Refusal → List Note → List Round → List Round
+reported place answer notes rounds = map (heard notes) (answered_for place answer rounds)
 
 -- The slot of the polling round that requests the event. `None` without an event or without a slot.
 abbrev pub place_of : Option Wished → Option ℕ
@@ -103,7 +103,7 @@ place_of (Some one) = one.place
 -- The state of a call of `turn` after the office answered the next event with the given answer and
 -- notifications.
 abbrev pub table_after : Table → Result Answer Refusal → List Note → Table
-table_after at answer notes = table None (told (place_of (next_of at)) answer notes at.rounds)
+table_after at answer notes = table None (reported (place_of (next_of at)) answer notes at.rounds)
 
 -- The office's notifications of an event that was fed after the events `earlier`.
 abbrev pub notes_of : (past : History) → List Answered → Answered → List Note

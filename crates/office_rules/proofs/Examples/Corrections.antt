@@ -14,7 +14,7 @@ use Rattle.office_events.specs.declared.answers.Note.TheVariants as note
 use Rattle.office_rules.specs.History.{History, Opened, Fed, facts_of}
 use Rattle.office_rules.specs.Refusals.{decision_of}
 use Rattle.office_rules.specs.Intervals.{rows_of_meter}
-use Rattle.office_rules.proofs.Examples.Samples.{inv, main, m1, m2, device, register, full_range, three_words, start, reset, rescale, manual, close, exchange, reply, answered, told, meter, total}
+use Rattle.office_rules.proofs.Examples.Samples.{inv, main, m1, m2, device, register, full_range, three_words, start, reset, rescale, manual, close, exchange, reply, answered, reported, meter, total}
 
 by_hand_too_little : decision_of answered 2000 (manual 5100 0 None) ≡ Err refusal.NegativeStep
 unfolding unit_of frames frames_in rest rest_in is_garbled is_over is_closed stream next_id frames_at ending_at settled_by pending outcomes_at
@@ -96,7 +96,7 @@ intervals_of_the_new = refl
 abbrev rescaled : History
 rescaled = Fed 2800 (start three_words) ∷ Fed 2000 (rescale 5200 520 (pos 1)) ∷ answered
 
-at_the_new_scale : told rescaled 2800 (reply 1 2 9 1) ≡ note.Outcome 2 outcome.Answered ∷ note.Reading m1 521 0 10000 ∷ []
+at_the_new_scale : reported rescaled 2800 (reply 1 2 9 1) ≡ note.Outcome 2 outcome.Answered ∷ note.Reading m1 521 0 10000 ∷ []
 unfolding unit_of frames frames_in rest rest_in is_garbled is_over is_closed stream next_id frames_at ending_at settled_by pending outcomes_at
 at_the_new_scale = refl
 
@@ -104,7 +104,7 @@ its_total : total (Fed 2800 (reply 1 2 9 1) ∷ rescaled) m1 ≡ Some 210000
 unfolding unit_of frames frames_in rest rest_in is_garbled is_over is_closed stream next_id frames_at ending_at settled_by pending outcomes_at
 its_total = refl
 
-at_the_old_scale : told rescaled 2800 (reply 1 20 80 0) ≡ note.Outcome 2 outcome.Answered ∷ note.Held m1 5200 cause.ScaleChanged ∷ []
+at_the_old_scale : reported rescaled 2800 (reply 1 20 80 0) ≡ note.Outcome 2 outcome.Answered ∷ note.Held m1 5200 cause.ScaleChanged ∷ []
 unfolding unit_of frames frames_in rest rest_in is_garbled is_over is_closed stream next_id frames_at ending_at settled_by pending outcomes_at
 at_the_old_scale = refl
 
@@ -112,11 +112,11 @@ at_the_old_scale = refl
 abbrev set_to_0 : History
 set_to_0 = Fed 2800 (start three_words) ∷ Fed 2000 (reset 5250 0) ∷ answered
 
-a_counter_at_0 : told set_to_0 2800 (reply 1 0 0 0) ≡ note.Outcome 2 outcome.Answered ∷ note.Held m1 0 cause.NotAccumulated ∷ []
+a_counter_at_0 : reported set_to_0 2800 (reply 1 0 0 0) ≡ note.Outcome 2 outcome.Answered ∷ note.Held m1 0 cause.NotAccumulated ∷ []
 unfolding unit_of frames frames_in rest rest_in is_garbled is_over is_closed stream next_id frames_at ending_at settled_by pending outcomes_at
 a_counter_at_0 = refl
 
-on_from_0 : told (Fed 3700 (start three_words) ∷ Fed 2800 (reply 1 0 0 0) ∷ set_to_0) 3700 (reply 2 0 30 0)
+on_from_0 : reported (Fed 3700 (start three_words) ∷ Fed 2800 (reply 1 0 0 0) ∷ set_to_0) 3700 (reply 2 0 30 0)
     ≡ note.Outcome 3 outcome.Answered ∷ note.Reading m1 30 0 30000 ∷ []
 unfolding unit_of frames frames_in rest rest_in is_garbled is_over is_closed stream next_id frames_at ending_at settled_by pending outcomes_at
 on_from_0 = refl

@@ -17,7 +17,7 @@ use Rattle.office_rules.specs.Readings.{poll_row_of}
 use Rattle.office_rules.specs.History.{Opened, Fed, facts_of}
 use Rattle.office_rules.specs.Refusals.{decision_of}
 use Rattle.office_rules.specs.Intervals.{rows_of_meter}
-use Rattle.office_rules.proofs.Examples.Samples.{inv, main, m1, m2, device, full_range, connect, three_words, start, started, reply, answered, told, sent, meter}
+use Rattle.office_rules.proofs.Examples.Samples.{inv, main, m1, m2, device, full_range, connect, three_words, start, started, reply, answered, reported, sent, meter}
 
 abbrev opening : Opening
 opening = record { meter = m1; register = main; ceiling = 100000; range = full_range; at = 1000; raw = 5000; sf = pos 0 }
@@ -45,7 +45,7 @@ the_reply_is_answered : decision_of started 1900 (reply 0 20 80 0) ≡ Ok answer
 unfolding unit_of frames frames_in rest rest_in is_garbled is_over is_closed stream next_id frames_at ending_at settled_by pending outcomes_at
 the_reply_is_answered = refl
 
-its_notes : told started 1900 (reply 0 20 80 0) ≡ note.Outcome 1 outcome.Answered ∷ note.Reading m1 5200 0 200000 ∷ []
+its_notes : reported started 1900 (reply 0 20 80 0) ≡ note.Outcome 1 outcome.Answered ∷ note.Reading m1 5200 0 200000 ∷ []
 unfolding unit_of frames frames_in rest rest_in is_garbled is_over is_closed stream next_id frames_at ending_at settled_by pending outcomes_at
 its_notes = refl
 

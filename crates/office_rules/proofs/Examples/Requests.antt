@@ -13,7 +13,7 @@ use Rattle.office_events.specs.declared.answers.CommandKind.TheVariants as done
 use Rattle.office_rules.specs.Facts.{reply_of}
 use Rattle.office_rules.specs.History.{Opened, Fed, facts_of}
 use Rattle.office_rules.specs.Refusals.{decision_of, with_answer}
-use Rattle.office_rules.proofs.Examples.Samples.{inv, main, desk, device, asked, answered, told}
+use Rattle.office_rules.proofs.Examples.Samples.{inv, main, desk, device, asked, answered, reported}
 
 asked_once : decision_of answered 2800 (asked (1 ∷ []) 5300) ≡ Ok (answer.Done done.Exchange)
 unfolding unit_of frames frames_in rest rest_in is_garbled is_over is_closed stream next_id frames_at ending_at settled_by pending outcomes_at
@@ -32,9 +32,9 @@ again_changes_nothing : with_answer (Fed 2800 (asked (1 ∷ []) 5300) ∷ answer
 unfolding unit_of frames frames_in rest rest_in is_garbled is_over is_closed stream next_id frames_at ending_at settled_by pending outcomes_at
 again_changes_nothing = refl
 
-again_tells_nothing : told (Fed 2800 (asked (1 ∷ []) 5300) ∷ answered) 2700 (asked (1 ∷ []) 5300) ≡ []
+again_reports_nothing : reported (Fed 2800 (asked (1 ∷ []) 5300) ∷ answered) 2700 (asked (1 ∷ []) 5300) ≡ []
 unfolding unit_of frames frames_in rest rest_in is_garbled is_over is_closed stream next_id frames_at ending_at settled_by pending outcomes_at
-again_tells_nothing = refl
+again_reports_nothing = refl
 
 asked_otherwise : decision_of (Fed 2800 (asked (1 ∷ []) 5300) ∷ answered) 2800 (asked (2 ∷ []) 5301) ≡ Err refusal.Reused
 unfolding unit_of frames frames_in rest rest_in is_garbled is_over is_closed stream next_id frames_at ending_at settled_by pending outcomes_at

@@ -19,16 +19,16 @@ use Rattle.office_events.specs.declared.answers.Note.TheVariants as note
 use Rattle.office_rules.specs.Facts.{list_of}
 use Rattle.office_rules.specs.History.{History, Opened, Fed, facts_of}
 use Rattle.office_rules.specs.Refusals.{decision_of, opening_refusal_of}
-use Rattle.office_rules.proofs.Examples.Samples.{inv, device, connect, gone, bytes, three_words, two_words, start, round, started, reply, told, sent}
+use Rattle.office_rules.proofs.Examples.Samples.{inv, device, connect, gone, bytes, three_words, two_words, start, round, started, reply, reported, sent}
 
-too_late : told started 1903 event.Tick ≡ note.Outcome 1 outcome.Silent ∷ []
+too_late : reported started 1903 event.Tick ≡ note.Outcome 1 outcome.Silent ∷ []
 unfolding unit_of frames frames_in rest rest_in is_garbled is_over is_closed stream next_id frames_at ending_at settled_by pending outcomes_at
 too_late = refl
 
 abbrev silent : History
 silent = Fed 1903 event.Tick ∷ started
 
-a_stray : told silent 1903 (reply 0 20 80 0) ≡ []
+a_stray : reported silent 1903 (reply 0 20 80 0) ≡ []
 unfolding unit_of frames frames_in rest rest_in is_garbled is_over is_closed stream next_id frames_at ending_at settled_by pending outcomes_at
 a_stray = refl
 
@@ -44,7 +44,7 @@ the_next_frame : sent silent 1904 (start three_words) ≡ 0 ∷ 1 ∷ 0 ∷ 0 �
 unfolding unit_of frames frames_in rest rest_in is_garbled is_over is_closed stream next_id frames_at ending_at settled_by pending outcomes_at
 the_next_frame = refl
 
-lost_with_its_connection : told (Fed 1904 (start three_words) ∷ silent) 1905 gone ≡ note.Outcome 2 (outcome.Lost lost.Gone) ∷ []
+lost_with_its_connection : reported (Fed 1904 (start three_words) ∷ silent) 1905 gone ≡ note.Outcome 2 (outcome.Lost lost.Gone) ∷ []
 unfolding unit_of frames frames_in rest rest_in is_garbled is_over is_closed stream next_id frames_at ending_at settled_by pending outcomes_at
 lost_with_its_connection = refl
 
@@ -127,11 +127,11 @@ a_third_has_no_room : decision_of both_wait 1000 (start two_words) ≡ Err refus
 unfolding unit_of frames frames_in rest rest_in is_garbled is_over is_closed stream next_id frames_at ending_at settled_by pending outcomes_at
 a_third_has_no_room = refl
 
-both_silent : told both_wait 1005 event.Tick ≡ note.Outcome 1 outcome.Silent ∷ note.Outcome 2 outcome.Silent ∷ []
+both_silent : reported both_wait 1005 event.Tick ≡ note.Outcome 1 outcome.Silent ∷ note.Outcome 2 outcome.Silent ∷ []
 unfolding unit_of frames frames_in rest rest_in is_garbled is_over is_closed stream next_id frames_at ending_at settled_by pending outcomes_at
 both_silent = refl
 
-the_second_is_answered_first : told both_wait 1001 (bytes ((0 ∷ 1 ∷ 0 ∷ 0 ∷ 0 ∷ 7 ∷ 1 ∷ 3 ∷ 4 ∷ 0 ∷ 0 ∷ 0 ∷ 7 ∷ []) ++ 0 ∷ 0 ∷ 0 ∷ 0 ∷ 0 ∷ 7 ∷ 1 ∷ 3 ∷ 4 ∷ 0 ∷ 0 ∷ 0 ∷ 9 ∷ []))
+the_second_is_answered_first : reported both_wait 1001 (bytes ((0 ∷ 1 ∷ 0 ∷ 0 ∷ 0 ∷ 7 ∷ 1 ∷ 3 ∷ 4 ∷ 0 ∷ 0 ∷ 0 ∷ 7 ∷ []) ++ 0 ∷ 0 ∷ 0 ∷ 0 ∷ 0 ∷ 7 ∷ 1 ∷ 3 ∷ 4 ∷ 0 ∷ 0 ∷ 0 ∷ 9 ∷ []))
     ≡ note.Outcome 2 outcome.Answered ∷ note.Outcome 1 outcome.Answered ∷ []
 unfolding unit_of frames frames_in rest rest_in is_garbled is_over is_closed stream next_id frames_at ending_at settled_by pending outcomes_at
 the_second_is_answered_first = refl

@@ -142,8 +142,8 @@ read at id counter past = Fed at (shows id counter) ∷ Fed at (start two_words)
 
 -- The notifications and sent bytes after an event, and the state of a meter after a history.
 
-abbrev pub told : History → (at : ℕ) → Event → List Note
-told past at e = notes_after past at e (decision_of past at e)
+abbrev pub reported : History → (at : ℕ) → Event → List Note
+reported past at e = notes_after past at e (decision_of past at e)
 
 abbrev pub sent : History → (at : ℕ) → Event → List ℕ
 sent past at e = outgoing_after past at e (decision_of past at e)

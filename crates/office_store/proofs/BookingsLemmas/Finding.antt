@@ -7,9 +7,9 @@ use Rattle.store_tables.specs.Content.{Content}
 use Rattle.store_tables.specs.Entries.Rows.{Entered, entry_columns, voided_columns, is_entry, IsRow}
 use Rattle.store_tables.specs.Entries.Trees.{entries, voids}
 use Rattle.store_tables.specs.declared.entries.rows.EntryRow.{EntryRow}
-use Rattle.store_facts.specs.Going.{Goes, Told}
-use Rattle.store_facts.proofs.GoingLemmas.{goes_then, then_failed, told_less}
-use Rattle.store_facts.specs.Voids.Places.{TellsOf, IsBefore, IsAfter}
+use Rattle.store_facts.specs.Going.{Goes, Reported}
+use Rattle.store_facts.proofs.GoingLemmas.{goes_then, then_failed, reported_less}
+use Rattle.store_facts.specs.Voids.Places.{ReportsOf, IsBefore, IsAfter}
 use Rattle.office_store.specs.declared.bookings.meter_state.Standing.{Standing}
 use Rattle.office_store.specs.declared.bookings.surroundings.Neighbours.{Neighbours}
 use Rattle.office_store.specs.declared.bookings.surroundings.Surroundings.{Surroundings}
@@ -25,39 +25,39 @@ module _ (meter : List ℕ) where
   -- True if a query found the entry of a meter at an index, or None if the meter has no such entry,
   -- and changed nothing.
   abbrev pub Asks : (place : ℕ) → Option EntryRow → Content → Content → Type 0
-  Asks place found = Told entries entry_columns (IsFound (is_entry meter place) IsRow) found
+  Asks place found = Reported entries entry_columns (IsFound (is_entry meter place) IsRow) found
 
   pub found_there : (place : ℕ) (a b : State) (found : Option EntryRow) (entry : EntryRow) → found ≡ Some entry → Goes {X = Option EntryRow} {E = RowFault} a b (Ok found) (Asks place found)
       → Goes {X = EntryRow} {E = RowFault} a b (Ok entry) (FindsEntry meter place entry)
   found_there place a b found entry is goes =
-      told_less {D = RowFault} a b found entry (Asks place found) (FindsEntry meter place entry)
-      (λ content after (told : Asks place found content after). record { same = told.same; there = λ rows has. subst (λ (f : Option EntryRow). IsFound (is_entry meter place) IsRow rows f) is (told.answers rows has) }) goes
+      reported_less {D = RowFault} a b found entry (Asks place found) (FindsEntry meter place entry)
+      (λ content after (reported : Asks place found content after). record { same = reported.same; there = λ rows has. subst (λ (f : Option EntryRow). IsFound (is_entry meter place) IsRow rows f) is (reported.answers rows has) }) goes
 
   -- If one query finds the last index before `place` without a void, and another query finds the
   -- meter entry at this index, the result is this entry.
-  pub found_before : (place at : ℕ) (a b c : State) (r : Result EntryRow RowFault) → Goes {X = ℕ} {E = RowFault} a b (Ok at) (Told voids voided_columns (IsBefore meter place) at)
+  pub found_before : (place at : ℕ) (a b c : State) (r : Result EntryRow RowFault) → Goes {X = ℕ} {E = RowFault} a b (Ok at) (Reported voids voided_columns (IsBefore meter place) at)
       → Goes b c r (Answered r (FindsEntry meter at)) → Goes a c r (Answered r (FindsBefore meter place))
-  found_before place at a b c (Err e) one two = then_failed a b c at e e (Told voids voided_columns (IsBefore meter place) at) (Answered (Err e) (FindsEntry meter at)) (Answered (Err e) (FindsBefore meter place)) one two
+  found_before place at a b c (Err e) one two = then_failed a b c at e e (Reported voids voided_columns (IsBefore meter place) at) (Answered (Err e) (FindsEntry meter at)) (Answered (Err e) (FindsBefore meter place)) one two
   found_before place at a b c (Ok entry) one two =
-      goes_then a b c at (Ok entry) (Told voids voided_columns (IsBefore meter place) at) (FindsEntry meter at entry) (FindsBefore meter place entry) one two
-      (λ before mid after (told : Told voids voided_columns (IsBefore meter place) at before mid) (finds : FindsEntry meter at entry mid after). record {
-        same = finds.same ∙ told.same;
+      goes_then a b c at (Ok entry) (Reported voids voided_columns (IsBefore meter place) at) (FindsEntry meter at entry) (FindsBefore meter place entry) one two
+      (λ before mid after (reported : Reported voids voided_columns (IsBefore meter place) at before mid) (finds : FindsEntry meter at entry mid after). record {
+        same = finds.same ∙ reported.same;
         at = at;
-        stands = told.answers;
-        there = earlier (HasEntry meter at (Some entry)) before mid told.same finds.there;
+        stands = reported.answers;
+        there = earlier (HasEntry meter at (Some entry)) before mid reported.same finds.there;
       })
 
-  pub found_after : (place at : ℕ) (a b c : State) (r : Result (Option EntryRow) RowFault) → Goes {X = ℕ} {E = RowFault} a b (Ok at) (Told voids voided_columns (IsAfter meter place) at)
-      → Goes b c r (TellsOf r entries entry_columns (IsFound (is_entry meter at) IsRow)) → Goes a c r (Answered r (FindsAfter meter place))
+  pub found_after : (place at : ℕ) (a b c : State) (r : Result (Option EntryRow) RowFault) → Goes {X = ℕ} {E = RowFault} a b (Ok at) (Reported voids voided_columns (IsAfter meter place) at)
+      → Goes b c r (ReportsOf r entries entry_columns (IsFound (is_entry meter at) IsRow)) → Goes a c r (Answered r (FindsAfter meter place))
   found_after place at a b c (Err e) one two =
-      then_failed a b c at e e (Told voids voided_columns (IsAfter meter place) at) (TellsOf {X = Entered} {A = Option EntryRow} (Err e) entries entry_columns (IsFound (is_entry meter at) IsRow)) (Answered (Err e) (FindsAfter meter place)) one two
+      then_failed a b c at e e (Reported voids voided_columns (IsAfter meter place) at) (ReportsOf {X = Entered} {A = Option EntryRow} (Err e) entries entry_columns (IsFound (is_entry meter at) IsRow)) (Answered (Err e) (FindsAfter meter place)) one two
   found_after place at a b c (Ok found) one two =
-      goes_then a b c at (Ok found) (Told voids voided_columns (IsAfter meter place) at) (Asks at found) (FindsAfter meter place found) one two
-      (λ before mid after (told : Told voids voided_columns (IsAfter meter place) at before mid) (asked : Asks at found mid after). record {
-        same = asked.same ∙ told.same;
+      goes_then a b c at (Ok found) (Reported voids voided_columns (IsAfter meter place) at) (Asks at found) (FindsAfter meter place found) one two
+      (λ before mid after (reported : Reported voids voided_columns (IsAfter meter place) at before mid) (asked : Asks at found mid after). record {
+        same = asked.same ∙ reported.same;
         at = at;
-        stands = told.answers;
-        there = earlier (HasEntry meter at found) before mid told.same asked.answers;
+        stands = reported.answers;
+        there = earlier (HasEntry meter at found) before mid reported.same asked.answers;
       })
 
   -- If three queries find a meter entry and its nearest neighbours that are not voided, they find

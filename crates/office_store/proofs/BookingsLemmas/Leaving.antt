@@ -29,12 +29,12 @@ stopped T a b c x e (Err d) P Q R one two is = going.then_failed a b c x e d P Q
 pub completed : {X Y D : Type 0} (a b c : State) (x : X) (n : Y) (P Q R : Content → Content → Type 0) → Goes {X = X} {E = D} a b (Ok x) P → Steps {X = Y} {E = Error} b c (Ok n) Q
     → ((before mid after : Content) → P before mid → Q mid after → R before after) → Goes {X = Unit {0}} {E = RowFault} a c (Ok tt) R
 completed a b c x n P Q R one two goes =
-    going.told_less {D = Error} a c n tt R R (λ content after is. is) (going.goes_then a b c x (Ok n) P Q R one (going.of_steps b c (Ok n) Q two) goes)
+    going.reported_less {D = Error} a c n tt R R (λ content after is. is) (going.goes_then a b c x (Ok n) P Q R one (going.of_steps b c (Ok n) Q two) goes)
 
 -- If a sequence consists of one statement, the sequence is complete after the statement succeeds.
 pub completed_alone : {Y : Type 0} (a b : State) (n : Y) (Q R : Content → Content → Type 0) → Steps {X = Y} {E = Error} a b (Ok n) Q
     → ((content after : Content) → Q content after → R content after) → Goes {X = Unit {0}} {E = RowFault} a b (Ok tt) R
-completed_alone a b n Q R one tells = going.told_less {D = Error} a b n tt Q R tells (going.of_steps a b (Ok n) Q one)
+completed_alone a b n Q R one reports = going.reported_less {D = Error} a b n tt Q R reports (going.of_steps a b (Ok n) Q one)
 
 -- The composition of two relations between contents of the tables.
 abbrev pub Then : (Content → Content → Type 0) → (Content → Content → Type 0) → Content → Content → Type 0

@@ -11,11 +11,11 @@ use Rattle.store_tables.specs.declared.faults.RowFault.TheVariants.{Damaged}
 use Rattle.store_tables.specs.Columns.{or_damaged, and_then}
 use Rattle.store_tables.specs.Limits.{greatest_place}
 use Rattle.store_tables.specs.Answer.{AreFound, IsLast, LastFirst}
-use Rattle.store_tables.specs.Asking.{AsksInside, TellsAnswer, ShowsFirst}
+use Rattle.store_tables.specs.Asking.{AsksInside, ReportsAnswer, ShowsFirst}
 use Rattle.store_tables.proofs.Selects.{found_none, last_some}
-use Rattle.store_facts.specs.Going.{Goes, Told}
+use Rattle.store_facts.specs.Going.{Goes, Reported}
 use Rattle.store_facts.specs.Recording.{next_place, IsNext}
-use Rattle.store_facts.proofs.GoingLemmas.{of_answer, told_less, then_refused}
+use Rattle.store_facts.proofs.GoingLemmas.{of_answer, reported_less, then_refused}
 use Rattle.office_store.specs.Bookings.Places.{one_on, next_in, Answered}
 
 on_by : (b : Bool) (place n : ℕ) → (let r : Result ℕ RowFault = cond b (Err Damaged) (Ok (place + 1)) in r) ≡ Ok n → n ≡ place + 1
@@ -39,16 +39,16 @@ module _ {X : Type 0} (passes : X → Bool) (key : X → ℕ) where
       let one : next_in (shown x ∷ []) ≡ Ok n = sym (ap next_in is) ∙ next in
       (Some (key x), read_by (nat_le 1 (key x) && nat_le (key x) greatest_place) (key x) n one, last_some passes (λ x n. n ≡ key x) key xs (x ∷ found) x (key x) are refl refl)
 
-  pub next_told : {S : Type 0} {Q : Type 0} (g : Ghosts S) (old new : Held S) (tree : ℕ) (columns : X → Row) (rows : Q) (items : List Row) (r : Result ℕ RowFault)
-      → AsksInside {X = Q} {E = Error} g old new (Ok rows) → TellsAnswer g old new tree columns (Ok rows) (λ xs a. ShowsFirst passes (LastFirst key) shown xs items) → r ≡ next_in items
+  pub next_reported : {S : Type 0} {Q : Type 0} (g : Ghosts S) (old new : Held S) (tree : ℕ) (columns : X → Row) (rows : Q) (items : List Row) (r : Result ℕ RowFault)
+      → AsksInside {X = Q} {E = Error} g old new (Ok rows) → ReportsAnswer g old new tree columns (Ok rows) (λ xs a. ShowsFirst passes (LastFirst key) shown xs items) → r ≡ next_in items
       → Goes {E = RowFault} (state g old) (state g new) r (Answered r (IsNext tree columns passes key))
-  next_told g old new tree columns rows items (Ok n) asks tells next =
-      told_less {D = Error} (state g old) (state g new) rows n (Told tree columns (λ xs a. ShowsFirst passes (LastFirst key) shown xs items) rows) (IsNext tree columns passes key n)
-      (λ content after (told : Told tree columns (λ xs a. ShowsFirst passes (LastFirst key) shown xs items) rows content after). record {
-        same = told.same;
-        following = λ xs has. let it = told.answers xs has in counted xs it.0 items n it.1 it.2 (sym next);
+  next_reported g old new tree columns rows items (Ok n) asks reports next =
+      reported_less {D = Error} (state g old) (state g new) rows n (Reported tree columns (λ xs a. ShowsFirst passes (LastFirst key) shown xs items) rows) (IsNext tree columns passes key n)
+      (λ content after (reported : Reported tree columns (λ xs a. ShowsFirst passes (LastFirst key) shown xs items) rows content after). record {
+        same = reported.same;
+        following = λ xs has. let it = reported.answers xs has in counted xs it.0 items n it.1 it.2 (sym next);
       })
-      (of_answer g old new tree columns (λ xs a. ShowsFirst passes (LastFirst key) shown xs items) rows asks tells)
-  next_told g old new tree columns rows items (Err e) asks tells next =
-      then_refused {D = Error} (state g old) (state g new) rows e (Told tree columns (λ xs a. ShowsFirst passes (LastFirst key) shown xs items) rows) (Answered {X = ℕ} {E = RowFault} (Err e) (IsNext tree columns passes key))
-      (of_answer g old new tree columns (λ xs a. ShowsFirst passes (LastFirst key) shown xs items) rows asks tells)
+      (of_answer g old new tree columns (λ xs a. ShowsFirst passes (LastFirst key) shown xs items) rows asks reports)
+  next_reported g old new tree columns rows items (Err e) asks reports next =
+      then_refused {D = Error} (state g old) (state g new) rows e (Reported tree columns (λ xs a. ShowsFirst passes (LastFirst key) shown xs items) rows) (Answered {X = ℕ} {E = RowFault} (Err e) (IsNext tree columns passes key))
+      (of_answer g old new tree columns (λ xs a. ShowsFirst passes (LastFirst key) shown xs items) rows asks reports)

@@ -6,11 +6,11 @@ use Rattle.sqlite.specs.Held.{Held, state}
 use Rattle.sqlite.specs.declared.error.Error.{Error}
 use Rattle.store_tables.specs.declared.faults.RowFault.{RowFault}
 use Rattle.store_tables.specs.Answer.{AnyOrder}
-use Rattle.store_tables.specs.Asking.{AsksInside, TellsAnswer, ShowsFirst, ReadsRow}
+use Rattle.store_tables.specs.Asking.{AsksInside, ReportsAnswer, ShowsFirst, ReadsRow}
 use Rattle.store_tables.specs.Content.{Content}
 use Rattle.store_tables.proofs.Selects.{found_some}
-use Rattle.store_facts.specs.Going.{Goes, Told}
-use Rattle.store_facts.proofs.GoingLemmas.{of_answer, told_less}
+use Rattle.store_facts.specs.Going.{Goes, Reported}
+use Rattle.store_facts.proofs.GoingLemmas.{of_answer, reported_less}
 use Rattle.office_store.specs.Bookings.Places.{Answered, IsSeenIn}
 
 -- If a call fails after one query, it commits nothing.
@@ -29,31 +29,31 @@ module _ {X : Type 0} (passes : X → Bool) (shown : X → Row) where
   first_shown row items (x ∷ found) is e = (x, refl, (let f : Some row ≡ Some (shown x) = sym is ∙ ap (λ rs. slice_get rs 0) e in cc))
 
   -- If the query of a look-up returns a row, the look-up's answer follows from this row.
-  pub seen_told : {S A B Q : Type 0} (g : Ghosts S) (old new : Held S) (tree : ℕ) (columns : X → Row) (rows : Q) (items : List Row) (row : Row) (a : A) (b : B)
+  pub seen_reported : {S A B Q : Type 0} (g : Ghosts S) (old new : Held S) (tree : ℕ) (columns : X → Row) (rows : Q) (items : List Row) (row : Row) (a : A) (b : B)
       (IsRead : X → A → Type 0) (IsSound : X → Type 0) (IsSeen : X → B → Type 0) → ((x : X) → IsRead x a → IsSeen x b)
-      → AsksInside {X = Q} {E = Error} g old new (Ok rows) → TellsAnswer g old new tree columns (Ok rows) (λ xs a. ShowsFirst passes AnyOrder shown xs items)
+      → AsksInside {X = Q} {E = Error} g old new (Ok rows) → ReportsAnswer g old new tree columns (Ok rows) (λ xs a. ShowsFirst passes AnyOrder shown xs items)
       → slice_get items 0 ≡ Some row → ReadsRow row shown IsRead IsSound (Ok a)
       → Goes {X = B} {E = RowFault} (state g old) (state g new) (Ok b) (IsSeenIn tree columns passes IsSeen b)
-  seen_told g old new tree columns rows items row a b IsRead IsSound IsSeen tells_more asks tells is reads =
-      told_less {D = Error} (state g old) (state g new) rows b (Told tree columns (λ xs a. ShowsFirst passes AnyOrder shown xs items) rows) (IsSeenIn tree columns passes IsSeen b)
-      (λ content after (told : Told tree columns (λ xs a. ShowsFirst passes AnyOrder shown xs items) rows content after). record {
-        same = told.same;
+  seen_reported g old new tree columns rows items row a b IsRead IsSound IsSeen reports_more asks reports is reads =
+      reported_less {D = Error} (state g old) (state g new) rows b (Reported tree columns (λ xs a. ShowsFirst passes AnyOrder shown xs items) rows) (IsSeenIn tree columns passes IsSeen b)
+      (λ content after (reported : Reported tree columns (λ xs a. ShowsFirst passes AnyOrder shown xs items) rows content after). record {
+        same = reported.same;
         seen = λ xs has.
-            let it = told.answers xs has in
+            let it = reported.answers xs has in
             let one = first_shown row items it.0 is it.2 in
-            found_some passes IsSeen AnyOrder xs it.0 one.0 b it.1 one.1 (tells_more one.0 (reads.read one.0 one.2));
+            found_some passes IsSeen AnyOrder xs it.0 one.0 b it.1 one.1 (reports_more one.0 (reads.read one.0 one.2));
       })
-      (of_answer g old new tree columns (λ xs a. ShowsFirst passes AnyOrder shown xs items) rows asks tells)
+      (of_answer g old new tree columns (λ xs a. ShowsFirst passes AnyOrder shown xs items) rows asks reports)
 
   -- If the query of a look-up returns a row, the look-up's answer is the value that the reader
   -- returns for this row.
-  pub read_told : {S A Q : Type 0} (g : Ghosts S) (old new : Held S) (tree : ℕ) (columns : X → Row) (rows : Q) (items : List Row) (row : Row) (r : Result A RowFault)
+  pub read_reported : {S A Q : Type 0} (g : Ghosts S) (old new : Held S) (tree : ℕ) (columns : X → Row) (rows : Q) (items : List Row) (row : Row) (r : Result A RowFault)
       (IsSeen : X → A → Type 0) (IsSound : X → Type 0)
-      → AsksInside {X = Q} {E = Error} g old new (Ok rows) → TellsAnswer g old new tree columns (Ok rows) (λ xs a. ShowsFirst passes AnyOrder shown xs items)
+      → AsksInside {X = Q} {E = Error} g old new (Ok rows) → ReportsAnswer g old new tree columns (Ok rows) (λ xs a. ShowsFirst passes AnyOrder shown xs items)
       → slice_get items 0 ≡ Some row → ReadsRow row shown IsSeen IsSound r
       → Goes (state g old) (state g new) r (Answered r (IsSeenIn tree columns passes IsSeen))
-  read_told {Q = Q} g old new tree columns rows items row (Ok a) IsSeen IsSound asks tells is reads =
-      seen_told g old new tree columns rows items row a a IsSeen IsSound IsSeen (λ x seen. seen) asks tells is reads
-  read_told {A = A} {Q = Q} g old new tree columns rows items row (Err e) IsSeen IsSound asks tells is reads =
+  read_reported {Q = Q} g old new tree columns rows items row (Ok a) IsSeen IsSound asks reports is reads =
+      seen_reported g old new tree columns rows items row a a IsSeen IsSound IsSeen (λ x seen. seen) asks reports is reads
+  read_reported {A = A} {Q = Q} g old new tree columns rows items row (Err e) IsSeen IsSound asks reports is reads =
       let asked : Result Q Error = Ok rows in
       asked_refused g old new asked e (Answered {X = A} {E = RowFault} (Err e) (IsSeenIn tree columns passes IsSeen)) asks

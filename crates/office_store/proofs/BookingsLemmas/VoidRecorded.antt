@@ -32,7 +32,7 @@ use Rattle.office_store.specs.Bookings.Voids.{EntersVoid}
 use Rattle.office_store.specs.declared.bookings.corrections.Correction.{Correction}
 use Rattle.office_store.specs.declared.bookings.surroundings.Surroundings.{Surroundings}
 use Rattle.office_store.proofs.BookingsLemmas.Left.{IsLeft, spares, row_changed, entries_after, intervals_after, energy_others}
-use Rattle.office_store.proofs.BookingsLemmas.Told.{is_left}
+use Rattle.office_store.proofs.BookingsLemmas.Reported.{is_left}
 
 -- After the row of a void is inserted and the void's changes are written, the tables encode the
 -- record of the void.

@@ -30,8 +30,8 @@ module _ (db : Database) (content after : Content) (had : AreTables db content) 
       IsPermutation-trans (map columns rows) (content tree) (after tree) are
       (IsPermutation-trans (content tree) _ (after tree) (IsPermutation-sym _ (content tree) (had.rows tree there)) (has.rows tree there))
 
-  told_again : (zone : List ℕ) (facts : List Fact) → AreOf zone facts content → AreOf zone facts after
-  told_again zone facts a = record {
+  reported_again : (zone : List ℕ) (facts : List Fact) → AreOf zone facts content → AreOf zone facts after
+  reported_again zone facts a = record {
     lawful = a.lawful;
     meta = same_rows meta_tree meta_columns (zone ∷ []) (tree_at books_schema.tables 0 meta_table refl) a.meta;
     devices = same_rows list_tree.devices device_columns (placed added (devices_in facts)) (tree_at books_schema.tables 1 devices_table refl) a.devices;
@@ -63,4 +63,4 @@ module _ (db : Database) (content after : Content) (had : AreTables db content) 
 
 pub databases_give_their_records : TablesTellTheirFacts → DatabasesTellTheirFacts
 databases_give_their_records law zone others_zone facts others db a b =
-    law zone others_zone facts others a.content a.are (told_again db b.content a.content b.tables a.tables others_zone others b.are)
+    law zone others_zone facts others a.content a.are (reported_again db b.content a.content b.tables a.tables others_zone others b.are)

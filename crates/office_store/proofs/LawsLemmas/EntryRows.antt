@@ -54,12 +54,12 @@ scale_by o place k (entry.Change at before new set) stands rows h =
 
 -- If two meter entries have the same kind, either both set the counter (a reset or a rescale), or
 -- neither does.
-entry_told : (k : journal.EntryKind) (a b : Entry) (sf : ℤ) → sets k ≡ is_change a → sets k ≡ is_change b → HasScale a sf → HasScale b sf
+entry_reported : (k : journal.EntryKind) (a b : Entry) (sf : ℤ) → sets k ≡ is_change a → sets k ≡ is_change b → HasScale a sf → HasScale b sf
     → moment_of a ≡ moment_of b → raw_of a ≡ raw_of b → rolls_of a ≡ rolls_of b → after_of a ≡ after_of b → a ≡ b
-entry_told k (entry.Step at raw rolls) (entry.Step at' raw' rolls') sf p q s t moment r turns after = λ i. entry.Step (moment i) (r i) (turns i)
-entry_told k (entry.Step at raw rolls) (entry.Change at' before new set) sf p q s t moment r turns after = absurd (let e : false ≡ true = sym p ∙ q in cc)
-entry_told k (entry.Change at before new set) (entry.Step at' raw' rolls') sf p q s t moment r turns after = absurd (let e : true ≡ false = sym p ∙ q in cc)
-entry_told k (entry.Change at before new set) (entry.Change at' before' new' set') sf p q s t moment r turns after =
+entry_reported k (entry.Step at raw rolls) (entry.Step at' raw' rolls') sf p q s t moment r turns after = λ i. entry.Step (moment i) (r i) (turns i)
+entry_reported k (entry.Step at raw rolls) (entry.Change at' before new set) sf p q s t moment r turns after = absurd (let e : false ≡ true = sym p ∙ q in cc)
+entry_reported k (entry.Change at before new set) (entry.Step at' raw' rolls') sf p q s t moment r turns after = absurd (let e : true ≡ false = sym p ∙ q in cc)
+entry_reported k (entry.Change at before new set) (entry.Change at' before' new' set') sf p q s t moment r turns after =
     let scale : set ≡ set' = s ∙ sym t in λ i. entry.Change (moment i) (r i) (after i) (scale i)
 
 -- True if two journals have voids of the same meter entries.
@@ -70,8 +70,8 @@ module _ (o : Opening) (lines others : Journal) (voids : SameVoids lines others)
   abbrev row_in : EntryRow → List EntryRow → Entered
   row_in a rows = entered o.meter (entry_row (scale_after o (a ∷ rows)) a)
 
-  row_told : (a b : EntryRow) (xs ys : List EntryRow) → row_in a xs ≡ row_in b ys → IsFormed a → IsFormed b → StandsBy lines a → StandsBy others b → a ≡ b
-  row_told a b xs ys e p q s t =
+  row_reported : (a b : EntryRow) (xs ys : List EntryRow) → row_in a xs ≡ row_in b ys → IsFormed a → IsFormed b → StandsBy lines a → StandsBy others b → a ≡ b
+  row_reported a b xs ys e p q s t =
       let place : a.place ≡ b.place = λ i. (e i).entry.place in
       let kind : a.kind ≡ b.kind = undone kind_as kind_from kind_back _ _ (λ i. (e i).entry.kind) in
       let sf : scale_after o (a ∷ xs) ≡ scale_after o (b ∷ ys) = λ i. (e i).entry.sf in
@@ -79,7 +79,7 @@ module _ (o : Opening) (lines others : Journal) (voids : SameVoids lines others)
       let theirs : HasScale b.entry (scale_after o (a ∷ xs)) =
       scale_turned b.entry (sym sf) (scale_by o b.place b.kind b.entry b.stands ys q.stands) in
       let entry : a.entry ≡ b.entry =
-      entry_told a.kind a.entry b.entry (scale_after o (a ∷ xs)) p.kind (ap sets kind ∙ q.kind) mine theirs
+      entry_reported a.kind a.entry b.entry (scale_after o (a ∷ xs)) p.kind (ap sets kind ∙ q.kind) mine theirs
       (λ i. (e i).entry.moment) (λ i. (e i).entry.raw) (λ i. (e i).entry.rolls) (λ i. (e i).entry.after) in
       let stands : a.stands ≡ b.stands = s ∙ ap not (voids a.place ∙ ap (λ n. is_voided n others) place) ∙ sym t in
       λ i. record { place = place i; kind = kind i; entry = entry i; stands = stands i }
@@ -92,15 +92,15 @@ module _ (o : Opening) (lines others : Journal) (voids : SameVoids lines others)
   none_empty [] e = cc
   none_empty (x ∷ xs) e = cc
 
-  pub rows_told : (xs ys : List EntryRow) → entered_rows o xs ≡ entered_rows o ys → AllByRecursion IsFormed xs → AllByRecursion IsFormed ys
+  pub rows_reported : (xs ys : List EntryRow) → entered_rows o xs ≡ entered_rows o ys → AllByRecursion IsFormed xs → AllByRecursion IsFormed ys
       → AllByRecursion (StandsBy lines) xs → AllByRecursion (StandsBy others) ys → xs ≡ ys
-  rows_told [] [] e p q s t = refl
-  rows_told [] (y ∷ ys) e p q s t = absurd (none_empty ys (let rest : [] ≡ entered_rows o ys = cc in rest))
-  rows_told (x ∷ xs) [] e p q s t = absurd (none_empty xs (let rest : [] ≡ entered_rows o xs = cc in rest))
-  rows_told (x ∷ xs) (y ∷ ys) e p q s t =
+  rows_reported [] [] e p q s t = refl
+  rows_reported [] (y ∷ ys) e p q s t = absurd (none_empty ys (let rest : [] ≡ entered_rows o ys = cc in rest))
+  rows_reported (x ∷ xs) [] e p q s t = absurd (none_empty xs (let rest : [] ≡ entered_rows o xs = cc in rest))
+  rows_reported (x ∷ xs) (y ∷ ys) e p q s t =
       let head : row_in x xs ≡ row_in y ys = cc in
       let rest : entered_rows o xs ≡ entered_rows o ys = cc in
-      ap₂ ◌∷◌ (row_told x y xs ys head p.0 q.0 s.0 t.0) (rows_told xs ys rest p.1 q.1 s.1 t.1)
+      ap₂ ◌∷◌ (row_reported x y xs ys head p.0 q.0 s.0 t.0) (rows_reported xs ys rest p.1 q.1 s.1 t.1)
 
 -- ---- the indices of a meter's entries
 

@@ -45,7 +45,7 @@ module _ {X Y : Type 0} (key : Y → ℕ) (row : ℕ → X → Y) (keyed : (plac
       )
 
 -- If two lists have the same numbered rows, `R` relates their elements at each index.
-module _ {X Y : Type 0} (row other : ℕ → X → Y) (R : X → X → Type 0) (tells : (m n : ℕ) (x y : X) → row m x ≡ other n y → R x y) where
+module _ {X Y : Type 0} (row other : ℕ → X → Y) (R : X → X → Type 0) (reports : (m n : ℕ) (x y : X) → row m x ≡ other n y → R x y) where
   zip_placed : (xs ys : List X) → placed row xs ≡ placed other ys → AllZip R xs ys
   zip_placed [] [] e = tt
   zip_placed [] (y ∷ ys) e = absurd (let h = e in cc)
@@ -53,7 +53,7 @@ module _ {X Y : Type 0} (row other : ℕ → X → Y) (R : X → X → Type 0) (
   zip_placed (x ∷ xs) (y ∷ ys) e =
       let head : row (length xs + 1) x ≡ other (length ys + 1) y = cc in
       let rest : placed row xs ≡ placed other ys = cc in
-      (tells _ _ x y head, zip_placed xs ys rest)
+      (reports _ _ x y head, zip_placed xs ys rest)
 
   zip_placed_on : (m n : ℕ) (xs ys : List X) → placed_on row m xs ≡ placed_on other n ys → AllZip R xs ys
   zip_placed_on m n [] [] e = tt
@@ -62,7 +62,7 @@ module _ {X Y : Type 0} (row other : ℕ → X → Y) (R : X → X → Type 0) (
   zip_placed_on m n (x ∷ xs) (y ∷ ys) e =
       let head : row (m + 1) x ≡ other (n + 1) y = cc in
       let rest : placed_on row (m + 1) xs ≡ placed_on other (n + 1) ys = cc in
-      (tells _ _ x y head, zip_placed_on (m + 1) (n + 1) xs ys rest)
+      (reports _ _ x y head, zip_placed_on (m + 1) (n + 1) xs ys rest)
 
   module _ (key : Y → ℕ) (keyed : (place : ℕ) (x : X) → key (row place x) ≡ place) (other_keyed : (place : ℕ) (x : X) → key (other place x) ≡ place) where
     pub placed_alike : (xs ys : List X) → IsPermutation (placed row xs) (placed other ys) → AllZip R xs ys
@@ -75,7 +75,7 @@ module _ {X Y : Type 0} (row other : ℕ → X → Y) (R : X → X → Type 0) (
         (same_in_order (Rises key) (rises_one_way key) (placed_on row 0 xs) (placed_on other 0 ys) (placed_rise key row keyed 0 xs) (placed_rise key other other_keyed 0 ys) h)
 
 -- If two lists have the same numbered rows, and a row determines its element, the lists are equal.
-pub placed_same : {X Y : Type 0} (row : ℕ → X → Y) (tells : (m n : ℕ) (x y : X) → row m x ≡ row n y → x ≡ y) (key : Y → ℕ)
+pub placed_same : {X Y : Type 0} (row : ℕ → X → Y) (reports : (m n : ℕ) (x y : X) → row m x ≡ row n y → x ≡ y) (key : Y → ℕ)
     (keyed : (place : ℕ) (x : X) → key (row place x) ≡ place) (xs ys : List X) → IsPermutation (placed row xs) (placed row ys) → xs ≡ ys
-placed_same row tells key keyed xs ys h =
-    sym (same_from_all_zip (λ x y. x ≡ y) xs ys (placed_alike row row (λ x y. x ≡ y) tells key keyed keyed xs ys h) (λ x y e. sym e))
+placed_same row reports key keyed xs ys h =
+    sym (same_from_all_zip (λ x y. x ≡ y) xs ys (placed_alike row row (λ x y. x ≡ y) reports key keyed keyed xs ys h) (λ x y e. sym e))

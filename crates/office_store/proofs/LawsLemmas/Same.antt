@@ -28,7 +28,7 @@ use Rattle.office_store.proofs.LawsLemmas.Columns as columns
 use Rattle.office_store.proofs.LawsLemmas.Rows.{one_device, one_register, one_hold, one_void, one_end, one_reply, one_poll}
 use Rattle.office_store.proofs.LawsLemmas.Placed.{Falls, falls_one_way, placed_alike, placed_same}
 use Rattle.office_store.proofs.LawsLemmas.Points.{same_list}
-use Rattle.office_store.proofs.LawsLemmas.EntryRows.{SameVoids, rows_told, entries_fall, opening_among, first_entry}
+use Rattle.office_store.proofs.LawsLemmas.EntryRows.{SameVoids, rows_reported, entries_fall, opening_among, first_entry}
 use Rattle.office_store.proofs.LawsLemmas.Facts.{last_put, number_of, polls_fall, IsInstalled, all_installed, has_rows, names, voids_named}
 
 one_zone : IsInjective meta_columns
@@ -167,7 +167,7 @@ module _ (stand : RowsStand) (once : ListsArePlannedOnce) (zone others_zone : Li
       let also : IsInstalled others o = all_among (IsInstalled others) (openings_in others) o (all_installed others b.lawful) (subst (Among o) same_openings mine) in
       let rows = has_rows stand facts o a.lawful here in
       let theirs = has_rows stand others o b.lawful also in
-      rows_told o (journal_of facts o.meter) (journal_of others o.meter) (voids_agree o.meter) (rows_of facts o) (rows_of others o)
+      rows_reported o (journal_of facts o.meter) (journal_of others o.meter) (voids_agree o.meter) (rows_of facts o) (rows_of others o)
       (same_in_order (Falls entry_place) (falls_one_way entry_place) (entered_rows o (rows_of facts o)) (entered_rows o (rows_of others o))
       (entries_fall o (rows_of facts o) rows.numbered) (entries_fall o (rows_of others o) theirs.numbered) (meter_entries o o here also))
       rows.formed theirs.formed rows.stand theirs.stand

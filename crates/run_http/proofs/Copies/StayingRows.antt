@@ -90,12 +90,12 @@ stay_in_journal law meter place more lines own h le void =
     rows_before (quarter_of (last_after meter base).at) (rows_of_steps (steps_after meter base)) in
     let moment : quarter_before meter place (more ++ lines) ≡ quarter_before meter place lines =
     ap (λ (first : List EntryRow). quarter_of (last_after meter (journal.entries_in first)).at) same in
-    let told : List Share = interval_rows meter (more ++ lines) in
-    let stay : rows_before (quarter_before meter place lines) told ≡ rows_before (quarter_before meter place lines) (interval_rows meter lines) =
-    ap (λ n. rows_before n told) (sym moment) ∙ rows_of_first law meter place (more ++ lines) own h
+    let reported : List Share = interval_rows meter (more ++ lines) in
+    let stay : rows_before (quarter_before meter place lines) reported ≡ rows_before (quarter_before meter place lines) (interval_rows meter lines) =
+    ap (λ n. rows_before n reported) (sym moment) ∙ rows_of_first law meter place (more ++ lines) own h
     ∙ ap of_entries same ∙ sym (rows_of_first law meter place lines own fits) in
-    let earlier : (from : ℕ) → from ≤ quarter_before meter place lines → rows_before from told ≡ rows_before from (interval_rows meter lines) =
-    λ from upto. sym (before_earlier (quarter_before meter place lines) from told upto) ∙ ap (rows_before from) stay
+    let earlier : (from : ℕ) → from ≤ quarter_before meter place lines → rows_before from reported ≡ rows_before from (interval_rows meter lines) =
+    λ from upto. sym (before_earlier (quarter_before meter place lines) from reported upto) ∙ ap (rows_before from) stay
     ∙ before_earlier (quarter_before meter place lines) from (interval_rows meter lines) upto in
     let rising = (has_rows law (steps_after meter (journal.entries_of meter.opening (more ++ lines)))
     (in_time meter (journal.entries_of meter.opening (more ++ lines)) (journals_are_kept meter (more ++ lines) own h).account.follow)).rising in
@@ -104,8 +104,8 @@ stay_in_journal law meter place more lines own h le void =
       moment = moment;
       rows = earlier;
       whole = λ from till upto last.
-          let before = all_before meter.opening.at (last_in meter (more ++ lines)).at till told (rows_lie_within law meter (more ++ lines) own h) last in
-          rows_part from till told rising before ∙ ap (λ rs. rs ++ rows_within (Between from till) told) (earlier from upto);
+          let before = all_before meter.opening.at (last_in meter (more ++ lines)).at till reported (rows_lie_within law meter (more ++ lines) own h) last in
+          rows_part from till reported rising before ∙ ap (λ rs. rs ++ rows_within (Between from till) reported) (earlier from upto);
     }
 
 -- ---- Quarter hours that further records of the store leave unchanged.

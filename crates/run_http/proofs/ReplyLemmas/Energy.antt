@@ -11,13 +11,13 @@ use Rattle.interval_core.specs.declared.zone.Zone.{Zone}
 use Rattle.office_books.specs.Ledgers.{Ledger}
 use Rattle.office_books.specs.declared.failures.Failures.{Failures}
 use Rattle.office_books.specs.Rows.{TakesAll}
-use Rattle.office_core.specs.DayRange.{HandsDaysWithin, TellsDaysWithin}
+use Rattle.office_core.specs.DayRange.{HandsDaysWithin, ReportsDaysWithin}
 use Rattle.office_core.specs.Standing.{books_in}
 use Rattle.office_core.specs.Taking.{failures_of}
 use Rattle.office_core.specs.declared.office.Office.{Office}
 use Rattle.office_events.specs.declared.refusals.Refusal.{Refusal}
 use Rattle.office_rules.specs.History.{History, facts_of}
-use Rattle.run_http.specs.RegisterReplies.{AsksEnergy, IsReport, PutsLast, RepliesEnergy, TellsDaysReport, with_energy_reply}
+use Rattle.run_http.specs.RegisterReplies.{AsksEnergy, IsReport, PutsLast, RepliesEnergy, ReportsDaysReport, with_energy_reply}
 
 -- If a report receives some days and then more days, then it has received all these days in order.
 taken_all : {W : Type 0} (contents : W → Option (List ℕ)) (days more : List DayTotal) (from at to : ReportRows W)
@@ -33,12 +33,12 @@ taken_all contents days (day ∷ more) from at to has took =
 
 -- After the program's answer and the rest of the report, the output has the complete report.
 written : {W : Type 0} (E : Type 0) (contents : W → Option (List ℕ)) (zone : Zone) (past : History) (register : Option (List ℕ)) (form : ReportForm)
-    (before after : Failures) (from to left : ReportRows W) (output : W) (answer told : Result (Unit {0}) Refusal)
+    (before after : Failures) (from to left : ReportRows W) (output : W) (answer reported : Result (Unit {0}) Refusal)
     → IsFresh contents form output from
     → HandsDaysWithin (TakesDay contents) zone (facts_of past) register form.range before after from to answer
-    → OnOk answer (PutsLast {E = E} contents (Ok told) to left)
+    → OnOk answer (PutsLast {E = E} contents (Ok reported) to left)
     → OnOk answer (IsReport zone past register form (Appends (contents output) (contents left.output.now)))
-written {W} E contents zone past register form before after from to left output (Ok done) told fresh hands last =
+written {W} E contents zone past register form before after from to left output (Ok done) reported fresh hands last =
     let days = hands.whole.days in
     let taken = taken_all contents [] days from from to fresh.taken hands.whole.took in
     let P : Bool → Type 0 = λ failed. GotUnless failed (report_text from.form days) (contents from.output.now) (contents left.output.now) in
@@ -46,23 +46,23 @@ written {W} E contents zone past register form before after from to left output 
     let text : report_text from.form days ≡ report_text form days = ap (λ those. report_text those days) fresh.form in
     let Q : List ℕ → Type 0 = λ those. Appends (contents from.output.now) (contents left.output.now) those in
     (days, hands.whole.are, rw (sym fresh.output) (subst Q text got))
-written E contents zone past register form before after from to left output (Err why) told fresh hands last = tt
+written E contents zone past register form before after from to left output (Err why) reported fresh hands last = tt
 
 -- After one query of the store, the output has the complete energy report, or the call has failed.
-pub tells : {B W E : Type 0} (ledger : B → Ledger) (contents : W → Option (List ℕ)) (old new : Office B) (register : Option (List ℕ)) (form : ReportForm)
+pub reports : {B W E : Type 0} (ledger : B → Ledger) (contents : W → Option (List ℕ)) (old new : Office B) (register : Option (List ℕ)) (form : ReportForm)
     (from to left : ReportRows W) (output holds : W) (answer : Result (Unit {0}) Refusal) (result : Result (Result (Unit {0}) Refusal) E)
-    → IsFresh contents form output from → TellsDaysWithin (TakesDay contents) ledger old new from to answer register form.range
+    → IsFresh contents form output from → ReportsDaysWithin (TakesDay contents) ledger old new from to answer register form.range
     → OnOk answer (PutsLast contents result to left) → holds ≡ left.output.now
-    → OnOk result (TellsDaysReport ledger old new register form answer (Appends (contents output) (contents holds)))
-tells {E = E} ledger contents old new register form from to left output holds answer (Ok told) fresh days last end = λ past stands clean.
+    → OnOk result (ReportsDaysReport ledger old new register form answer (Appends (contents output) (contents holds)))
+reports {E = E} ledger contents old new register form from to left output holds answer (Ok reported) fresh days last end = λ past stands clean.
     let zone = (ledger (books_in old)).zone in
     let hands = days past stands clean in
     record {
       found = hands.answer;
       report =
-          rw end (written E contents zone past register form (failures_of ledger old) (failures_of ledger new) from to left output answer told fresh hands last);
+          rw end (written E contents zone past register form (failures_of ledger old) (failures_of ledger new) from to left output answer reported fresh hands last);
     }
-tells ledger contents old new register form from to left output holds answer (Err fault) fresh days last end = tt
+reports ledger contents old new register form from to left output holds answer (Err fault) fresh days last end = tt
 
 -- If a report receives days, then its writer is unchanged.
 pub taken_by : {W : Type 0} (contents : W → Option (List ℕ)) (days : List DayTotal) (from to : ReportRows W)
@@ -80,23 +80,23 @@ alone zone past register form had holds (Ok done) none (days, are, text) = (days
 alone zone past register form had holds (Err why) none text = tt
 
 pub replied : {B E F : Type 0} (ledger : B → Ledger) (old new : Office B) (register : Option (List ℕ)) (form : ReportForm) (had holds from to : List ℕ)
-    (told : Result (Unit {0}) Refusal) (result : Result (Unit {0}) E)
-    → AsksEnergy ledger old new register form (Some had) (Some holds) {E = F} (Ok told) → had ≡ []
-    → OnOk result (to ≡ with_energy_reply told holds from) → RepliesEnergy ledger old new register form from to result
-replied ledger old new register form had holds from to told (Ok done) asked none puts = record {
+    (reported : Result (Unit {0}) Refusal) (result : Result (Unit {0}) E)
+    → AsksEnergy ledger old new register form (Some had) (Some holds) {E = F} (Ok reported) → had ≡ []
+    → OnOk result (to ≡ with_energy_reply reported holds from) → RepliesEnergy ledger old new register form from to result
+replied ledger old new register form had holds from to reported (Ok done) asked none puts = record {
   answer = asked.answer;
   report = holds;
   asks = asked.asks;
-  tells = λ past stands clean.
-      let it = asked.tells past stands clean in
+  reports = λ past stands clean.
+      let it = asked.reports past stands clean in
       record { found = it.found; report = alone (ledger (books_in old)).zone past register form had holds asked.answer none it.report };
   puts = puts ∙ ap (λ answer. with_energy_reply answer holds from) asked.gives;
 }
-replied ledger old new register form had holds from to told (Err why) asked none puts = record {
+replied ledger old new register form had holds from to reported (Err why) asked none puts = record {
   answer = asked.answer;
   report = [];
   asks = asked.asks;
-  tells = tt;
+  reports = tt;
   puts = tt;
 }
 
@@ -109,6 +109,6 @@ lacked ledger old new register form had holds from to asked (Err why) asks fault
   answer = asks.answer;
   report = [];
   asks = asks.asks;
-  tells = tt;
+  reports = tt;
   puts = tt;
 }

@@ -15,7 +15,7 @@ use Rattle.office_books.specs.Rows.{TakesAll}
 use Rattle.office_books.specs.Spans.{rows_within}
 use Rattle.office_books.specs.declared.failures.Failures.{Failures}
 use Rattle.office_books.specs.declared.spans.Span.TheVariants.{Between}
-use Rattle.office_core.specs.Asking.{IsRowFound, OnlyAsks, TellsRows, is_there, rows_in}
+use Rattle.office_core.specs.Asking.{IsRowFound, OnlyAsks, ReportsRows, is_there, rows_in}
 use Rattle.office_core.specs.Failing.{IsOutside}
 use Rattle.office_core.specs.Parts.{IsListed, intervals_within}
 use Rattle.office_core.specs.Standing.{After, Stands}
@@ -33,7 +33,7 @@ use Rattle.office_rules.specs.Lawfulness.{FactsAreLawful}
 use Rattle.office_rules.specs.Meters.{installation_of, meter_of}
 use Rattle.run_http.specs.Copies.{quarter_of}
 use Rattle.run_http.specs.MeterReplies.{AsksRows}
-use Rattle.run_http.specs.Pieces.{ArePieces, AreSizes, BeginsReply, IsBegun, IsSettled, Piece, PiecesAreWhole, SizesRow, SizesRows, MovesOn, TellsOn, TellsRest, TextStays, body_size, last_quarter, left_after, rows_between, rows_left, text_after, text_left, with_all_rows, with_head, with_rows}
+use Rattle.run_http.specs.Pieces.{ArePieces, AreSizes, BeginsReply, IsBegun, IsSettled, Piece, PiecesAreWhole, SizesRow, SizesRows, MovesOn, ReportsOn, ReportsRest, TextStays, body_size, last_quarter, left_after, rows_between, rows_left, text_after, text_left, with_all_rows, with_head, with_rows}
 use Rattle.run_http.specs.declared.pieces.RemainingRows.{RemainingRows}
 use Rattle.run_http.specs.declared.row_sizes.RowSizes.{RowSizes}
 use Rattle.run_http.specs.declared.row_sizes.Sizes.{Sizes}
@@ -43,16 +43,16 @@ use Rattle.run_http.proofs.ReplyLemmas.Voids.{mapped}
 
 -- ---- The text lines of interval rows in a response.
 
--- The lines of the rows, and the last line, which also counts `told` earlier rows.
-abbrev text_of : (told : ℕ) → List Share → List ℕ
-text_of told rows = flat_map share_line rows ++ end_line (told + length rows)
+-- The lines of the rows, and the last line, which also counts `reported` earlier rows.
+abbrev text_of : (reported : ℕ) → List Share → List ℕ
+text_of reported rows = flat_map share_line rows ++ end_line (reported + length rows)
 
 -- The text that remains before a chunk equals the lines of the chunk, followed by the text that
 -- remains after the chunk.
-pub told_on : (from to : List ℕ) (piece others : List Share) (told later : ℕ) → to ≡ from ++ flat_map share_line piece → later ≡ told + length piece
-    → to ++ text_of later others ≡ from ++ text_of told (piece ++ others)
-told_on from to piece others told later put counted =
-    let count : later + length others ≡ told + length (piece ++ others) = omega (arith, counted, length-append piece others) in
+pub reported_on : (from to : List ℕ) (piece others : List Share) (reported later : ℕ) → to ≡ from ++ flat_map share_line piece → later ≡ reported + length piece
+    → to ++ text_of later others ≡ from ++ text_of reported (piece ++ others)
+reported_on from to piece others reported later put counted =
+    let count : later + length others ≡ reported + length (piece ++ others) = omega (arith, counted, length-append piece others) in
     ap (λ t. t ++ text_of later others) put
     ∙ append_assoc from (flat_map share_line piece) (text_of later others)
     ∙ ap (λ t. from ++ t) (sym (append_assoc (flat_map share_line piece) (flat_map share_line others) (end_line (later + length others))))
@@ -84,7 +84,7 @@ module _ {B : Type 0} (ledger : B → Ledger) (old new : Office B) where
       → meter_of facts it.opening.meter ≡ Some it
       → first ≡ max from (quarter_of it.opening.at) → end ≡ max first (min till (quarter_of it.last.at))
       → rows_between facts (Some it.opening.meter) end till ≡ last
-      → left.meter ≡ Some it.opening.meter → left.from ≡ first → left.till ≡ end → left.last.items ≡ last → left.told ≡ 0
+      → left.meter ≡ Some it.opening.meter → left.from ≡ first → left.till ≡ end → left.last.items ≡ last → left.reported ≡ 0
       → IsBegun facts it.opening.meter from till intervals_text [] left
   begun facts it from till first end last left law lawful there first_is end_is kept meter low high same none =
       let meter_is = found facts it it.opening.meter there in
@@ -102,8 +102,8 @@ module _ {B : Type 0} (ledger : B → Ledger) (old new : Office B) where
       ∙ ap (λ rs. rows_between facts (Some it.opening.meter) first end ++ rs) same
       ∙ sym all in
       record {
-        tells =
-            ap (text_of left.told) rows ∙ ap (λ n. text_of n (rows_between facts (Some it.opening.meter) from till)) none
+        reports =
+            ap (text_of left.reported) rows ∙ ap (λ n. text_of n (rows_between facts (Some it.opening.meter) from till)) none
             ∙ ap (λ n. flat_map share_line (rows_between facts (Some it.opening.meter) from till) ++ end_line n)
             (zero-add (length (rows_between facts (Some it.opening.meter) from till)));
         settled = λ lt.
@@ -121,23 +121,23 @@ module _ {B : Type 0} (ledger : B → Ledger) (old new : Office B) where
       meter_is.1 listed
 
   -- The rows that a query returns are the rows that the store's records define.
-  listed_as : {F : Type 0} (says : List Fact → Option (List Share)) (told : Result (Vec Share Global) Refusal) → AsksRows ledger old new says {E = F} (Ok told)
-      → After ledger old new (λ past. IsListed (says (facts_of past)) (failures_of ledger old) (failures_of ledger new) told)
-  listed_as says told asked = λ past stands clean.
+  listed_as : {F : Type 0} (says : List Fact → Option (List Share)) (reported : Result (Vec Share Global) Refusal) → AsksRows ledger old new says {E = F} (Ok reported)
+      → After ledger old new (λ past. IsListed (says (facts_of past)) (failures_of ledger old) (failures_of ledger new) reported)
+  listed_as says reported asked = λ past stands clean.
       subst (λ (a : Result (Vec Share Global) Refusal). IsListed (says (facts_of past)) (failures_of ledger old) (failures_of ledger new) a) (sym asked.gives)
       (asked.lists past stands clean)
 
   lawful_after : (past : History) → FactsAreLawful → Stands ledger past old → AreLawful (facts_of past)
   lawful_after past law stands = law past stands.books.is_past.accepted stands.books.is_past.planned
 
-  asks_as : {F : Type 0} (says : List Fact → Option (List Share)) (told : Result (Vec Share Global) Refusal) → AsksRows ledger old new says {E = F} (Ok told)
-      → OnlyAsks ledger old new told
-  asks_as says told asked = subst (λ (a : Result (Vec Share Global) Refusal). OnlyAsks ledger old new a) (sym asked.gives) asked.asks
+  asks_as : {F : Type 0} (says : List Fact → Option (List Share)) (reported : Result (Vec Share Global) Refusal) → AsksRows ledger old new says {E = F} (Ok reported)
+      → OnlyAsks ledger old new reported
+  asks_as says reported asked = subst (λ (a : Result (Vec Share Global) Refusal). OnlyAsks ledger old new a) (sym asked.gives) asked.asks
 
   pub begins_rows : {E F : Type 0} (it : Installation) (from till first end : ℕ) (last : Vec Share Global) (left : RemainingRows) → SharesAddUp → FactsAreLawful
       → first ≡ max from (quarter_of it.opening.at) → end ≡ max first (min till (quarter_of it.last.at))
       → AsksRows ledger old new (λ facts. intervals_within facts (Some it.opening.meter) (Between end till)) {E = F} (Ok (Ok last))
-      → left.meter ≡ Some it.opening.meter → left.from ≡ first → left.till ≡ end → left.last ≡ last → left.told ≡ 0
+      → left.meter ≡ Some it.opening.meter → left.from ≡ first → left.till ≡ end → left.last ≡ last → left.reported ≡ 0
       → BeginsReply ledger old new it from till intervals_text [] {E = E} (Ok (Ok left))
   begins_rows it from till first end last left law lawful first_is end_is asked meter low high same none = record {
     answer = Ok tt;
@@ -170,21 +170,21 @@ module _ {B : Type 0} (ledger : B → Ledger) (old new : Office B) where
   pub begins_lacked : {E F : Type 0} (it : Installation) (from till end : ℕ) (fault : F) (result : Result (Result RemainingRows Refusal) E)
       → AsksRows ledger old new (λ facts. intervals_within facts (Some it.opening.meter) (Between end till)) (Err fault) → IsErr result
       → BeginsReply ledger old new it from till intervals_text [] result
-  begins_lacked it from till end fault (Ok told) asked is = cc is
+  begins_lacked it from till end fault (Ok reported) asked is = cc is
   begins_lacked it from till end fault (Err why) asked is = record { answer = without_rows asked.answer; asks = asks_without asked.answer asked.asks; begins = tt }
 
   -- ---- The chunks of a streamed response.
 
-  pub tells_on : {E F : Type 0} (left later : RemainingRows) (seconds till : ℕ) (from to : List ℕ) (rows : Vec Share Global) (shown : List Share) → SharesAddUp
+  pub reports_on : {E F : Type 0} (left later : RemainingRows) (seconds till : ℕ) (from to : List ℕ) (rows : Vec Share Global) (shown : List Share) → SharesAddUp
       → FactsAreLawful → (left.from ≤ left.till → left.from ≤ till) → till ≤ left.till → (left.till ≤ left.from → till ≡ left.till)
       → (left.from < left.till → 0 < seconds → left.from < till) → till ≤ left.from + seconds
       → AsksRows ledger old new (λ facts. intervals_within facts left.meter (Between left.from till)) {E = F} (Ok (Ok rows))
-      → shown ≡ rows.items → to ≡ from ++ flat_map share_line shown → later ≡ record left { from = till; told = left.told + length shown }
-      → TellsOn ledger old new left later seconds from to {E = E} (Ok (Ok tt))
-  tells_on left later seconds till from to rows shown law lawful low high none some few asked same put is = record {
+      → shown ≡ rows.items → to ≡ from ++ flat_map share_line shown → later ≡ record left { from = till; reported = left.reported + length shown }
+      → ReportsOn ledger old new left later seconds from to {E = E} (Ok (Ok tt))
+  reports_on left later seconds till from to rows shown law lawful low high none some few asked same put is = record {
     answer = asked.answer;
     asks = asked.asks;
-    tells = (
+    reports = (
       record {
         meter = ap (λ (l : RemainingRows). l.meter) is;
         till = ap (λ (l : RemainingRows). l.till) is;
@@ -196,8 +196,8 @@ module _ {B : Type 0} (ledger : B → Ledger) (old new : Office B) where
       },
       λ past stands clean.
           let facts : List Fact = facts_of past in
-          let told = listed_as (λ facts. intervals_within facts left.meter (Between left.from till)) (Ok rows) asked past stands clean in
-          let piece : rows_between facts left.meter left.from till ≡ shown = ap rows_in told.0 ∙ sym same in
+          let reported = listed_as (λ facts. intervals_within facts left.meter (Between left.from till)) (Ok rows) asked past stands clean in
+          let piece : rows_between facts left.meter left.from till ≡ shown = ap rows_in reported.0 ∙ sym same in
           let parts : rows_between facts left.meter left.from left.till ≡ shown ++ rows_between facts left.meter till left.till =
           a_piece law facts left.meter left.from till left.till (lawful_after past lawful stands) low high none
           ∙ ap (λ rs. rs ++ rows_between facts left.meter till left.till) piece in
@@ -205,16 +205,16 @@ module _ {B : Type 0} (ledger : B → Ledger) (old new : Office B) where
           let all : rows_left facts left ≡ shown ++ others =
           ap (λ rs. rs ++ left.last.items) parts ∙ append_assoc shown (rows_between facts left.meter till left.till) left.last.items in
           let after : rows_left facts later ≡ others = ap (λ (l : RemainingRows). rows_left facts l) is in
-          ap (λ rs. to ++ text_of later.told rs) after
-          ∙ told_on from to shown others left.told later.told put (ap (λ (l : RemainingRows). l.told) is)
-          ∙ ap (λ rs. from ++ text_of left.told rs) (sym all),
+          ap (λ rs. to ++ text_of later.reported rs) after
+          ∙ reported_on from to shown others left.reported later.reported put (ap (λ (l : RemainingRows). l.reported) is)
+          ∙ ap (λ rs. from ++ text_of left.reported rs) (sym all),
     );
   }
 
-  pub tells_refused : {E F : Type 0} (left later : RemainingRows) (seconds till : ℕ) (from to : List ℕ) (why : Refusal)
+  pub reports_refused : {E F : Type 0} (left later : RemainingRows) (seconds till : ℕ) (from to : List ℕ) (why : Refusal)
       → AsksRows ledger old new (λ facts. intervals_within facts left.meter (Between left.from till)) {E = F} (Ok (Err why))
-      → TellsOn ledger old new left later seconds from to {E = E} (Ok (Err why))
-  tells_refused left later seconds till from to why asked = record { answer = asked.answer; asks = asked.asks; tells = sym asked.gives }
+      → ReportsOn ledger old new left later seconds from to {E = E} (Ok (Err why))
+  reports_refused left later seconds till from to why asked = record { answer = asked.answer; asks = asked.asks; reports = sym asked.gives }
 
 -- ---- The size of a streamed response.
 
@@ -243,16 +243,16 @@ body_is : (facts : List Fact) (left : RemainingRows) (sizes : Sizes) → AreSize
 body_is facts left sizes are =
     let rows : List Share = rows_between facts left.meter left.from left.till in
     let last : List Share = left.last.items in
-    let count : left.told + sizes.count + length last ≡ left.told + length (rows ++ last) = omega (arith, are.1, length-append rows last) in
-    let ends : end_line (left.told + sizes.count + length last) ≡ end_line (left.told + length (rows ++ last)) = ap end_line count in
+    let count : left.reported + sizes.count + length last ≡ left.reported + length (rows ++ last) = omega (arith, are.1, length-append rows last) in
+    let ends : end_line (left.reported + sizes.count + length last) ≡ end_line (left.reported + length (rows ++ last)) = ap end_line count in
     omega (
       arith,
       are.0,
       ap (λ (t : List ℕ). length t) ends,
       ap (λ (t : List ℕ). length t) (flat_map-append share_line rows last),
       length-append (flat_map share_line rows) (flat_map share_line last),
-      length-append (flat_map share_line last) (end_line (left.told + sizes.count + length last)),
-      length-append (flat_map share_line (rows ++ last)) (end_line (left.told + length (rows ++ last))),
+      length-append (flat_map share_line last) (end_line (left.reported + sizes.count + length last)),
+      length-append (flat_map share_line (rows ++ last)) (end_line (left.reported + length (rows ++ last))),
     )
 
 there_is : (facts : List Fact) (it : Installation) (meter : Option (List ℕ)) (from till : ℕ) → meter ≡ Some it.opening.meter
@@ -265,24 +265,24 @@ there_is facts it meter from till named there =
 
 outside : (found : Option (Unit {0})) (before mid after : Failures) (answer : Result (Unit {0}) Refusal) (why : Refusal) → found ≡ Some tt → mid ≡ before
     → answer ≡ Err why → IsRowFound found mid after answer → IsOutside ⊥ before after why
-outside found before mid after answer why there same is told =
-    let at_some = subst (λ f. IsRowFound f mid after answer) there told in
+outside found before mid after answer why there same is reported =
+    let at_some = subst (λ f. IsRowFound f mid after answer) there reported in
     let at_why = subst (λ (a : Result (Unit {0}) Refusal). IsRowFound (Some tt) mid after a) is at_some in
     subst (λ was. IsOutside ⊥ was after why) same (failed_some mid after why at_why)
 
 module _ {B : Type 0} (ledger : B → Ledger) (old mid new : Office B) where
-  pub sized : {E : Type 0} (left : RemainingRows) (from to : RowSizes) (told : Sizes) → from.sizes ≡ record { bytes = 0; count = 0 } → to.is_whole ≡ true
-      → told ≡ to.sizes
-      → TellsRows SizesRow ledger mid new from to (Ok tt) (λ facts. intervals_within facts left.meter (Between left.from left.till))
-      → OnlyAsks {T = Unit {0}} ledger mid new (Ok tt) → SizesRows ledger mid new left {E = E} (Ok (Ok told))
-  sized left from to told none whole is tells asks = record {
+  pub sized : {E : Type 0} (left : RemainingRows) (from to : RowSizes) (reported : Sizes) → from.sizes ≡ record { bytes = 0; count = 0 } → to.is_whole ≡ true
+      → reported ≡ to.sizes
+      → ReportsRows SizesRow ledger mid new from to (Ok tt) (λ facts. intervals_within facts left.meter (Between left.from left.till))
+      → OnlyAsks {T = Unit {0}} ledger mid new (Ok tt) → SizesRows ledger mid new left {E = E} (Ok (Ok reported))
+  sized left from to reported none whole is reports asks = record {
     answer = Ok tt;
     asks = asks;
     sizes = (
       refl,
       λ past stands clean.
           let rows : List Share = rows_between (facts_of past) left.meter left.from left.till in
-          let all = all_sized from to rows (tells past stands clean).whole whole in
+          let all = all_sized from to rows (reports past stands clean).whole whole in
           let bytes : from.sizes.bytes ≡ 0 = ap (λ (s : Sizes). s.bytes) none in
           let count : from.sizes.count ≡ 0 = ap (λ (s : Sizes). s.count) none in (
             ap (λ (s : Sizes). s.bytes) is ∙ all.1 ∙ ap (λ n. n + length (flat_map share_line rows)) bytes ∙ zero-add (length (flat_map share_line rows)),
@@ -292,18 +292,18 @@ module _ {B : Type 0} (ledger : B → Ledger) (old mid new : Office B) where
   }
 
   pub sized_refused : {E : Type 0} (left : RemainingRows) (from to : RowSizes) (why : Refusal)
-      → TellsRows SizesRow ledger mid new from to (Err why) (λ facts. intervals_within facts left.meter (Between left.from left.till))
+      → ReportsRows SizesRow ledger mid new from to (Err why) (λ facts. intervals_within facts left.meter (Between left.from left.till))
       → OnlyAsks {T = Unit {0}} ledger mid new (Err why) → SizesRows ledger mid new left {E = E} (Ok (Err why))
-  sized_refused left from to why tells asks = record {
+  sized_refused left from to why reports asks = record {
     answer = Err why;
     asks = asks;
-    sizes = (refl, λ past stands clean. (tells past stands clean).answer);
+    sizes = (refl, λ past stands clean. (reports past stands clean).answer);
   }
 
   -- If memory ran out for a line, the call fails as `SizesRows` allows.
   pub sizes_none : {E : Type 0} (left : RemainingRows) (answer : Result (Unit {0}) Refusal) (result : Result (Result Sizes Refusal) E)
       → OnlyAsks ledger mid new answer → IsErr result → SizesRows ledger mid new left result
-  sizes_none left answer (Ok told) asks is = cc is
+  sizes_none left answer (Ok reported) asks is = cc is
   sizes_none left answer (Err why) asks is = record { answer = answer; asks = asks; sizes = tt }
 
   -- ---- A response whose head contains the size of its body.
@@ -339,9 +339,9 @@ module _ {B : Type 0} (ledger : B → Ledger) (old mid new : Office B) where
               let are = sized.sizes.1 past (begins.asks.stands past stands) clean in
               let bytes : size ≡ length (text_left facts left) = size_is ∙ body_is facts left sizes are in
               record {
-                tells =
+                reports =
                     ap (λ t. t ++ text_left facts left) (write_is ∙ ap (λ n. with_head n text) bytes)
-                    ∙ ap (λ t. with_head (length t) text ++ t) begun.tells;
+                    ∙ ap (λ t. with_head (length t) text ++ t) begun.reports;
                 settled = begun.settled;
               },
         );
@@ -369,7 +369,7 @@ module _ {B : Type 0} (ledger : B → Ledger) (old mid new : Office B) where
   pub sizes_lacked : {E F : Type 0} (it : Installation) (from till : ℕ) (text put : List ℕ) (left : RemainingRows) (answer : Result (Unit {0}) Refusal)
       (result : Result (Result RemainingRows Refusal) F) → BeginsReply ledger old mid it from till intervals_text [] {E = E} (Ok (Ok left))
       → OnlyAsks ledger mid new answer → IsErr result → BeginsReply ledger old new it from till (with_rows text) put result
-  sizes_lacked it from till text put left answer (Ok told) begins asks is = cc is
+  sizes_lacked it from till text put left answer (Ok reported) begins asks is = cc is
   sizes_lacked it from till text put left answer (Err why) begins asks is =
       record { answer = answer; asks = then_asks it from till intervals_text [] left answer begins asks; begins = tt }
 
@@ -383,7 +383,7 @@ module _ {B : Type 0} (ledger : B → Ledger) (old new : Office B) where
   pub lacked_so : {E F : Type 0} (it : Installation) (from till : ℕ) (reply other : List Share → List ℕ) (put text : List ℕ) (fault : E)
       (result : Result (Result RemainingRows Refusal) F) → BeginsReply ledger old new it from till reply put (Err fault) → IsErr result
       → BeginsReply ledger old new it from till other text result
-  lacked_so it from till reply other put text fault (Ok told) begins is = cc is
+  lacked_so it from till reply other put text fault (Ok reported) begins is = cc is
   lacked_so it from till reply other put text fault (Err why) begins is = record { answer = begins.answer; asks = begins.asks; begins = tt }
 
   -- The response with all quarter hours of a meter begins with a head without Content-Length.
@@ -400,26 +400,26 @@ module _ {B : Type 0} (ledger : B → Ledger) (old new : Office B) where
           let facts : List Fact = facts_of past in
           let begun = begins.begins.2 past stands clean there in
           record {
-            tells =
+            reports =
                 ap (λ t. t ++ text_left facts left) write_is ∙ append_assoc text text_head (text_left facts left)
-                ∙ ap (λ t. text ++ (text_head ++ t)) begun.tells;
+                ∙ ap (λ t. text ++ (text_head ++ t)) begun.reports;
             settled = begun.settled;
           },
     );
   }
 
 -- The end of a response has the stored last rows and the number of all rows.
-rest_told : (left : RemainingRows) (from between to : List ℕ) (count : ℕ) → between ≡ from ++ flat_map share_line left.last.items → count ≡ left.told + length left.last.items
-    → to ≡ between ++ end_line count → TellsRest left from to
-rest_told left from between to count lines counted put = λ facts le.
+rest_reported : (left : RemainingRows) (from between to : List ℕ) (count : ℕ) → between ≡ from ++ flat_map share_line left.last.items → count ≡ left.reported + length left.last.items
+    → to ≡ between ++ end_line count → ReportsRest left from to
+rest_reported left from between to count lines counted put = λ facts le.
     put ∙ ap (λ t. t ++ end_line count) lines ∙ append_assoc from (flat_map share_line left.last.items) (end_line count)
     ∙ ap (λ n. from ++ (flat_map share_line left.last.items ++ end_line n)) counted
-    ∙ ap (λ rs. from ++ text_of left.told (rs ++ left.last.items)) (sym (none_between facts left.meter left.from left.till le))
+    ∙ ap (λ rs. from ++ text_of left.reported (rs ++ left.last.items)) (sym (none_between facts left.meter left.from left.till le))
 
 pub rest_on : {E : Type 0} (left : RemainingRows) (from between to : List ℕ) (count : ℕ) (result : Result (Unit {0}) E)
-    → between ≡ from ++ flat_map share_line left.last.items → count ≡ left.told + length left.last.items
-    → OnOk result (to ≡ between ++ end_line count) → OnOk result (TellsRest left from to)
-rest_on left from between to count (Ok x) lines counted put = rest_told left from between to count lines counted put
+    → between ≡ from ++ flat_map share_line left.last.items → count ≡ left.reported + length left.last.items
+    → OnOk result (to ≡ between ++ end_line count) → OnOk result (ReportsRest left from to)
+rest_on left from between to count (Ok x) lines counted put = rest_reported left from between to count lines counted put
 rest_on left from between to count (Err why) lines counted put = tt
 
 -- ---- Streamed responses with records that are added between their chunks.
@@ -433,7 +433,7 @@ text_stays law further facts meter o left h there named settled void =
     ∙ rows_stay law further facts meter o left.from left.till h there
     (λ lt. subst (λ (i : Option Installation). left.till ≤ last_quarter i) known (settled lt)) void
     ∙ ap (λ m. rows_between facts m left.from left.till) (sym named) in
-    ap (λ rs. text_of left.told (rs ++ left.last.items)) same
+    ap (λ rs. text_of left.reported (rs ++ left.last.items)) same
 
 -- After a chunk, the rows still to be queried belong to the same meter as before. They start before
 -- the quarter hour of the meter's last entry.
@@ -452,12 +452,12 @@ settled_on facts left later seconds moves settled = λ lt.
 record Goes (facts : List Fact) (meter : List ℕ) (left later : RemainingRows) (before after : List ℕ) : Type 0 where
   named : later.meter ≡ Some meter
   settled : IsSettled facts later
-  told : after ++ text_left facts later ≡ before ++ text_left facts left
+  reported : after ++ text_left facts later ≡ before ++ text_left facts left
 
 goes : SharesAddUp → (facts : List Fact) (meter : List ℕ) (o : Opening) (left : RemainingRows) (text : List ℕ) (pieces : List Piece)
     → opening_of facts meter ≡ Some o → left.meter ≡ Some meter → IsSettled facts left → ArePieces facts meter o left text pieces
     → Goes facts meter left (left_after left pieces) text (text_after text pieces)
-goes law facts meter o left text [] there named settled are = record { named = named; settled = settled; told = refl }
+goes law facts meter o left text [] there named settled are = record { named = named; settled = settled; reported = refl }
 goes law facts meter o left text (piece ∷ earlier) there named settled are =
     let before = goes law facts meter o left text earlier there named settled are.1 in
     let one = are.0 in
@@ -471,9 +471,9 @@ goes law facts meter o left text (piece ∷ earlier) there named settled are =
     record {
       named = same;
       settled = on;
-      told =
-          ap (λ t. piece.text ++ t) (sym later) ∙ one.tells ∙ ap (λ t. text_after text earlier ++ t) now ∙ before.told;
+      reported =
+          ap (λ t. piece.text ++ t) (sym later) ∙ one.reports ∙ ap (λ t. text_after text earlier ++ t) now ∙ before.reported;
     }
 
 pub chunks_form_response : SharesAddUp → PiecesAreWhole
-chunks_form_response law facts meter o left text pieces there named settled are = (goes law facts meter o left text pieces there named settled are).told
+chunks_form_response law facts meter o left text pieces there named settled are = (goes law facts meter o left text pieces there named settled are).reported

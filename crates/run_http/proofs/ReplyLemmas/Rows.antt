@@ -10,7 +10,7 @@ use Rattle.office_rules.specs.History.{facts_of}
 use Rattle.office_books.specs.Ledgers.{Ledger}
 use Rattle.office_books.specs.Rows.{TakesAll}
 use Rattle.office_books.specs.declared.failures.Failures.{Failures}
-use Rattle.office_core.specs.Asking.{HandsRows, IsRowFound, OnlyAsks, TellsRows, or_not_found}
+use Rattle.office_core.specs.Asking.{HandsRows, IsRowFound, OnlyAsks, ReportsRows, or_not_found}
 use Rattle.office_core.specs.Failing.{IsOutside}
 use Rattle.office_core.specs.Parts.{IsListed}
 use Rattle.office_core.specs.Taking.{failures_of}
@@ -88,21 +88,21 @@ asks_with ledger old new rows (Err why) asks = record {
 -- If memory sufficed for all rows, then the result of the query has the rows of the store or the
 -- program's refusal.
 pub asked : {B E : Type 0} (ledger : B → Ledger) (old new : Office B) (says : List Fact → Option (List Share)) (from to : KeptRows) (kept : Vec Share Global)
-    (answer : Result (Unit {0}) Refusal) → TellsRows KeepsRow ledger old new from to answer says → OnlyAsks ledger old new answer
+    (answer : Result (Unit {0}) Refusal) → ReportsRows KeepsRow ledger old new from to answer says → OnlyAsks ledger old new answer
     → from.rows.items ≡ [] → to.is_whole ≡ true → kept ≡ to.rows → AsksRows ledger old new says {E = E} (Ok (with_rows kept answer))
-asked ledger old new says from to kept answer tells asks none whole is = record {
+asked ledger old new says from to kept answer reports asks none whole is = record {
   answer = with_rows kept answer;
   asks = asks_with ledger old new kept answer asks;
   gives = refl;
   lists = λ past stands clean.
-      listed (says (facts_of past)) (failures_of ledger old) (failures_of ledger new) from to kept answer (tells past stands clean) none whole is;
+      listed (says (facts_of past)) (failures_of ledger old) (failures_of ledger new) from to kept answer (reports past stands clean) none whole is;
 }
 
 -- If memory ran out for a row, the call fails as `AsksRows` allows.
 pub lacked : {B E : Type 0} (ledger : B → Ledger) (old new : Office B) (says : List Fact → Option (List Share)) (kept : Vec Share Global)
     (answer : Result (Unit {0}) Refusal) (result : Result (Result (Vec Share Global) Refusal) E) → OnlyAsks ledger old new answer → IsErr result
     → AsksRows ledger old new says result
-lacked ledger old new says kept answer (Ok told) asks fault = cc fault
+lacked ledger old new says kept answer (Ok reported) asks fault = cc fault
 lacked ledger old new says kept answer (Err why) asks fault = record {
   answer = with_rows kept answer;
   asks = asks_with ledger old new kept answer asks;

@@ -30,8 +30,8 @@ use Rattle.office_books.proofs.Pieces.{last_piece, one_piece_more, piece_at}
 
 -- ---- The entries of one chunk.
 
--- After one more entry of a chunk is examined, the collected entries include that entry if it is
--- voided.
+-- The list of voided entries is correct for one more entry of the chunk: the program appended that
+-- entry if it is voided, and left the list unchanged if it is not.
 pub one_more : (piece : List MeterEntry) (i : ℕ) (any : MeterEntry) (before mid after : List MeterEntry) → i < length piece
     → mid ≡ before ++ voided_in (take i piece) → after ≡ mid ++ voided_in (get_or piece i any ∷ []) → after ≡ before ++ voided_in (take (i + 1) piece)
 one_more piece i any before mid after lt kept more =
@@ -74,27 +74,27 @@ module _ {B : Type 0} (ledger : B → Ledger) where
   -- followed by the voided entries of the second chunk.
   of_both : (es piece : List MeterEntry) (n : ℕ) (kept more : List MeterEntry) → more ≡ kept ++ voided_in piece → kept ≡ voided_in (take n es)
       → more ≡ voided_in (take n es ++ piece)
-  of_both es piece n kept more took told =
-      took ∙ ap (λ front. front ++ voided_in piece) told ∙ sym (filter-append is_voided (take n es) piece)
+  of_both es piece n kept more took reported =
+      took ∙ ap (λ front. front ++ voided_in piece) reported ∙ sym (filter-append is_voided (take n es) piece)
 
   pub more_kept : (a b d : Office B) (meter : Option (List ℕ)) (n : ℕ) (kept more : List MeterEntry) (v : Vec MeterEntry Global)
       → Keeps ledger a b → AreKept a b meter n kept → OnlyAsks ledger b d (Ok v)
       → ListsAccepted ledger b d (Ok v) (λ facts. entries_within facts meter (n + 1) 65536)
       → more ≡ kept ++ voided_in v.items → AreKept a d meter (n + 65536) more
-  more_kept a b d meter n kept more v keeps told asks lists took = λ past stands clean opening is.
+  more_kept a b d meter n kept more v keeps reported asks lists took = λ past stands clean opening is.
       let facts = facts_of past in
       let es = entries_at facts (Some opening) in
       let known = subst (λ o. IsListed (option_map (from_place facts n) o) (failures_of ledger b) (failures_of ledger d) (Ok v)) is
       (lists past (keeps.stands past stands) clean) in
       let items : v.items ≡ take 65536 (drop n es) = sym (some_same (from_place facts n opening) v.items known.0) ∙ piece_at facts opening n 65536 in
-      of_both es v.items n kept more took (told past stands (asks.clean clean) opening is)
+      of_both es v.items n kept more took (reported past stands (asks.clean clean) opening is)
       ∙ ap voided_in (ap (λ (piece : List MeterEntry). take n es ++ piece) items ∙ one_piece_more n 65536 es)
 
   pub all_kept : (a b d : Office B) (meter : Option (List ℕ)) (n : ℕ) (kept : List MeterEntry) (v w : Vec MeterEntry Global)
       → Keeps ledger a b → AreKept a b meter n kept → OnlyAsks ledger b d (Ok v)
       → ListsAccepted ledger b d (Ok v) (λ facts. entries_within facts meter (n + 1) 65536)
       → w.items ≡ kept ++ voided_in v.items → length v.items < 65536 → ListsAccepted ledger a d (Ok w) (λ facts. voids_of facts meter)
-  all_kept a b d meter n kept v w keeps told asks lists took few = λ past stands clean.
+  all_kept a b d meter n kept v w keeps reported asks lists took few = λ past stands clean.
       let facts = facts_of past in
       let known = lists past (keeps.stands past stands) clean in
       let found = mapped (from_place facts n) (option_and_then (opening_of facts) meter) v.items known.0 in
@@ -103,17 +103,17 @@ module _ {B : Type 0} (ledger : B → Ledger) where
       let items : v.items ≡ take 65536 (drop n es) = sym found.2 ∙ piece_at facts opening n 65536 in
       let last : length (take 65536 (drop n es)) < 65536 = subst (λ (piece : List MeterEntry). length piece < 65536) items few in
       let all : w.items ≡ voided_in es =
-      of_both es v.items n kept w.items took (told past stands (asks.clean clean) opening found.1)
+      of_both es v.items n kept w.items took (reported past stands (asks.clean clean) opening found.1)
       ∙ ap voided_in (ap (λ (piece : List MeterEntry). take n es ++ piece) items ∙ last_piece n 65536 es last) in
       (ap (option_map (all_voided facts)) found.1 ∙ ap Some (sym all), known.1 ∙ keeps.failures)
 
   -- ---- The complete list of voided entries.
 
-  pub told : {E : Type 0} (a b d : Office B) (meter : Option (List ℕ)) (n : ℕ) (kept : List MeterEntry) (v w : Vec MeterEntry Global)
+  pub reported : {E : Type 0} (a b d : Office B) (meter : Option (List ℕ)) (n : ℕ) (kept : List MeterEntry) (v w : Vec MeterEntry Global)
       → Keeps ledger a b → AreKept a b meter n kept → OnlyAsks ledger b d (Ok v)
       → ListsAccepted ledger b d (Ok v) (λ facts. entries_within facts meter (n + 1) 65536)
       → w.items ≡ kept ++ voided_in v.items → length v.items < 65536 → AsksRows ledger a d (λ facts. voids_of facts meter) {E = E} (Ok (Ok w))
-  told a b d meter n kept v w keeps are asks lists took few = record {
+  reported a b d meter n kept v w keeps are asks lists took few = record {
     answer = Ok w;
     asks = answered_as ledger a d w (λ stopped. goes_on ledger b d v asks (keeps.stays ∙ stopped)) (kept_on ledger a b d keeps (asked ledger b d v asks));
     gives = refl;

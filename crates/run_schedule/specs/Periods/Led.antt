@@ -43,19 +43,19 @@ other_length period.Month = period.Year
 other_length period.Year = period.Month
 
 -- True if the text is a period of the configured length or of the alternative length.
-abbrev pub tells : Period → List ℕ → Bool
-tells length text = spells length text || spells (other_length length) text
+abbrev pub reports : Period → List ℕ → Bool
+reports length text = spells length text || spells (other_length length) text
 
 -- The file name `name` is `file` with the period `text`.
 pub record IsFileOf (file : List ℕ) (length : Period) (name text : List ℕ) : Type 0 where
-  pub told : tells length text ≡ true
+  pub reported : reports length text ≡ true
   pub named : file_of file text ≡ name
 
 -- The period in the file name `name`, if `name` is `file` with a period.
-abbrev pub IsToldBy : (file : List ℕ) → Period → (name : List ℕ) → Option (Bor (List ℕ))
+abbrev pub IsReportedBy : (file : List ℕ) → Period → (name : List ℕ) → Option (Bor (List ℕ))
     → Type 0
-IsToldBy file length name (Some text) = IsFileOf file length name text.now
-IsToldBy file length name None = (text : List ℕ) → ¬ IsFileOf file length name text
+IsReportedBy file length name (Some text) = IsFileOf file length name text.now
+IsReportedBy file length name None = (text : List ℕ) → ¬ IsFileOf file length name text
 
 -- The rank of a file by its period; the current file has the greatest rank. The order is by year,
 -- then the configured period length before the alternative, then by month and day.
@@ -74,9 +74,9 @@ gives_way (Some led) length text = nat_lt (rank length led.items) (rank length t
 -- greater rank.
 pub record IsLast (file : List ℕ) (length : Period) (names : List (List ℕ))
     (text : List ℕ) : Type 0 where
-  pub told : tells length text ≡ true
+  pub reported : reports length text ≡ true
   pub there : Contains names (file_of file text)
-  pub last : (other : List ℕ) → tells length other ≡ true → Contains names (file_of file other)
+  pub last : (other : List ℕ) → reports length other ≡ true → Contains names (file_of file other)
       → rank length other ≤ rank length text
 
 -- The period of the current file among these names, if any of the names has a period.
@@ -84,7 +84,7 @@ abbrev pub IsLed : {Z : Type 0} → (file : List ℕ) → Period → (names : Li
     → Option (Vec ℕ Z) → Type 0
 IsLed file length names (Some text) = IsLast file length names text.items
 IsLed file length names None =
-    (text : List ℕ) → tells length text ≡ true → ¬ Contains names (file_of file text)
+    (text : List ℕ) → reports length text ≡ true → ¬ Contains names (file_of file text)
 
 -- Suppose `old` is the period of the current file among some file names. Then `new` is the period
 -- of the current file among these names and `name`.

@@ -1,7 +1,7 @@
 //! Finds the current file, in which the program records energy, by the periods in file names.
 ghost use Rattle.std.specs.Prelude.{◌≡◌, ◌≤◌, ◌<◌, ◌*◌, ◌+◌, nat_lt};
 ghost use Rattle.run_schedule.specs.Periods.Led as numbers;
-ghost use Rattle.run_schedule.specs.Periods.Led.{IsToldBy};
+ghost use Rattle.run_schedule.specs.Periods.Led.{IsReportedBy};
 
 use crate::periods::names::{period_of_file, spells};
 use energy_report::Period;
@@ -66,7 +66,7 @@ fn rank(length: Period, text: &[u8]) -> u32
 // Returns the period in a file name. The period has the configured length, or the alternative
 // length (`other_length`).
 fn name_by_length<'a>(file: &[u8], length: Period, name: &'a [u8]) -> Option<&'a [u8]>
-    ensures { IsToldBy file.now length name.now result }
+    ensures { IsReportedBy file.now length name.now result }
 {
     match period_of_file(file, length, name) {
         Some(text) => Some(text),
@@ -109,10 +109,12 @@ impl ActivePeriod {
         }
     }
 
-    /// Adds the name of another file in the folder of the store.
+    /// Considers the name of another file in the folder of the store, and keeps it if it is more
+    /// current than the one kept so far.
     ///
-    /// The current file is a file of the latest year. Within a year, a file of the configured
-    /// period length comes first. Among several such files, the latest month or day comes first.
+    /// A file of a later year is more current. Within a year, a file of the configured period
+    /// length is more current than one of another length. Among several such files, the one with
+    /// the latest month or day is.
     pub fn see(
         &mut self,
         alloc: Global,

@@ -27,7 +27,7 @@ impl OnwardTime {
     /// Returns the time when the clock reads `now`: `now` or the lower bound `least`, whichever is
     /// later.
     pub fn read(&mut self, now: u64) -> u64
-        ensures told { result ≡ max now self.old.least }
+        ensures reported { result ≡ max now self.old.least }
         ensures least { self.new.least ≡ self.old.least }
         ensures latest { self.new.latest ≡ max self.old.latest result }
     {

@@ -47,18 +47,18 @@ is_due queue = not (queue.dropped == 0) && is_written queue
 
 -- The line queue after the number of dropped lines was reported. The queue has only the line with
 -- that number.
-abbrev pub told : (at : ℕ) → Queue → Queue
-told at queue = record { put = with_dropped at queue.dropped []; written = 0; dropped = 0 }
+abbrev pub reported : (at : ℕ) → Queue → Queue
+reported at queue = record { put = with_dropped at queue.dropped []; written = 0; dropped = 0 }
 
 -- The number of dropped lines is reported if `due` is true and memory suffices.
-abbrev pub TellsDroppedBy : (due : Bool) → (at : ℕ) → (old new : Queue) → Type 0
-TellsDroppedBy true at old new = (new ≡ told at old) ⊎ (new ≡ emptied old)
-TellsDroppedBy false at old new = new ≡ old
+abbrev pub ReportsDroppedBy : (due : Bool) → (at : ℕ) → (old new : Queue) → Type 0
+ReportsDroppedBy true at old new = (new ≡ reported at old) ⊎ (new ≡ emptied old)
+ReportsDroppedBy false at old new = new ≡ old
 
 -- The number of dropped lines is reported if lines were dropped, no bytes wait, and memory
 -- suffices.
-abbrev pub TellsDropped : (at : ℕ) → (old new : Queue) → Type 0
-TellsDropped at old new = TellsDroppedBy (is_due old) at old new
+abbrev pub ReportsDropped : (at : ℕ) → (old new : Queue) → Type 0
+ReportsDropped at old new = ReportsDroppedBy (is_due old) at old new
 
 -- True if the queue has room for a text. The queue has room if no line was dropped, and it is empty
 -- or has at most 65,536 bytes including the text.

@@ -114,7 +114,7 @@ impl LineQueue {
     /// Adds the line that says how many lines were dropped up to the time `at`, once all waiting
     /// lines were written. If memory runs out, a later call adds that line.
     pub fn append_dropped(&mut self, at: u64)
-        ensures { queues.TellsDropped at (queue_of self.old) (queue_of self.new) }
+        ensures { queues.ReportsDropped at (queue_of self.old) (queue_of self.new) }
     {
         if self.dropped == 0 || !self.is_written() {
             return;

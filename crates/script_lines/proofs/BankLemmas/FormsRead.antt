@@ -50,8 +50,8 @@ three_spelled (word ∷ words) v h =
     let two = bound (two_said words) _ v k.2 in
     subst (λ (v : Kind × ℕ × ℕ). Spell (word ∷ words) (three_form v)) (same _ v two.2) (kind_is word k.0 k.1, two_form words two.0 two.1)
 
--- States that the words spell the given injected fault. A fault that cuts a response must keep
--- fewer bytes than a full frame has.
+-- True if the words of a script line name the fault `t` that the simulated device injects. A fault
+-- that cuts a response short must keep fewer bytes than a full frame has.
 abbrev IsTrick : List (List ℕ) → Trick → Type 0
 IsTrick words t = Spell words (trick_form t) × IsPart t
 

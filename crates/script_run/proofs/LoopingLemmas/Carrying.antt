@@ -28,12 +28,12 @@ use Rattle.script_run.proofs.LoopingLemmas.Breaking.{begins_as}
 
 -- States that a line was executed with the given text as its output, and that the office's store
 -- matches the office's new history.
-pub record Told (P : Stage → List ℕ → Stage → Type 0) (past : History) (office office' : Office ListBooks) (text : List ℕ) : Type 0 where
+pub record Reported (P : Stage → List ℕ → Stage → Type 0) (past : History) (office office' : Office ListBooks) (text : List ℕ) : Type 0 where
   pub after : History
   pub prints : P (stage_of past office) text (stage_of after office')
   pub stands : Stands ledger_of after office'
 
-pub record ToldOut (P : LoopStage → List ℕ → LoopStage → Type 0) (past : History) (from to : LoopState) (text : List ℕ) : Type 0 where
+pub record ReportedOut (P : LoopStage → List ℕ → LoopStage → Type 0) (past : History) (from to : LoopState) (text : List ℕ) : Type 0 where
   pub after : History
   pub prints : P (stage_on past from) text (stage_on after to)
   pub stands : Stands ledger_of after to.office
@@ -42,24 +42,24 @@ pub record ToldOut (P : LoopStage → List ℕ → LoopStage → Type 0) (past :
 -- the writer received a beginning of the text.
 pub writing : (r : Result (Unit {0}) Error) (text : List ℕ) (office office' : Office ListBooks) (o o' : Option (List ℕ))
     (P : Stage → List ℕ → Stage → Type 0) → GotText r text o o'
-    → ((past : History) → Stands ledger_of past office → Told P past office office' text)
+    → ((past : History) → Stands ledger_of past office → Reported P past office office' text)
     → Carries r (λ done. P) office office' o o'
-writing (Ok done) text office office' o o' P got told = λ past stands.
-    let this = told past stands in
+writing (Ok done) text office office' o o' P got reported = λ past stands.
+    let this = reported past stands in
     record { printed = text; after = this.after; prints = this.prints; appended = got; stands = this.stands }
-writing (Err error) text office office' o o' P got told = λ past stands.
-    let this = told past stands in
+writing (Err error) text office office' o o' P got reported = λ past stands.
+    let this = reported past stands in
     inr (text, (tt, stage_of this.after office', this.prints), got)
 
 pub writing_out : (r : Result (Unit {0}) Error) (text : List ℕ) (from to : LoopState) (P : LoopStage → List ℕ → LoopStage → Type 0)
     → GotText r text from.output to.output
-    → ((past : History) → Stands ledger_of past from.office → ToldOut P past from to text)
+    → ((past : History) → Stands ledger_of past from.office → ReportedOut P past from to text)
     → CarriesOut r (λ done. P) from to
-writing_out (Ok done) text from to P got told = λ past stands.
-    let this = told past stands in
+writing_out (Ok done) text from to P got reported = λ past stands.
+    let this = reported past stands in
     record { printed = text; after = this.after; prints = this.prints; appended = got; stands = this.stands }
-writing_out (Err error) text from to P got told = λ past stands.
-    let this = told past stands in
+writing_out (Err error) text from to P got reported = λ past stands.
+    let this = reported past stands in
     inr (text, (tt, stage_on this.after to, this.prints), got)
 
 -- If a call executes a line of a plain script and leaves the simulator unchanged, then it also

@@ -24,7 +24,7 @@ use Rattle.mb_device.specs.StandIn.Exchanges.{Exchanged}
 use Rattle.script_run.specs.Looping.Lines.{StartsPrint}
 use Rattle.script_run.specs.Looping.Standings.{Begins, Carried, Carries, CarriesOut, LoopStage, loop_state, stage_on}
 use Rattle.script_run.proofs.LoopingLemmas.Breaking.{begins_as, part_after, part_of_longer, part_of_none}
-use Rattle.script_run.proofs.LoopingLemmas.Carrying.{Told, ToldOut}
+use Rattle.script_run.proofs.LoopingLemmas.Carrying.{Reported, ReportedOut}
 use Rattle.sun_points.specs.Writing.{GotPart, GotText}
 use Rattle.script_run.specs.declared.looping.answers.Came.{Came}
 
@@ -84,7 +84,7 @@ was_begun past at e reply office office' accepted text o o' replied accepts same
 
 pub was_printed : (past : History) (at : ℕ) (e : Event) (reply : Result Answer Refusal) (office office' : Office ListBooks)
     (text : List ℕ) → Replied past at e reply office office' → text ≡ reply_text past at e reply
-    → Told (λ now printed next. EventPrints now at e printed next) past office office' text
+    → Reported (λ now printed next. EventPrints now at e printed next) past office office' text
 was_printed past at e reply office office' text replied same = record {
   after = with_answer past at e reply;
   prints = record { reply = reply; is = replied.is; text = same; after = replied.after };
@@ -331,7 +331,7 @@ started at device e given office mid office' maps maps' connected o m o' (Err er
 
 pub not_started : (past : History) (at : ℕ) (device : Option (List ℕ)) (e : Event) (why : Refusal) (office office' : Office ListBooks)
     (maps : Maps) (connected : Bool) (o o' : Option (List ℕ)) → Replied past at e (Err why) office office'
-    → ToldOut (λ now printed next. StartsPrint at device e now printed next) past (loop_state office maps connected o)
+    → ReportedOut (λ now printed next. StartsPrint at device e now printed next) past (loop_state office maps connected o)
     (loop_state office' maps connected o') (reply_text past at e (Err why))
 not_started past at device e why office office' maps connected o o' replied = record {
   after = with_answer past at e (Err why);

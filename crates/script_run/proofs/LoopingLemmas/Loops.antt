@@ -2,7 +2,7 @@
 use Rattle.std.proofs.Common.{◌≡◌, ◌⊎◌, inl, inr, ℕ, Bool, false, Option, ap, ◌∙◌, List, [], ◌∷◌, ◌++◌, refl, sym, subst, append_assoc, append-nil, arith, ◌<◌, ◌≤◌, length}
 use Rattle.std.specs.Io.KnownBytes.{Appends}
 use Rattle.std.proofs.KnownBytes.{Appends-nil, Appends-trans}
-use Rattle.command_io.specs.Input.{EndsUnread, TellsTooLong, most_bytes, too_long}
+use Rattle.command_io.specs.Input.{EndsUnread, ReportsTooLong, most_bytes, too_long}
 use Rattle.command_io.specs.Lines.{Line, speaking_lines}
 use Rattle.command_io.specs.declared.status.ExitStatus.{ExitStatus}
 use Rattle.command_io.specs.declared.status.ExitStatus.TheVariants.{Fine, Refused, Failed}
@@ -22,7 +22,7 @@ use Rattle.script_text.specs.AnswerText.{bad_line, refused_line}
 use Rattle.script_lines.specs.LineWords.Words.{words_of}
 use Rattle.script_run.specs.Looping.Lines.{AreWrong, WordsPrint}
 use Rattle.script_run.specs.Looping.Loops.{InputBegins, InputPrints, LineBegins, LoopBegins, LoopPrints, TextPrints}
-use Rattle.script_run.specs.Looping.TextRun.{InputRuns, LinesRun, TellsText, TextRuns}
+use Rattle.script_run.specs.Looping.TextRun.{InputRuns, LinesRun, ReportsText, TextRuns}
 use Rattle.script_run.specs.Looping.Standings.{Begins, CarriedOut, LoopState, LoopStage, loop_state, stage_on}
 use Rattle.script_run.specs.Replaying.Lines.{BeginsText}
 use Rattle.script_run.specs.Replaying.Scripts.{no_office}
@@ -101,14 +101,14 @@ begun_line begin all lines left first output here part at ran begins =
 -- If a line is malformed or not allowed at its position, then the script prints `bad line N` and
 -- its run ends.
 pub stopped : (status : ExitStatus) (past : History) (all lines left : List Line) (bad : Line) (from here : LoopState) (m o' : Option (List ℕ))
-    → lines ≡ bad ∷ left → AreWrong here.connected (words_of bad.text) × Appends here.output m [] → TellsText (bad_line bad.number) status m o'
+    → lines ≡ bad ∷ left → AreWrong here.connected (words_of bad.text) × Appends here.output m [] → ReportsText (bad_line bad.number) status m o'
     → Ran (stage_on past from) all lines from.output here
     → Writes (LoopPrints (stage_on past from) all) (LoopBegins (stage_on past from) all) status from.output o'
-stopped Fine past all lines left bad from here m o' at wrong told ran = absurd told
-stopped Refused past all lines left bad from here m o' at wrong told ran = (
+stopped Fine past all lines left bad from here m o' at wrong reported ran = absurd reported
+stopped Refused past all lines left bad from here m o' at wrong reported ran = (
   ran.printed ++ bad_line bad.number,
   Appends-trans from.output here.output o' ran.printed (bad_line bad.number) ran.appended
-      (Appends-trans here.output m o' [] (bad_line bad.number) wrong.1 told),
+      (Appends-trans here.output m o' [] (bad_line bad.number) wrong.1 reported),
   ended_badly (stage_on past from) all lines left bad from.output here at wrong.0 ran,
 )
 stopped Failed past all lines left bad from here m o' at wrong (part, unwritten, whole, written) ran = (
@@ -154,9 +154,9 @@ text_from Failed zone past text office maps o o' unset same stands runs =
     (ran.0, ran.1, inr (maps, unset, subst P same ran.2))
 
 pub not_opened : (status : ExitStatus) (why : Refusal) (zone : Zone) (text : List ℕ) (o o' : Option (List ℕ)) → why ≡ refusal.Memory
-    → TellsText (refused_line why) status o o' → TextRuns zone text status o o'
-not_opened Fine why zone text o o' is told = absurd told
-not_opened Refused why zone text o o' is told = (refused_line why, told, inl (ap refused_line is, refl))
+    → ReportsText (refused_line why) status o o' → TextRuns zone text status o o'
+not_opened Fine why zone text o o' is reported = absurd reported
+not_opened Refused why zone text o o' is reported = (refused_line why, reported, inl (ap refused_line is, refl))
 not_opened Failed why zone text o o' is (part, unwritten, whole, written) =
     (part, written, inl (unwritten, ap refused_line (sym is) ∙ whole))
 

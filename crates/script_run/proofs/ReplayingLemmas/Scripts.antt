@@ -21,7 +21,7 @@ use Rattle.std.specs.declared.io.Error.{Error}
 use Rattle.std.proofs.KnownBytes.{Appends-nil, Appends-trans}
 use Rattle.script_lines.specs.Forms.{IsLine}
 use Rattle.script_lines.specs.declared.script.ScriptLine.{ScriptLine}
-use Rattle.command_io.specs.Input.{EndsUnread, TellsTooLong, most_bytes, too_long}
+use Rattle.command_io.specs.Input.{EndsUnread, ReportsTooLong, most_bytes, too_long}
 use Rattle.script_text.specs.AnswerText.{bad_line}
 use Rattle.sun_points.specs.Writing.{GotPart}
 use Rattle.script_run.proofs.ReplayingLemmas.Replies.{fails_in_memory}
@@ -237,19 +237,19 @@ text_ran zone text input status o o' same short runs =
     ran zone text Refused o o' short runs = (runs.0, runs.1, short_prints zone text runs.0 Refused short runs.2)
     ran zone text Failed o o' short runs = (runs.0, runs.1, short_begins zone text runs.0 short runs.2)
 
-long_told : (zone : Zone) (input : List ℕ) (status : ExitStatus) (o o' : Option (List ℕ)) → most_bytes < length input → TellsTooLong status o o'
+long_reported : (zone : Zone) (input : List ℕ) (status : ExitStatus) (o o' : Option (List ℕ)) → most_bytes < length input → ReportsTooLong status o o'
     → InputRuns zone input status o o'
-long_told zone input Fine o o' long told = absurd told
-long_told zone input Refused o o' long told =
-    (too_long, told, record { long = λ again. (refl, refl); text = λ short. absurd (omega (arith, short, long)) })
-long_told zone input Failed o o' long told =
-    (told.0, told.3, record { long = λ again. (told.1, told.2); text = λ short. absurd (omega (arith, short, long)) })
+long_reported zone input Fine o o' long reported = absurd reported
+long_reported zone input Refused o o' long reported =
+    (too_long, reported, record { long = λ again. (refl, refl); text = λ short. absurd (omega (arith, short, long)) })
+long_reported zone input Failed o o' long reported =
+    (reported.0, reported.3, record { long = λ again. (reported.1, reported.2); text = λ short. absurd (omega (arith, short, long)) })
 
 -- If the input of a run cannot be read, then the run prints `too long` or fails, as the
 -- specification of a run allows.
 pub unread_ran : (zone : Zone) (input : List ℕ) (status : ExitStatus) (o o' : Option (List ℕ)) → EndsUnread input status o o'
     → InputRuns zone input status o o'
-unread_ran zone input status o o' (inl long) = long_told zone input status o o' long.0 long.1
+unread_ran zone input status o o' (inl long) = long_reported zone input status o o' long.0 long.1
 unread_ran zone input status o o' (inr (failed, none)) = unread status failed
   where
     unread : (ended : ExitStatus) → ended ≡ Failed → InputRuns zone input ended o o'

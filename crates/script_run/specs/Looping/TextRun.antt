@@ -45,10 +45,10 @@ StartRuns result at device e from to =
 
 -- States that a run ends with the output `text` and the given status. If the writer failed, only a
 -- part of `text` was written.
-abbrev pub TellsText : (text : List ℕ) → ExitStatus → (output output' : Option (List ℕ)) → Type 0
-TellsText text Fine output output' = ⊥
-TellsText text Refused output output' = Appends output output' text
-TellsText text Failed output output' = GotPart text output output'
+abbrev pub ReportsText : (text : List ℕ) → ExitStatus → (output output' : Option (List ℕ)) → Type 0
+ReportsText text Fine output output' = ⊥
+ReportsText text Refused output output' = Appends output output' text
+ReportsText text Failed output output' = GotPart text output output'
 
 -- States the outcome of running the lines of a loop (a script over simulated devices), from the
 -- given state on.

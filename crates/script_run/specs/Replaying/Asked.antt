@@ -12,7 +12,7 @@ use Rattle.office_rules.specs.Meters.{meter_of}
 use Rattle.office_rules.specs.Readings.{poll_row_of}
 use Rattle.office_core.specs.Asking.{AreDaysNamed, intervals_of, is_there, or_not_found, rows_in}
 use Rattle.script_text.specs.RowLines.Rows.{day_line, end_line, share_line}
-use Rattle.script_run.specs.Replaying.Stages.{Stage, Fails, TellsStop}
+use Rattle.script_run.specs.Replaying.Stages.{Stage, Fails, ReportsStop}
 use Rattle.script_text.specs.AnswerText.{meter_line, poll_line, refused_line}
 use Rattle.energy_report.specs.RowLines.{counted}
 
@@ -21,7 +21,7 @@ use Rattle.energy_report.specs.RowLines.{counted}
 pub record IsAnswered {T : Type 0} (now : Stage) (found : Option T) (reply : Result T Refusal)
     : Type 0 where
   pub answer : (reply ≡ or_not_found found) ⊎ Fails reply
-  pub stops : TellsStop now reply
+  pub stops : ReportsStop now reply
 
 -- The output line for the reply to a query. It shows the row that the query found, or the refusal.
 abbrev pub row_text : {T : Type 0} → (T → List ℕ) → Result T Refusal → List ℕ
@@ -56,12 +56,12 @@ last_line count (Err why) = refused_line why
 -- States that a query for rows prints one line for each returned row, and then the number of rows
 -- or a refusal.
 pub record RowsPrint {T : Type 0} (now : Stage) (there : Option (Unit {0}))
-    (AreTold : List T → Result (Unit {0}) Refusal → Type 0) (row_line : T → List ℕ)
+    (AreReported : List T → Result (Unit {0}) Refusal → Type 0) (row_line : T → List ℕ)
     (printed : List ℕ) (next : Stage) : Type 0 where
   pub rows : List T
   pub reply : Result (Unit {0}) Refusal
   pub is : IsAnswered now there reply
-  pub told : AreTold rows reply
+  pub reported : AreReported rows reply
   pub text : printed ≡ flat_map row_line rows ++ last_line (counted (length rows)) reply
   pub same : next ≡ now
 
@@ -81,7 +81,7 @@ IntervalsPrint now meter printed next =
 
 -- States that the rows are all days of an accounting register in the script's time zone. After a
 -- failed query there are no rows.
-pub record AreDaysTold (now : Stage) (register : Option (List ℕ)) (rows : List DayTotal)
+pub record AreDaysReported (now : Stage) (register : Option (List ℕ)) (rows : List DayTotal)
     (reply : Result (Unit {0}) Refusal) : Type 0 where
   pub whole : OnOk reply (AreDaysNamed now.zone (facts_of now.past) register (map account_of rows))
   pub none : OnErr reply (rows ≡ [])
@@ -91,4 +91,4 @@ abbrev pub DaysPrint : Stage → (register : Option (List ℕ)) → (printed : L
     → Type 0
 DaysPrint now register printed next =
     RowsPrint now (is_there (option_and_then (register_of (facts_of now.past)) register))
-    (AreDaysTold now register) day_line printed next
+    (AreDaysReported now register) day_line printed next

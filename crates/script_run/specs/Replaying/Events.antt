@@ -18,14 +18,14 @@ use Rattle.office_core.specs.Failing.{is_failure}
 use Rattle.office_core.specs.Taking.{SettlesNothing}
 use Rattle.script_lines.specs.declared.script.GivenList.{GivenList}
 use Rattle.script_lines.specs.declared.script.GivenStart.{GivenStart}
-use Rattle.script_run.specs.Replaying.Stages.{Stage, Fails, TellsStop, after_reply}
+use Rattle.script_run.specs.Replaying.Stages.{Stage, Fails, ReportsStop, after_reply}
 use Rattle.script_text.specs.AnswerText.{accepted_text, fault_line, refused_line}
 
 -- States that the office replies to an event as `decision_of` defines, or fails. If the office has
 -- not stopped and the event ends no poll, the office does not fail.
 pub record IsReply (now : Stage) (at : ℕ) (e : Event) (reply : Result Answer Refusal) : Type 0 where
   pub answer : (reply ≡ decision_of now.past at e) ⊎ Fails reply
-  pub stops : TellsStop now reply
+  pub stops : ReportsStop now reply
   pub quiet : now.stopped ≡ false → SettlesNothing now.past at e → is_failure reply ≡ false
 
 -- The text that a script prints for the office's reply to an event. It is the notifications and the

@@ -29,8 +29,8 @@ Fails (Err refusal.Stopped) = Unit {0}
 Fails _ = ⊥
 
 -- States that the reply is the refusal `Stopped` if and only if the office has stopped.
-abbrev pub TellsStop : {T : Type 0} → Stage → Result T Refusal → Type 0
-TellsStop now reply = (reply ≡ Err refusal.Stopped) ↔ (now.stopped ≡ true)
+abbrev pub ReportsStop : {T : Type 0} → Stage → Result T Refusal → Type 0
+ReportsStop now reply = (reply ≡ Err refusal.Stopped) ↔ (now.stopped ≡ true)
 
 -- The state of a script's run after the office replied to an event.
 abbrev pub after_reply : Stage → (at : ℕ) → Event → Result Answer Refusal → Stage

@@ -1,7 +1,7 @@
 //! Runs a script over simulated devices.
 ghost use Rattle.std.specs.Prelude.{IfSome};
 ghost use Rattle.script_run.specs.Bank.Settings as setting;
-ghost use Rattle.script_run.specs.Looping.TextRun.{InputRuns, LinesRun, TellsText, TextRuns};
+ghost use Rattle.script_run.specs.Looping.TextRun.{InputRuns, LinesRun, ReportsText, TextRuns};
 ghost use Rattle.script_run.specs.Looping.Standings.{loop_state};
 ghost use Rattle.script_text.specs.AnswerText.{bad_line, refused_line};
 
@@ -122,7 +122,7 @@ fn run_opened<C: Connects, W: Write>(
 
 // Prints the refusal that explains why the office could not be created.
 fn print_refused<W: Write>(why: Refusal, output: &mut W) -> ExitStatus
-    ensures { TellsText (refused_line why) result (W.contents output.old) (W.contents output.new) }
+    ensures { ReportsText (refused_line why) result (W.contents output.old) (W.contents output.new) }
 {
     match write_refusal(why, output) {
         Ok(()) => ExitStatus::Refused,
@@ -131,7 +131,7 @@ fn print_refused<W: Write>(why: Refusal, output: &mut W) -> ExitStatus
 }
 
 fn print_bad_line<W: Write>(number: u64, output: &mut W) -> ExitStatus
-    ensures { TellsText (bad_line number) result (W.contents output.old) (W.contents output.new) }
+    ensures { ReportsText (bad_line number) result (W.contents output.old) (W.contents output.new) }
 {
     match write_bad_line(number, output) {
         Ok(()) => ExitStatus::Refused,

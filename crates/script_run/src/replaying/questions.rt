@@ -51,11 +51,11 @@ pub(crate) fn print_intervals<W: Write>(
         office.old office.new result (W.contents output.old) (W.contents output.new) }
 {
     let mut rows = RowLines::to(output);
-    let told = office.intervals(meter, &mut rows);
+    let reported = office.intervals(meter, &mut rows);
     if rows.failed {
         return Err(io::Error::from(ErrorKind::Other));
     }
-    write_last(told, rows.count, rows.output)
+    write_last(reported, rows.count, rows.output)
 }
 
 /// Prints the energy of an accounting register on each civil day of the script's time zone, in mWh.
@@ -68,20 +68,20 @@ pub(crate) fn print_days<W: Write>(
         office.old office.new result (W.contents output.old) (W.contents output.new) }
 {
     let mut rows = RowLines::to(output);
-    let told = office.days(register, &mut rows);
+    let reported = office.days(register, &mut rows);
     if rows.failed {
         return Err(io::Error::from(ErrorKind::Other));
     }
-    write_last(told, rows.count, rows.output)
+    write_last(reported, rows.count, rows.output)
 }
 
 // Prints the last line of a query: `end N` with the number of rows, or the refusal that ended the
 // query.
-fn write_last<W: Write>(told: Result<(), Refusal>, count: u64, output: &mut W) -> io::Result<()>
-    ensures { GotText result (last_line count told)
+fn write_last<W: Write>(reported: Result<(), Refusal>, count: u64, output: &mut W) -> io::Result<()>
+    ensures { GotText result (last_line count reported)
         (W.contents output.old) (W.contents output.new) }
 {
-    match told {
+    match reported {
         Ok(()) => write_end(count, output),
         Err(why) => write_refusal(why, output),
     }

@@ -54,20 +54,20 @@ at_sound (Some address) v s is e = let same : At address ≡ s = cc in subst IsS
 scale_sound : (kind : ℕ) (v : Value) (s : RegisterScale) → scale_of kind v ≡ Some s → IsSoundScale s
 scale_sound kind v s is = elim (cases_Bool (kind == 0)) [
   | inl fixed ↦ fixed_sound (within 3 v) v s refl (rw fixed at is)
-  | inr told ↦ at_sound (whole_in 0 65535 v) v s refl (rw told at is)
+  | inr reported ↦ at_sound (whole_in 0 65535 v) v s refl (rw reported at is)
 ]
 
 -- True if the scale that a reader returned equals the scale in its columns, and one Modbus read
 -- covers the scale and the counter.
-pub record IsReached (address : ℕ) (told : Option RegisterScale) (s : RegisterScale) : Type 0 where
-  pub scale : told ≡ Some s
+pub record IsReached (address : ℕ) (reported : Option RegisterScale) (s : RegisterScale) : Type 0 where
+  pub scale : reported ≡ Some s
   pub span : fits_a_read address s ≡ true
 
 reached_if : (address : ℕ) (t s : RegisterScale) (b : Bool) → fits_a_read address t ≡ b → (if b then Some t else None) ≡ Some s → IsReached address (Some t) s
 reached_if address t s true fits e = let same : t ≡ s = cc in subst (IsReached address (Some t)) same (record { scale = refl; span = fits })
 reached_if address t s false fits e = absurd (let f = e in cc)
 
-reached : (address : ℕ) (told : Option RegisterScale) (s : RegisterScale) → reached_from address told ≡ Some s → IsReached address told s
+reached : (address : ℕ) (reported : Option RegisterScale) (s : RegisterScale) → reached_from address reported ≡ Some s → IsReached address reported s
 reached address None s e = absurd (let f = e in cc)
 reached address (Some t) s e = reached_if address t s (fits_a_read address t) refl e
 

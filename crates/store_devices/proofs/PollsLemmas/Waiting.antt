@@ -73,8 +73,8 @@ module _ (db : Trees) where
   named_are p (z ∷ all) = rw (number_is z.1.poll p.row.number, and_true (z.1.poll == p.row.number), named_are p all) refl
 
   module _ (ended : List OutcomeRow) (ends : IsLaid true outcome_columns (db outcomes) ended) where
-    tells : (n : ℤ) (p : Started) → waits (poll_columns p) ≡ is_pending ended p
-    tells n p =
+    reports : (n : ℤ) (p : Started) → waits (poll_columns p) ≡ is_pending ended p
+    reports n p =
         none_counted (names (poll_columns p)) (λ o. [] ∷ poll_columns p ∷ o ∷ []) (overlay db [] outcomes)
         ∙ ap not (ap (list_any (names (poll_columns p))) (overlay_none db outcomes ∙ ends.rows) ∙ (named_are p ends.all ∙ list_any-IsPermutation (is_outcome_of p.row.number) _ _ ends.same))
 
@@ -92,7 +92,7 @@ module _ (db : Trees) where
     selected : (rows : List Row) (started : List Started) → IsLaid true poll_columns (db polls) started → IsAnswer text.pending_query (overlay db []) [] rows
         → Shows (is_pending ended) (FirstFirst poll_number) poll_shown started rows
     selected rows started lies a =
-        let chosen = laid_chosen true poll_columns waits (is_pending ended) tells (db polls) started lies in
+        let chosen = laid_chosen true poll_columns waits (is_pending ended) reports (db polls) started lies in
         let kept : a.kept ≡ map out chosen.all = kept_are rows a ∙ (ap (map (λ r. output text.pending_query (seen r))) chosen.rows ∙ outs chosen.all) in
         let moved = unmapped out chosen.all a.ordered (subst (λ os. IsPermutation os a.ordered) kept a.same) in
         let up = ascending_weaker _ (λ (z w : Numbered Started). FirstFirst poll_number z.1 w.1) (λ (z w : Numbered Started) le. in_order z.1.row.number w.1.row.number le) moved.0

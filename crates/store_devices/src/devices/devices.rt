@@ -3,7 +3,7 @@ ghost use Rattle.sqlite.specs.Held.{state};
 ghost use Rattle.store_tables.specs.Content.{Edits, with_row};
 ghost use Rattle.store_tables.specs.Steps.{Steps, IsSameBorrow};
 ghost use Rattle.store_tables.specs.Answer.{LastFirst, FirstFirst, every};
-ghost use Rattle.store_tables.specs.Asking.{Asks, AsksInside, TellsRows, Shows, ShowsFirst};
+ghost use Rattle.store_tables.specs.Asking.{Asks, AsksInside, ReportsRows, Shows, ShowsFirst};
 ghost use Rattle.store_devices.specs.Devices.Rows.{device_columns, device_shown, device_place};
 ghost use Rattle.store_devices.specs.Devices.Rows.{device_place_shown, IsSoundDevice};
 ghost use Rattle.store_devices.specs.Devices.Trees.{devices};
@@ -39,7 +39,7 @@ pub fn insert_device<S: Alter>(
 /// Queries the devices in the order in which they were added. `read_device` reads each row.
 pub fn device_rows<S: Alter>(conn: &mut Connection<S>) -> Result<Vec<Row>, Error>
     ensures asks { Asks S.Store conn.old conn.new }
-    ensures shows { TellsRows S.Store conn.old conn.new devices device_columns result
+    ensures shows { ReportsRows S.Store conn.old conn.new devices device_columns result
         (Shows every (FirstFirst device_place) device_shown) }
 {
     conn.query_all(
@@ -53,7 +53,7 @@ pub fn device_rows<S: Alter>(conn: &mut Connection<S>) -> Result<Vec<Row>, Error
 pub fn last_device_rows<S: Alter>(tx: &mut Transaction<'_, S>) -> Result<Vec<Row>, Error>
     ensures same_reference { IsSameBorrow tx.old.conn tx.new.conn }
     ensures asks { AsksInside S.Store tx.old.conn.now tx.new.conn.now result }
-    ensures shows { TellsRows S.Store tx.old.conn.now tx.new.conn.now devices device_columns result
+    ensures shows { ReportsRows S.Store tx.old.conn.now tx.new.conn.now devices device_columns result
         (ShowsFirst every (LastFirst device_place) device_place_shown) }
 {
     tx.query_all("SELECT place FROM devices ORDER BY place DESC LIMIT 1", &[])

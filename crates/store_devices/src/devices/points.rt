@@ -4,7 +4,7 @@ ghost use Rattle.sqlite.specs.Held.{state};
 ghost use Rattle.store_tables.specs.Content.{Edits, with_row, without_where};
 ghost use Rattle.store_tables.specs.Steps.{Steps, IsSameBorrow};
 ghost use Rattle.store_tables.specs.Answer.{FirstFirst};
-ghost use Rattle.store_tables.specs.Asking.{Asks, TellsRows, Shows};
+ghost use Rattle.store_tables.specs.Asking.{Asks, ReportsRows, Shows};
 ghost use Rattle.store_devices.specs.Devices.Rows.{listed_as, point_columns, point_shown, point_place};
 ghost use Rattle.store_devices.specs.Devices.Rows.{is_point_of, with_points, with_list, IsSoundPoint};
 ghost use Rattle.store_devices.specs.Devices.Trees as trees;
@@ -96,7 +96,7 @@ pub fn replace_points<S: Alter>(
 /// Queries the points of a device's point list in order. `read_point` reads each row.
 pub fn point_rows<S: Alter>(conn: &mut Connection<S>, device: &str) -> Result<Vec<Row>, Error>
     ensures asks { Asks S.Store conn.old conn.new }
-    ensures shows { TellsRows S.Store conn.old conn.new trees.points point_columns result
+    ensures shows { ReportsRows S.Store conn.old conn.new trees.points point_columns result
         (Shows (is_point_of device.now) (FirstFirst point_place) point_shown) }
 {
     conn.query_all(

@@ -5,8 +5,8 @@ ghost use Rattle.sqlite.specs.Held.{state};
 ghost use Rattle.store_tables.specs.Content.{Edits, with_row};
 ghost use Rattle.store_tables.specs.Steps.{Steps, IsSameBorrow};
 ghost use Rattle.store_tables.specs.Answer.{IsFound, AnyOrder, LastFirst, FirstFirst, every};
-ghost use Rattle.store_tables.specs.Asking.{Asks, AsksInside, TellsAnswer, LooksUp};
-ghost use Rattle.store_tables.specs.Asking.{TellsRows, Shows, ShowsFirst};
+ghost use Rattle.store_tables.specs.Asking.{Asks, AsksInside, ReportsAnswer, LooksUp};
+ghost use Rattle.store_tables.specs.Asking.{ReportsRows, Shows, ShowsFirst};
 ghost use Rattle.store_devices.specs.Devices.Rows.{registered_as, register_columns, register_shown};
 ghost use Rattle.store_devices.specs.Devices.Rows.{register_place};
 ghost use Rattle.store_devices.specs.Devices.Rows.{register_place_shown, is_register, is_register_of};
@@ -73,7 +73,7 @@ pub fn insert_register<S: Alter>(
 /// Queries the row of the accounting register with the name `name`.
 fn rows_of<S: Alter>(conn: &mut Connection<S>, name: &str) -> Result<Vec<Row>, Error>
     ensures asks { Asks S.Store conn.old conn.new }
-    ensures shows { TellsRows S.Store conn.old conn.new registers register_columns result
+    ensures shows { ReportsRows S.Store conn.old conn.new registers register_columns result
         (ShowsFirst (is_register name.now) AnyOrder register_shown) }
 {
     conn.query_all(
@@ -104,7 +104,7 @@ pub fn register_of<S: Alter>(
 /// `read_register` reads each row.
 pub fn register_rows<S: Alter>(conn: &mut Connection<S>, device: &str) -> Result<Vec<Row>, Error>
     ensures asks { Asks S.Store conn.old conn.new }
-    ensures shows { TellsRows S.Store conn.old conn.new registers register_columns result
+    ensures shows { ReportsRows S.Store conn.old conn.new registers register_columns result
         (Shows (is_register_of device.now) (FirstFirst register_place) register_shown) }
 {
     conn.query_all(
@@ -116,7 +116,7 @@ pub fn register_rows<S: Alter>(conn: &mut Connection<S>, device: &str) -> Result
 /// Queries the indices of a device's accounting registers.
 fn places_of<S: Alter>(conn: &mut Connection<S>, device: &str) -> Result<Vec<Row>, Error>
     ensures asks { Asks S.Store conn.old conn.new }
-    ensures shows { TellsRows S.Store conn.old conn.new registers register_columns result
+    ensures shows { ReportsRows S.Store conn.old conn.new registers register_columns result
         (Shows (is_register_of device.now) AnyOrder register_place_shown) }
 {
     conn.query_all(
@@ -128,7 +128,7 @@ fn places_of<S: Alter>(conn: &mut Connection<S>, device: &str) -> Result<Vec<Row
 /// Returns the number of accounting registers of a device.
 pub fn register_count<S: Alter>(conn: &mut Connection<S>, device: &str) -> Result<usize, Error>
     ensures asks { Asks S.Store conn.old conn.new }
-    ensures counts { TellsAnswer S.Store conn.old conn.new registers register_columns result
+    ensures counts { ReportsAnswer S.Store conn.old conn.new registers register_columns result
         (IsRegisterCount device.now) }
 {
     let rows = places_of(conn, device)?;
@@ -140,7 +140,7 @@ pub fn register_count<S: Alter>(conn: &mut Connection<S>, device: &str) -> Resul
 pub fn last_register_rows<S: Alter>(tx: &mut Transaction<'_, S>) -> Result<Vec<Row>, Error>
     ensures same_reference { IsSameBorrow tx.old.conn tx.new.conn }
     ensures asks { AsksInside S.Store tx.old.conn.now tx.new.conn.now result }
-    ensures shows { TellsRows S.Store tx.old.conn.now tx.new.conn.now
+    ensures shows { ReportsRows S.Store tx.old.conn.now tx.new.conn.now
         registers register_columns result
         (ShowsFirst every (LastFirst register_place) register_place_shown) }
 {

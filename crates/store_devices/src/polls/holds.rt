@@ -3,7 +3,7 @@ ghost use Rattle.sqlite.specs.Held.{state};
 ghost use Rattle.store_tables.specs.Content.{Edits, with_row};
 ghost use Rattle.store_tables.specs.Steps.{Steps, IsSameBorrow};
 ghost use Rattle.store_tables.specs.Answer.{LastFirst, every};
-ghost use Rattle.store_tables.specs.Asking.{AsksInside, TellsRows, ShowsFirst};
+ghost use Rattle.store_tables.specs.Asking.{AsksInside, ReportsRows, ShowsFirst};
 ghost use Rattle.store_devices.specs.Polls.Rows.{hold_columns, hold_place, hold_place_shown, IsSoundHold};
 ghost use Rattle.store_devices.specs.Polls.Trees.{holds};
 
@@ -45,7 +45,7 @@ pub fn insert_rejected<S: Alter>(
 pub fn last_hold_rows<S: Alter>(tx: &mut Transaction<'_, S>) -> Result<Vec<Row>, Error>
     ensures same_reference { IsSameBorrow tx.old.conn tx.new.conn }
     ensures asks { AsksInside S.Store tx.old.conn.now tx.new.conn.now result }
-    ensures shows { TellsRows S.Store tx.old.conn.now tx.new.conn.now holds hold_columns result
+    ensures shows { ReportsRows S.Store tx.old.conn.now tx.new.conn.now holds hold_columns result
         (ShowsFirst every (LastFirst hold_place) hold_place_shown) }
 {
     tx.query_all("SELECT place FROM holds ORDER BY place DESC LIMIT 1", &[])

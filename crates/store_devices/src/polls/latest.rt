@@ -4,7 +4,7 @@
 ghost use Rattle.std.specs.Prelude.{◌≤◌, IfOk, IfSome};
 ghost use Rattle.store_tables.specs.Limits.{latest_moment};
 ghost use Rattle.store_tables.specs.Answer.{IsLast, LastFirst, every};
-ghost use Rattle.store_tables.specs.Asking.{Asks, TellsRows, ShowsFirst, LooksUp};
+ghost use Rattle.store_tables.specs.Asking.{Asks, ReportsRows, ShowsFirst, LooksUp};
 ghost use Rattle.store_devices.specs.Polls.Rows.{poll_columns, start_of, start_shown, HasStart};
 ghost use Rattle.store_devices.specs.Polls.Rows.{IsSoundStarted, outcome_columns, outcome_moment};
 ghost use Rattle.store_devices.specs.Polls.Rows.{outcome_moment_shown, HasOutcomeMoment, IsSoundOutcome};
@@ -19,7 +19,7 @@ use store_tables::{LATEST_MOMENT, RowFault, first_whole};
 /// Queries the latest time at which a poll started.
 fn start_rows<S: Alter>(conn: &mut Connection<S>) -> Result<Vec<Row>, Error>
     ensures asks { Asks S.Store conn.old conn.new }
-    ensures shows { TellsRows S.Store conn.old conn.new polls poll_columns result
+    ensures shows { ReportsRows S.Store conn.old conn.new polls poll_columns result
         (ShowsFirst every (LastFirst start_of) start_shown) }
 {
     conn.query_all(
@@ -41,7 +41,7 @@ pub fn latest_start<S: Alter>(conn: &mut Connection<S>) -> Result<Option<u64>, R
 /// Queries the latest timestamp of all outcomes of polls.
 fn outcome_rows<S: Alter>(conn: &mut Connection<S>) -> Result<Vec<Row>, Error>
     ensures asks { Asks S.Store conn.old conn.new }
-    ensures shows { TellsRows S.Store conn.old conn.new outcomes outcome_columns result
+    ensures shows { ReportsRows S.Store conn.old conn.new outcomes outcome_columns result
         (ShowsFirst every (LastFirst outcome_moment) outcome_moment_shown) }
 {
     conn.query_all(
@@ -63,7 +63,7 @@ pub fn latest_outcome<S: Alter>(conn: &mut Connection<S>) -> Result<Option<u64>,
 /// Queries the latest timestamp of all rejected readings.
 fn hold_rows<S: Alter>(conn: &mut Connection<S>) -> Result<Vec<Row>, Error>
     ensures asks { Asks S.Store conn.old conn.new }
-    ensures shows { TellsRows S.Store conn.old conn.new holds hold_columns result
+    ensures shows { ReportsRows S.Store conn.old conn.new holds hold_columns result
         (ShowsFirst every (LastFirst hold_moment) hold_moment_shown) }
 {
     conn.query_all("SELECT moment FROM holds ORDER BY moment DESC LIMIT 1", &[])
@@ -82,7 +82,7 @@ pub fn latest_hold<S: Alter>(conn: &mut Connection<S>) -> Result<Option<u64>, Ro
 /// Queries the latest timestamp of all stored requests.
 fn reply_rows<S: Alter>(conn: &mut Connection<S>) -> Result<Vec<Row>, Error>
     ensures asks { Asks S.Store conn.old conn.new }
-    ensures shows { TellsRows S.Store conn.old conn.new replies reply_columns result
+    ensures shows { ReportsRows S.Store conn.old conn.new replies reply_columns result
         (ShowsFirst every (LastFirst reply_moment) reply_moment_shown) }
 {
     conn.query_all(

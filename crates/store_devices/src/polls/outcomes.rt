@@ -5,7 +5,7 @@ ghost use Rattle.store_tables.specs.Content.{Edits, with_row};
 ghost use Rattle.store_tables.specs.Steps.{Steps, IsSameBorrow};
 ghost use Rattle.store_tables.specs.Limits.{greatest_place};
 ghost use Rattle.store_tables.specs.Answer.{IsFound, AnyOrder};
-ghost use Rattle.store_tables.specs.Asking.{Asks, TellsRows, ShowsFirst, LooksUp};
+ghost use Rattle.store_tables.specs.Asking.{Asks, ReportsRows, ShowsFirst, LooksUp};
 ghost use Rattle.store_devices.specs.Polls.Rows.{outcome_columns, outcome_shown, is_outcome_of, IsOutcome};
 ghost use Rattle.store_devices.specs.Polls.Rows.{IsSoundOutcome};
 ghost use Rattle.store_devices.specs.Polls.Trees.{outcomes};
@@ -42,7 +42,7 @@ pub fn insert_outcome<S: Alter>(
 fn rows_of<S: Alter>(conn: &mut Connection<S>, poll: u64) -> Result<Vec<Row>, Error>
     requires place { poll ≤ greatest_place }
     ensures asks { Asks S.Store conn.old conn.new }
-    ensures shows { TellsRows S.Store conn.old conn.new outcomes outcome_columns result
+    ensures shows { ReportsRows S.Store conn.old conn.new outcomes outcome_columns result
         (ShowsFirst (is_outcome_of poll) AnyOrder outcome_shown) }
 {
     let poll = number(poll);

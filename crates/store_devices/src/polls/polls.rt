@@ -5,7 +5,7 @@ ghost use Rattle.store_tables.specs.Content.{Edits, with_row};
 ghost use Rattle.store_tables.specs.Steps.{Steps, IsSameBorrow};
 ghost use Rattle.store_tables.specs.Limits.{greatest_place, IsPlace};
 ghost use Rattle.store_tables.specs.Answer.{IsFound, IsLast, AnyOrder, LastFirst, every};
-ghost use Rattle.store_tables.specs.Asking.{Asks, TellsRows, ShowsFirst, LooksUp};
+ghost use Rattle.store_tables.specs.Asking.{Asks, ReportsRows, ShowsFirst, LooksUp};
 ghost use Rattle.store_devices.specs.Polls.Rows.{poll_columns, poll_shown, number_shown, poll_number};
 ghost use Rattle.store_devices.specs.Polls.Rows.{is_poll, IsStarted, HasNumber, IsSoundPoll};
 ghost use Rattle.store_devices.specs.Polls.Rows.{IsSoundStarted};
@@ -49,7 +49,7 @@ pub fn insert_poll<S: Alter>(
 fn rows_at<S: Alter>(conn: &mut Connection<S>, number: u64) -> Result<Vec<Row>, Error>
     requires place { number ≤ greatest_place }
     ensures asks { Asks S.Store conn.old conn.new }
-    ensures shows { TellsRows S.Store conn.old conn.new polls poll_columns result
+    ensures shows { ReportsRows S.Store conn.old conn.new polls poll_columns result
         (ShowsFirst (is_poll number) AnyOrder poll_shown) }
 {
     let number = store_tables::number(number);
@@ -76,7 +76,7 @@ pub fn poll_at<S: Alter>(conn: &mut Connection<S>, number: u64) -> Result<Option
 /// Queries the number of the last poll.
 fn last_rows<S: Alter>(conn: &mut Connection<S>) -> Result<Vec<Row>, Error>
     ensures asks { Asks S.Store conn.old conn.new }
-    ensures shows { TellsRows S.Store conn.old conn.new polls poll_columns result
+    ensures shows { ReportsRows S.Store conn.old conn.new polls poll_columns result
         (ShowsFirst every (LastFirst poll_number) number_shown) }
 {
     conn.query_all("SELECT poll FROM polls ORDER BY poll DESC LIMIT 1", &[])

@@ -5,7 +5,7 @@ ghost use Rattle.store_tables.specs.Content.{Edits, with_row};
 ghost use Rattle.store_tables.specs.Steps.{Steps, IsSameBorrow};
 ghost use Rattle.store_tables.specs.Limits.{latest_moment};
 ghost use Rattle.store_tables.specs.Answer.{IsFound, AnyOrder};
-ghost use Rattle.store_tables.specs.Asking.{Asks, TellsRows, ShowsFirst, LooksUp};
+ghost use Rattle.store_tables.specs.Asking.{Asks, ReportsRows, ShowsFirst, LooksUp};
 ghost use Rattle.store_devices.specs.Polls.Rows.{kept_under, reply_columns, reply_shown, is_reply};
 ghost use Rattle.store_devices.specs.Polls.Rows.{IsCallNumber, IsRepeat, IsSoundKept};
 ghost use Rattle.store_devices.specs.Polls.Trees.{replies};
@@ -46,7 +46,7 @@ pub fn insert_kept_request<S: Alter>(
 fn rows_of<S: Alter>(conn: &mut Connection<S>, caller: &str, number: u64) -> Result<Vec<Row>, Error>
     requires number { IsCallNumber number }
     ensures asks { Asks S.Store conn.old conn.new }
-    ensures shows { TellsRows S.Store conn.old conn.new replies reply_columns result
+    ensures shows { ReportsRows S.Store conn.old conn.new replies reply_columns result
         (ShowsFirst (is_reply caller.now number) AnyOrder reply_shown) }
 {
     let number = store_tables::number(number);

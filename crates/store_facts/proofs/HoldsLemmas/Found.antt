@@ -17,11 +17,11 @@ use Rattle.store_devices.specs.Polls.Rows.{Held, hold_columns, hold_place}
 use Rattle.store_facts.specs.Holds.{reading_shown, reading_of, HasSoundReading, HaveHolds, is_of, is_between, AreReadingsOf, AreReadingsBetween, AreSoundHolds}
 use Rattle.store_facts.proofs.HoldsLemmas.Texts as text
 use Rattle.store_facts.proofs.StreamsLemmas.Compared.{all_found, at_least_is, below_is}
-use Rattle.store_facts.proofs.StreamsLemmas.Shared.{Tells}
+use Rattle.store_facts.proofs.StreamsLemmas.Shared.{Reports}
 
 pub of_meter : (meter : List ℕ) (db : Database) (content : Content) (hs : List Held) (rows : List Row) → AreTables db content → HaveHolds hs content
     → IsAnswer (scan 12 text.meter_holds_tests text.project text.order no_limit) (overlay db.trees []) (Text meter ∷ []) rows
-    → Tells reading_shown (reading_of meter) HasSoundReading (AreReadingsOf meter) AreSoundHolds hs rows
+    → Reports reading_shown (reading_of meter) HasSoundReading (AreReadingsOf meter) AreSoundHolds hs rows
 of_meter meter db content hs rows has have a =
     let there = tree_at books_schema.tables 7 holds_table refl in
     let apart = has.apart holds there in
@@ -32,7 +32,7 @@ of_meter meter db content hs rows has have a =
 
 pub of_meter_between : (meter : List ℕ) (from till : ℕ) (db : Database) (content : Content) (hs : List Held) (rows : List Row) → AreTables db content → HaveHolds hs content
     → IsAnswer (scan 12 text.between_tests text.project text.order no_limit) (overlay db.trees []) (Text meter ∷ Int (pos from) ∷ Int (pos till) ∷ []) rows
-    → Tells reading_shown (reading_of meter) HasSoundReading (AreReadingsBetween meter from till) AreSoundHolds hs rows
+    → Reports reading_shown (reading_of meter) HasSoundReading (AreReadingsBetween meter from till) AreSoundHolds hs rows
 of_meter_between meter from till db content hs rows has have a =
     let there = tree_at books_schema.tables 7 holds_table refl in
     let apart = has.apart holds there in

@@ -35,7 +35,7 @@ use Rattle.store_facts.specs.Intervals.Rows.{Interval, interval_columns, share_s
 use Rattle.store_facts.specs.Intervals.Handing.{HaveIntervals, AreSharesOfMeter, AreSoundIntervals, Lying, HaveLying, lies_at, is_between, ComesAfter, AreSharesOfMeterBetween, AreSoundLying}
 use Rattle.store_facts.proofs.IntervalsLemmas.Texts as text
 use Rattle.store_facts.proofs.StreamsLemmas.Compared.{all_found, at_least_is, below_is}
-use Rattle.store_facts.proofs.StreamsLemmas.Shared.{Tells}
+use Rattle.store_facts.proofs.StreamsLemmas.Shared.{Reports}
 
 -- ---- two tests of a WHERE clause, joined by AND
 
@@ -47,7 +47,7 @@ and_first false b c = refl
 
 pub of_meter : (meter : List ℕ) (db : Database) (content : Content) (is : List Interval) (rows : List Row) → AreTables db content → HaveIntervals is content
     → IsAnswer (scan 14 text.meter_intervals_tests text.shares_project text.meter_intervals_order no_limit) (overlay db.trees []) (Text meter ∷ []) rows
-    → Tells share_shown (λ i. i.share) IsSoundInterval (AreSharesOfMeter meter) AreSoundIntervals is rows
+    → Reports share_shown (λ i. i.share) IsSoundInterval (AreSharesOfMeter meter) AreSoundIntervals is rows
 of_meter meter db content is rows has have a =
     let there = tree_at books_schema.tables 9 intervals_table refl in
     let apart = has.apart intervals there in
@@ -58,7 +58,7 @@ of_meter meter db content is rows has have a =
 
 pub of_meter_between : (meter : List ℕ) (from till : ℕ) (db : Database) (content : Content) (is : List Interval) (rows : List Row) → AreTables db content → HaveIntervals is content
     → IsAnswer (scan 14 text.meter_between_tests text.shares_project text.meter_intervals_order no_limit) (overlay db.trees []) (Text meter ∷ Int (pos from) ∷ Int (pos till) ∷ []) rows
-    → Tells share_shown (λ i. i.share) IsSoundInterval (AreSharesOfMeterBetween meter from till) AreSoundIntervals is rows
+    → Reports share_shown (λ i. i.share) IsSoundInterval (AreSharesOfMeterBetween meter from till) AreSoundIntervals is rows
 of_meter_between meter from till db content is rows has have a =
     let there = tree_at books_schema.tables 9 intervals_table refl in
     let apart = has.apart intervals there in
@@ -105,7 +105,7 @@ AreShown passes lying all =
 -- Proofs about a query that joins `installations` and `intervals`, with a WHERE clause that tests
 -- `passes`.
 module _ (params : Row) (tests : List Term) (passes : Installed × Interval → Bool)
-    (tells : (p : Numbered Installed × Numbered Interval) → list_all (holds (params ∷ lay true installed_columns p.0 ∷ lay false interval_columns p.1 ∷ [])) tests ≡ passes (p.0.1, p.1.1)) where
+    (reports : (p : Numbered Installed × Numbered Interval) → list_all (holds (params ∷ lay true installed_columns p.0 ∷ lay false interval_columns p.1 ∷ [])) tests ≡ passes (p.0.1, p.1.1)) where
   abbrev Pair : Type 0
   Pair = Numbered Installed × Numbered Interval
 
@@ -125,7 +125,7 @@ module _ (params : Row) (tests : List Term) (passes : Installed × Interval → 
   test e = list_all (holds e) tests
 
   test_is : (p : Pair) → test (env_of p) ≡ passes_both p
-  test_is p = tells p
+  test_is p = reports p
 
   abbrev step : Row → Row → List Env
   step r s = if test (env r s) then env r s ∷ [] else []
@@ -161,7 +161,7 @@ module _ (params : Row) (tests : List Term) (passes : Installed × Interval → 
   sound_pairs (i ∷ is) rows sound = all-append (λ (p : Installed × Interval). IsSoundInterval p.1) (map (λ r. (i, r)) rows) (pairs is rows) (all_map (λ (p : Installed × Interval). IsSoundInterval p.1) (λ r. (i, r)) rows sound) (sound_pairs is rows sound)
 
   pub of_pairs : (db : Database) (content : Content) (lying : Lying) (rows : List Row) → AreTables db content → HaveLying lying content → IsAnswer query (overlay db.trees []) params rows
-      → Tells (λ (p : Installed × Interval). share_shown p.1) (λ (p : Installed × Interval). p.1.share) (λ (p : Installed × Interval). IsSoundInterval p.1) (AreShown passes) AreSoundLying lying rows
+      → Reports (λ (p : Installed × Interval). share_shown p.1) (λ (p : Installed × Interval). p.1.share) (λ (p : Installed × Interval). IsSoundInterval p.1) (AreShown passes) AreSoundLying lying rows
   of_pairs db content lying rows has have a =
       let first = tree_at books_schema.tables 4 installations_table refl in
       let second = tree_at books_schema.tables 9 intervals_table refl in
@@ -193,7 +193,7 @@ module _ (params : Row) (tests : List Term) (passes : Installed × Interval → 
       }
 
 abbrev Shows : (passes : Installed × Interval → Bool) → Lying → List Row → Type 0
-Shows passes = Tells (λ (p : Installed × Interval). share_shown p.1) (λ (p : Installed × Interval). p.1.share) (λ (p : Installed × Interval). IsSoundInterval p.1) (AreShown passes) AreSoundLying
+Shows passes = Reports (λ (p : Installed × Interval). share_shown p.1) (λ (p : Installed × Interval). p.1.share) (λ (p : Installed × Interval). IsSoundInterval p.1) (AreShown passes) AreSoundLying
 
 pub at_register : (register : List ℕ) (db : Database) (content : Content) (lying : Lying) (rows : List Row) → AreTables db content → HaveLying lying content
     → IsAnswer text.register_intervals_query (overlay db.trees []) (Text register ∷ []) rows → Shows (lies_at register) lying rows

@@ -97,4 +97,4 @@ of_intervals May edit Edit content after same e = record {
 }
 
 pub turns_weaker : (P Q : Content → Content → Type 0) (old new : Database) → ((content after : Content) → P content after → Q content after) → Turns P old new → Turns Q old new
-turns_weaker P Q old new tells turned content has = let it = turned content has in (it.0, tells content it.0 it.1, it.2)
+turns_weaker P Q old new reports turned content has = let it = turned content has in (it.0, reports content it.0 it.1, it.2)

@@ -128,10 +128,10 @@ laid_row (z ∷ all) r (inr has) = laid_row all r has
 
 any_laid : (test : Row → Bool) (p : Kept → Bool) → ((n : ℤ) (k : Kept) → test (laid false n (kept_columns k)) ≡ p k) → (all : List (Numbered Kept))
     → list_any test (map (lay false kept_columns) all) ≡ list_any p (map (λ (z : Numbered Kept). z.1) all)
-any_laid test p tells [] = refl
-any_laid test p tells (z ∷ all) = elim (cases_Bool (p z.1)) [
-  | inl here ↦ rw (tells z.0 z.1, here) refl
-  | inr off ↦ rw (tells z.0 z.1, off) (any_laid test p tells all)
+any_laid test p reports [] = refl
+any_laid test p reports (z ∷ all) = elim (cases_Bool (p z.1)) [
+  | inl here ↦ rw (reports z.0 z.1, here) refl
+  | inr off ↦ rw (reports z.0 z.1, off) (any_laid test p reports all)
 ]
 
 none_any : (p : Row → Bool) (rows : List Row) → ((r : Row) → Has rows r → p r ≡ true → ⊥) → list_any p rows ≡ false

@@ -81,7 +81,7 @@ nothing reads takes before after (r ∷ given) rows is zip taken = absurd (let e
 
 -- True if the result rows of a query encode the expected values in order. If the values in the
 -- tables are in their ranges, each result value is in its range.
-pub record Tells {X T Tables : Type 0} (shown : X → Row) (of : X → T) (Sound : X → Type 0) (Are : Tables → List T → Type 0) (AreSound : Tables → Type 0) (tables : Tables) (rows : List Row) : Type 0 where
+pub record Reports {X T Tables : Type 0} (shown : X → Row) (of : X → T) (Sound : X → Type 0) (Are : Tables → List T → Type 0) (AreSound : Tables → Type 0) (tables : Tables) (rows : List Row) : Type 0 where
   pub found : List X
   pub shows : rows ≡ map shown found
   pub are : Are tables (map of found)
@@ -91,16 +91,16 @@ module _ {S K X T Tables : Type 0} (g : Ghosts S) (sql : List ℕ) (params : Row
     (shown : X → Row) (of : X → T) (Sound : X → Type 0) (reads : Row → Result T RowFault) (fair : (x : X) → IsFair (Sound x) (λ t. t ≡ of x) (reads (shown x)))
     (IsRow : T → Type 0) (Have : Tables → Content → Type 0) (Are : Tables → List T → Type 0) (AreSound : Tables → Type 0)
     (is : command_of (understood books_schema sql) ≡ Select (record { lets = []; body = q }) names) (unlisted : reads_listing books_schema sql ≡ false) (plain : IsPlain (understood books_schema sql)) (suits : Suits books_schema sql params)
-    (finds : (db : Database) (content : Content) (t : Tables) (rows : List Row) → AreTables db content → Have t content → IsAnswer q (overlay db.trees []) params rows → Tells shown of Sound Are AreSound t rows) where
+    (finds : (db : Database) (content : Content) (t : Tables) (rows : List Row) → AreTables db content → Have t content → IsAnswer q (overlay db.trees []) params rows → Reports shown of Sound Are AreSound t rows) where
   begins_with : (asked : Held S) (given : List Row) (content : Content) (t : Tables) → AreTables (state g old).now content → Have t content → IsAsked g sql params old asked given
-      → (tail : List Row) × Tells shown of Sound Are AreSound t (given ++ tail)
+      → (tail : List Row) × Reports shown of Sound Are AreSound t (given ++ tail)
   begins_with asked given content t has have h =
       let here : AreTables (state g asked).now content = subst (λ d. AreTables d content) (sym h.0.0.now_is) has in
       let first = begins_as sql params (state g asked) (state g asked) books_schema here.schema _ is plain unlisted given h.1 in
       (first.1.0, finds (state g asked).now content t (given ++ first.1.0) here have (first.1.1 Null))
 
   shows_all : (asked end : Held S) (given : List Row) (content : Content) (t : Tables) → AreTables (state g old).now content → Have t content → IsUnchanged (state g old) (state g asked) → Shown sql params (state g asked) (state g end) given
-      → Tells shown of Sound Are AreSound t given
+      → Reports shown of Sound Are AreSound t given
   shows_all asked end given content t has have same shows =
       let here : AreTables (state g asked).now content = subst (λ d. AreTables d content) (sym same.0.now_is) has in
       let read = reads_as sql params (state g asked) (state g end) books_schema here.schema _ is plain unlisted given shows in
@@ -124,16 +124,16 @@ module _ {S K X T Tables : Type 0} (g : Ghosts S) (sql : List ℕ) (params : Row
         elim it.begun [
           | inl none ↦ inl (nothing reads takes before after it.given it.rows none it.read it.taken)
           | inr on ↦ (
-              let told = begins_with on.0 it.given content t has have on.1 in
-              let first = first_read shown of Sound reads fair it.given told.0 it.rows told.1.found it.read told.1.shows in
-              inr (map of told.1.found, told.1.are, (length it.rows, subst (λ ts. TakesAll takes before ts after) (sym first) it.taken))
+              let reported = begins_with on.0 it.given content t has have on.1 in
+              let first = first_read shown of Sound reads fair it.given reported.0 it.rows reported.1.found it.read reported.1.shows in
+              inr (map of reported.1.found, reported.1.are, (length it.rows, subst (λ ts. TakesAll takes before ts after) (sym first) it.taken))
               )
         ];
     whole = λ clean content has t have.
         let it = hands clean (plain_in books_schema sql (state g old).now has.schema plain) in
         on_ok result (λ w.
-        let told = shows_all w.0 w.1 it.given content t has have w.2 w.3 in
-        (map of told.found, told.are, subst (λ ts. TakesAll takes before ts after) (all_read shown of Sound reads fair it.given it.rows told.found it.read told.shows) it.taken)) it.whole;
+        let reported = shows_all w.0 w.1 it.given content t has have w.2 w.3 in
+        (map of reported.found, reported.are, subst (λ ts. TakesAll takes before ts after) (all_read shown of Sound reads fair it.given it.rows reported.found it.read reported.shows) it.taken)) it.whole;
     some = some;
     fault = λ clean content has t have.
         let it = hands clean (plain_in books_schema sql (state g old).now has.schema plain) in

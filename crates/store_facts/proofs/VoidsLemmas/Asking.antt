@@ -11,16 +11,16 @@ use Rattle.sqlite.specs.State.{State, Shown}
 use Rattle.store_tables.specs.declared.faults.RowFault.{RowFault}
 use Rattle.store_tables.specs.Schema.{books_schema, voids_table}
 use Rattle.store_tables.specs.Answer.{AnyOrder, AreFound, IsFound}
-use Rattle.store_tables.specs.Asking.{AsksInside, TellsAnswer, ShowsFirst, ReadsRow}
+use Rattle.store_tables.specs.Asking.{AsksInside, ReportsAnswer, ShowsFirst, ReadsRow}
 use Rattle.store_tables.specs.Content.{Content, AreTables, HasRows}
 use Rattle.store_tables.specs.Entries.Rows.{Voided, voided_columns, voided_shown}
 use Rattle.store_tables.specs.Entries.Trees.{voids}
 use Rattle.store_tables.proofs.Frames.{tree_at}
 use Rattle.store_tables.proofs.Scans.{text_is, number_is, and_true, one}
 use Rattle.store_tables.proofs.Selects.{selects, found_none, found_some}
-use Rattle.store_facts.specs.Going.{Goes, Told}
-use Rattle.store_facts.proofs.GoingLemmas.{of_answer, of_no_answer, told_less}
-use Rattle.store_facts.specs.Voids.Places.{TellsOf, is_void}
+use Rattle.store_facts.specs.Going.{Goes, Reported}
+use Rattle.store_facts.proofs.GoingLemmas.{of_answer, of_no_answer, reported_less}
+use Rattle.store_facts.specs.Voids.Places.{ReportsOf, is_void}
 use Rattle.store_facts.proofs.VoidsLemmas.Texts as text
 
 pub void_at : (meter : List ℕ) (place : ℕ) (old new : State) (content : Content) (xs : List Voided) (rows : List Row) → AreTables old.now content → HasRows voids voided_columns xs content
@@ -33,12 +33,12 @@ void_at meter place old new content xs rows has are h =
 -- ---- a query whose answer is empty
 
 pub not_answered : {S A X Y : Type 0} (T : RowFault → Type 0) (g : Ghosts S) (old new : Held S) (e : Error) (r : Result Y RowFault) (tree : ℕ) (columns : X → Row) (Answers : List X → Y → Type 0)
-    → AsksInside {X = A} {E = Error} g old new (Err e) → IsErrAnd r T → Goes (state g old) (state g new) r (TellsOf r tree columns Answers)
+    → AsksInside {X = A} {E = Error} g old new (Err e) → IsErrAnd r T → Goes (state g old) (state g new) r (ReportsOf r tree columns Answers)
 not_answered T g old new e (Ok y) tree columns Answers asks is = absurd is
-not_answered T g old new e (Err d) tree columns Answers asks is = of_no_answer g old new e d (TellsOf (Err d) tree columns Answers) asks
+not_answered T g old new e (Err d) tree columns Answers asks is = of_no_answer g old new e d (ReportsOf (Err d) tree columns Answers) asks
 
 pub not_read : {S A D X Y : Type 0} (T : RowFault → Type 0) (g : Ghosts S) (old new : Held S) (a : Result A D) (r : Result Y RowFault) (tree : ℕ) (columns : X → Row) (Answers : List X → Y → Type 0)
-    → AsksInside g old new a → IsErrAnd r T → Goes (state g old) (state g new) r (TellsOf r tree columns Answers)
+    → AsksInside g old new a → IsErrAnd r T → Goes (state g old) (state g new) r (ReportsOf r tree columns Answers)
 not_read T g old new a (Ok y) tree columns Answers asks is = absurd is
 not_read T g old new a (Err d) tree columns Answers asks is =
     record { kept = λ clean inside content has. asks.kept clean content has; makes = λ clean inside content has. tt; survives = asks.survives }
@@ -54,31 +54,31 @@ module _ {X : Type 0} (passes : X → Bool) (shown : X → Row) where
   first_shown row items [] is e = absurd (let f = sym is ∙ ap (λ rs. slice_get rs 0) e in cc)
   first_shown row items (x ∷ found) is e = (x, refl, (let f : Some row ≡ Some (shown x) = sym is ∙ ap (λ rs. slice_get rs 0) e in cc))
 
-  pub none_told : {S A Q : Type 0} (g : Ghosts S) (old new : Held S) (tree : ℕ) (columns : X → Row) (rows : Q) (items : List Row) (IsSeen : X → A → Type 0)
-      → AsksInside {X = Q} {E = Error} g old new (Ok rows) → TellsAnswer g old new tree columns (Ok rows) (λ xs a. ShowsFirst passes AnyOrder shown xs items)
-      → slice_get items 0 ≡ None → Goes {X = Option A} {E = RowFault} (state g old) (state g new) (Ok None) (Told tree columns (IsFound passes IsSeen) None)
-  none_told g old new tree columns rows items IsSeen asks tells is =
-      told_less {D = Error} (state g old) (state g new) rows None (Told tree columns (λ xs a. ShowsFirst passes AnyOrder shown xs items) rows) (Told tree columns (IsFound passes IsSeen) None)
-      (λ content after (told : Told tree columns (λ xs a. ShowsFirst passes AnyOrder shown xs items) rows content after). record {
-        same = told.same;
-        answers = λ xs has. let it = told.answers xs has in found_none passes IsSeen AnyOrder xs it.0 it.1 (no_first items it.0 is it.2);
+  pub none_reported : {S A Q : Type 0} (g : Ghosts S) (old new : Held S) (tree : ℕ) (columns : X → Row) (rows : Q) (items : List Row) (IsSeen : X → A → Type 0)
+      → AsksInside {X = Q} {E = Error} g old new (Ok rows) → ReportsAnswer g old new tree columns (Ok rows) (λ xs a. ShowsFirst passes AnyOrder shown xs items)
+      → slice_get items 0 ≡ None → Goes {X = Option A} {E = RowFault} (state g old) (state g new) (Ok None) (Reported tree columns (IsFound passes IsSeen) None)
+  none_reported g old new tree columns rows items IsSeen asks reports is =
+      reported_less {D = Error} (state g old) (state g new) rows None (Reported tree columns (λ xs a. ShowsFirst passes AnyOrder shown xs items) rows) (Reported tree columns (IsFound passes IsSeen) None)
+      (λ content after (reported : Reported tree columns (λ xs a. ShowsFirst passes AnyOrder shown xs items) rows content after). record {
+        same = reported.same;
+        answers = λ xs has. let it = reported.answers xs has in found_none passes IsSeen AnyOrder xs it.0 it.1 (no_first items it.0 is it.2);
       })
-      (of_answer g old new tree columns (λ xs a. ShowsFirst passes AnyOrder shown xs items) rows asks tells)
+      (of_answer g old new tree columns (λ xs a. ShowsFirst passes AnyOrder shown xs items) rows asks reports)
 
-  pub some_told : {S A Q : Type 0} (g : Ghosts S) (old new : Held S) (tree : ℕ) (columns : X → Row) (rows : Q) (items : List Row) (row : Row) (a : A) (IsSeen : X → A → Type 0) (IsSound : X → Type 0)
-      → AsksInside {X = Q} {E = Error} g old new (Ok rows) → TellsAnswer g old new tree columns (Ok rows) (λ xs a. ShowsFirst passes AnyOrder shown xs items)
+  pub some_reported : {S A Q : Type 0} (g : Ghosts S) (old new : Held S) (tree : ℕ) (columns : X → Row) (rows : Q) (items : List Row) (row : Row) (a : A) (IsSeen : X → A → Type 0) (IsSound : X → Type 0)
+      → AsksInside {X = Q} {E = Error} g old new (Ok rows) → ReportsAnswer g old new tree columns (Ok rows) (λ xs a. ShowsFirst passes AnyOrder shown xs items)
       → slice_get items 0 ≡ Some row → ReadsRow row shown IsSeen IsSound (Ok a)
-      → Goes {X = Option A} {E = RowFault} (state g old) (state g new) (Ok (Some a)) (Told tree columns (IsFound passes IsSeen) (Some a))
-  some_told g old new tree columns rows items row a IsSeen IsSound asks tells is reads =
-      told_less {D = Error} (state g old) (state g new) rows (Some a) (Told tree columns (λ xs a. ShowsFirst passes AnyOrder shown xs items) rows) (Told tree columns (IsFound passes IsSeen) (Some a))
-      (λ content after (told : Told tree columns (λ xs a. ShowsFirst passes AnyOrder shown xs items) rows content after). record {
-        same = told.same;
+      → Goes {X = Option A} {E = RowFault} (state g old) (state g new) (Ok (Some a)) (Reported tree columns (IsFound passes IsSeen) (Some a))
+  some_reported g old new tree columns rows items row a IsSeen IsSound asks reports is reads =
+      reported_less {D = Error} (state g old) (state g new) rows (Some a) (Reported tree columns (λ xs a. ShowsFirst passes AnyOrder shown xs items) rows) (Reported tree columns (IsFound passes IsSeen) (Some a))
+      (λ content after (reported : Reported tree columns (λ xs a. ShowsFirst passes AnyOrder shown xs items) rows content after). record {
+        same = reported.same;
         answers = λ xs has.
-            let it = told.answers xs has in
+            let it = reported.answers xs has in
             let one = first_shown row items it.0 is it.2 in
             found_some passes IsSeen AnyOrder xs it.0 one.0 a it.1 one.1 (reads.read one.0 one.2);
       })
-      (of_answer g old new tree columns (λ xs a. ShowsFirst passes AnyOrder shown xs items) rows asks tells)
+      (of_answer g old new tree columns (λ xs a. ShowsFirst passes AnyOrder shown xs items) rows asks reports)
 
   -- ---- a query for whether any row passes a test
 
@@ -102,29 +102,29 @@ module _ {X : Type 0} (passes : X → Bool) (shown : X → Row) where
   found_any xs [] x are is = absurd (let e = is in cc)
   found_any xs (y ∷ found) x are is = sym (any_is xs ∙ some_there (filter passes xs) y found are.all)
 
-  pub no_one_told : {S Q : Type 0} (g : Ghosts S) (old new : Held S) (tree : ℕ) (columns : X → Row) (rows : Q) (items : List Row)
-      → AsksInside {X = Q} {E = Error} g old new (Ok rows) → TellsAnswer g old new tree columns (Ok rows) (λ xs a. ShowsFirst passes AnyOrder shown xs items)
-      → slice_get items 0 ≡ None → Goes {X = Bool} {E = RowFault} (state g old) (state g new) (Ok false) (Told tree columns (λ xs answer. answer ≡ list_any passes xs) false)
-  no_one_told g old new tree columns rows items asks tells is =
-      told_less {D = Error} (state g old) (state g new) rows false (Told tree columns (λ xs a. ShowsFirst passes AnyOrder shown xs items) rows) (Told tree columns (λ xs answer. answer ≡ list_any passes xs) false)
-      (λ content after (told : Told tree columns (λ xs a. ShowsFirst passes AnyOrder shown xs items) rows content after). record {
-        same = told.same;
+  pub no_one_reported : {S Q : Type 0} (g : Ghosts S) (old new : Held S) (tree : ℕ) (columns : X → Row) (rows : Q) (items : List Row)
+      → AsksInside {X = Q} {E = Error} g old new (Ok rows) → ReportsAnswer g old new tree columns (Ok rows) (λ xs a. ShowsFirst passes AnyOrder shown xs items)
+      → slice_get items 0 ≡ None → Goes {X = Bool} {E = RowFault} (state g old) (state g new) (Ok false) (Reported tree columns (λ xs answer. answer ≡ list_any passes xs) false)
+  no_one_reported g old new tree columns rows items asks reports is =
+      reported_less {D = Error} (state g old) (state g new) rows false (Reported tree columns (λ xs a. ShowsFirst passes AnyOrder shown xs items) rows) (Reported tree columns (λ xs answer. answer ≡ list_any passes xs) false)
+      (λ content after (reported : Reported tree columns (λ xs a. ShowsFirst passes AnyOrder shown xs items) rows content after). record {
+        same = reported.same;
         answers = λ xs has.
-            let it = told.answers xs has in
+            let it = reported.answers xs has in
             sym (any_is xs ∙ ap has_some (found_none passes (λ x (y : X). Unit {0}) AnyOrder xs it.0 it.1 (no_first items it.0 is it.2)));
       })
-      (of_answer g old new tree columns (λ xs a. ShowsFirst passes AnyOrder shown xs items) rows asks tells)
+      (of_answer g old new tree columns (λ xs a. ShowsFirst passes AnyOrder shown xs items) rows asks reports)
 
-  pub one_told : {S Q : Type 0} (g : Ghosts S) (old new : Held S) (tree : ℕ) (columns : X → Row) (rows : Q) (items : List Row) (row : Row)
-      → AsksInside {X = Q} {E = Error} g old new (Ok rows) → TellsAnswer g old new tree columns (Ok rows) (λ xs a. ShowsFirst passes AnyOrder shown xs items)
-      → slice_get items 0 ≡ Some row → Goes {X = Bool} {E = RowFault} (state g old) (state g new) (Ok true) (Told tree columns (λ xs answer. answer ≡ list_any passes xs) true)
-  one_told g old new tree columns rows items row asks tells is =
-      told_less {D = Error} (state g old) (state g new) rows true (Told tree columns (λ xs a. ShowsFirst passes AnyOrder shown xs items) rows) (Told tree columns (λ xs answer. answer ≡ list_any passes xs) true)
-      (λ content after (told : Told tree columns (λ xs a. ShowsFirst passes AnyOrder shown xs items) rows content after). record {
-        same = told.same;
+  pub one_reported : {S Q : Type 0} (g : Ghosts S) (old new : Held S) (tree : ℕ) (columns : X → Row) (rows : Q) (items : List Row) (row : Row)
+      → AsksInside {X = Q} {E = Error} g old new (Ok rows) → ReportsAnswer g old new tree columns (Ok rows) (λ xs a. ShowsFirst passes AnyOrder shown xs items)
+      → slice_get items 0 ≡ Some row → Goes {X = Bool} {E = RowFault} (state g old) (state g new) (Ok true) (Reported tree columns (λ xs answer. answer ≡ list_any passes xs) true)
+  one_reported g old new tree columns rows items row asks reports is =
+      reported_less {D = Error} (state g old) (state g new) rows true (Reported tree columns (λ xs a. ShowsFirst passes AnyOrder shown xs items) rows) (Reported tree columns (λ xs answer. answer ≡ list_any passes xs) true)
+      (λ content after (reported : Reported tree columns (λ xs a. ShowsFirst passes AnyOrder shown xs items) rows content after). record {
+        same = reported.same;
         answers = λ xs has.
-            let it = told.answers xs has in
+            let it = reported.answers xs has in
             let one = first_shown row items it.0 is it.2 in
             found_any xs it.0 one.0 it.1 one.1;
       })
-      (of_answer g old new tree columns (λ xs a. ShowsFirst passes AnyOrder shown xs items) rows asks tells)
+      (of_answer g old new tree columns (λ xs a. ShowsFirst passes AnyOrder shown xs items) rows asks reports)

@@ -10,18 +10,18 @@ use Rattle.store_tables.specs.declared.faults.RowFault.{RowFault}
 use Rattle.store_tables.specs.Content.{Content, HasRows}
 use Rattle.store_tables.specs.Entries.Rows.{Voided, voided_columns}
 use Rattle.store_tables.specs.Entries.Trees.{voids}
-use Rattle.store_facts.specs.Going.{Goes, Told}
-use Rattle.store_facts.proofs.GoingLemmas.{goes_then, then_failed, told_less, nothing_done}
-use Rattle.store_facts.specs.Voids.Places.{TellsOf, names, TellsVoided, AreVoided, IsBefore, IsAfter}
+use Rattle.store_facts.specs.Going.{Goes, Reported}
+use Rattle.store_facts.proofs.GoingLemmas.{goes_then, then_failed, reported_less, nothing_done}
+use Rattle.store_facts.specs.Voids.Places.{ReportsOf, names, ReportsVoided, AreVoided, IsBefore, IsAfter}
 
 module _ (meter : List ℕ) where
   -- True if a meter's entries with indices between `low` and `high` are all voided, and the search
   -- changed nothing.
   abbrev pub Passed : (low high : ℕ) → Content → Content → Type 0
-  Passed low high = Told voids voided_columns (λ (vs : List Voided) (u : Unit {0}). AreVoided meter low high vs) tt
+  Passed low high = Reported voids voided_columns (λ (vs : List Voided) (u : Unit {0}). AreVoided meter low high vs) tt
 
   abbrev Asked : (place : ℕ) → Bool → Content → Content → Type 0
-  Asked place is = Told voids voided_columns (TellsVoided meter place) is
+  Asked place is = Reported voids voided_columns (ReportsVoided meter place) is
 
   pub not_begun : (low high : ℕ) → high ≤ low + 1 → (a : State) → Goes {X = Unit {0}} {E = RowFault} a a (Ok tt) (Passed low high)
   not_begun low high none a =
@@ -42,7 +42,7 @@ module _ (meter : List ℕ) where
   both : (low high more less p : ℕ) (a b c : State) → ((vs : List Voided) → AreVoided meter low high vs → true ≡ names meter p vs → AreVoided meter more less vs)
       → Goes {X = Unit {0}} {E = RowFault} a b (Ok tt) (Passed low high) → Goes {X = Bool} {E = RowFault} b c (Ok true) (Asked p true) → Goes {X = Unit {0}} {E = RowFault} a c (Ok tt) (Passed more less)
   both low high more less p a b c widens one two =
-      told_less {D = RowFault} a c true tt (Passed more less) (Passed more less) (λ content after is. is)
+      reported_less {D = RowFault} a c true tt (Passed more less) (Passed more less) (λ content after is. is)
       (goes_then {D = RowFault} a b c tt (Ok true) (Passed low high) (Asked p true) (Passed more less) one two
       (λ before mid after (was : Passed low high before mid) (asked : Asked p true mid after). record {
         same = asked.same ∙ was.same;
@@ -61,17 +61,17 @@ module _ (meter : List ℕ) where
 
   -- If a query of the search fails, the search returns the fault of this query.
   pub walk_failed : {X A : Type 0} (T : RowFault → Type 0) (a b c : State) (e : RowFault) (r : Result A RowFault) (low high : ℕ) (Q : Content → Content → Type 0) (Answers : List X → A → Type 0) (tree : ℕ) (columns : X → Row)
-      → Goes {X = Unit {0}} {E = RowFault} a b (Ok tt) (Passed low high) → Goes {X = Bool} b c (Err e) Q → IsErrAnd r T → Goes a c r (TellsOf r tree columns Answers)
+      → Goes {X = Unit {0}} {E = RowFault} a b (Ok tt) (Passed low high) → Goes {X = Bool} b c (Err e) Q → IsErrAnd r T → Goes a c r (ReportsOf r tree columns Answers)
   walk_failed T a b c e (Ok x) low high Q Answers tree columns one two is = absurd is
-  walk_failed T a b c e (Err d) low high Q Answers tree columns one two is = then_failed a b c tt e d (Passed low high) Q (TellsOf (Err d) tree columns Answers) one two
+  walk_failed T a b c e (Err d) low high Q Answers tree columns one two is = then_failed a b c tt e d (Passed low high) Q (ReportsOf (Err d) tree columns Answers) one two
 
   -- If the downward search reaches a meter entry that is not voided, it returns the index of this
   -- entry.
   pub stands_before : (place p : ℕ) (a b c : State) (is : Bool) → is ≡ false → 1 ≤ p → p < place → Goes {X = Unit {0}} {E = RowFault} a b (Ok tt) (Passed p place) → Goes {X = Bool} {E = RowFault} b c (Ok is) (Asked p is)
-      → Goes {X = ℕ} {E = RowFault} a c (Ok p) (Told voids voided_columns (IsBefore meter place) p)
+      → Goes {X = ℕ} {E = RowFault} a c (Ok p) (Reported voids voided_columns (IsBefore meter place) p)
   stands_before place p a b c is off first less one two =
-      told_less {D = RowFault} a c is p (Told voids voided_columns (IsBefore meter place) p) (Told voids voided_columns (IsBefore meter place) p) (λ content after t. t)
-      (goes_then {D = RowFault} a b c tt (Ok is) (Passed p place) (Asked p is) (Told voids voided_columns (IsBefore meter place) p) one two
+      reported_less {D = RowFault} a c is p (Reported voids voided_columns (IsBefore meter place) p) (Reported voids voided_columns (IsBefore meter place) p) (λ content after t. t)
+      (goes_then {D = RowFault} a b c tt (Ok is) (Passed p place) (Asked p is) (Reported voids voided_columns (IsBefore meter place) p) one two
       (λ before mid after (was : Passed p place before mid) (asked : Asked p is mid after). record {
         same = asked.same ∙ was.same;
         answers = λ vs has. record {
@@ -83,19 +83,19 @@ module _ (meter : List ℕ) where
       }))
 
   pub opening_before : (place low : ℕ) (a b : State) → 2 ≤ place → low ≤ 1 → Goes {X = Unit {0}} {E = RowFault} a b (Ok tt) (Passed low place)
-      → Goes {X = ℕ} {E = RowFault} a b (Ok 1) (Told voids voided_columns (IsBefore meter place) 1)
+      → Goes {X = ℕ} {E = RowFault} a b (Ok 1) (Reported voids voided_columns (IsBefore meter place) 1)
   opening_before place low a b late under one =
-      told_less {D = RowFault} a b tt 1 (Passed low place) (Told voids voided_columns (IsBefore meter place) 1)
+      reported_less {D = RowFault} a b tt 1 (Passed low place) (Reported voids voided_columns (IsBefore meter place) 1)
       (λ content after (was : Passed low place content after). record {
         same = was.same;
         answers = λ vs has. record { opening = omega arith; lower = omega (arith, late); between = λ q above below. was.answers vs has q (omega (arith, under, above)) below; stands = inl refl };
       }) one
 
   pub stands_after : (place p : ℕ) (a b c : State) (is : Bool) → is ≡ false → place < p → Goes {X = Unit {0}} {E = RowFault} a b (Ok tt) (Passed place p) → Goes {X = Bool} {E = RowFault} b c (Ok is) (Asked p is)
-      → Goes {X = ℕ} {E = RowFault} a c (Ok p) (Told voids voided_columns (IsAfter meter place) p)
+      → Goes {X = ℕ} {E = RowFault} a c (Ok p) (Reported voids voided_columns (IsAfter meter place) p)
   stands_after place p a b c is off more one two =
-      told_less {D = RowFault} a c is p (Told voids voided_columns (IsAfter meter place) p) (Told voids voided_columns (IsAfter meter place) p) (λ content after t. t)
-      (goes_then {D = RowFault} a b c tt (Ok is) (Passed place p) (Asked p is) (Told voids voided_columns (IsAfter meter place) p) one two
+      reported_less {D = RowFault} a c is p (Reported voids voided_columns (IsAfter meter place) p) (Reported voids voided_columns (IsAfter meter place) p) (λ content after t. t)
+      (goes_then {D = RowFault} a b c tt (Ok is) (Passed place p) (Asked p is) (Reported voids voided_columns (IsAfter meter place) p) one two
       (λ before mid after (was : Passed place p before mid) (asked : Asked p is mid after). record {
         same = asked.same ∙ was.same;
         answers = λ vs has. record {

@@ -4,13 +4,13 @@ use Rattle.std.specs.List.{list_any}
 use Rattle.sqlite.specs.Order.{Row}
 use Rattle.store_tables.specs.Content.{Content}
 use Rattle.store_tables.specs.Entries.Rows.{Voided}
-use Rattle.store_facts.specs.Going.{Told}
+use Rattle.store_facts.specs.Going.{Reported}
 
 -- True if a query changed nothing, and an Ok answer follows from the rows of one table.
-abbrev pub TellsOf : {X A E : Type 0} → Result A E → (tree : ℕ) → (columns : X → Row)
+abbrev pub ReportsOf : {X A E : Type 0} → Result A E → (tree : ℕ) → (columns : X → Row)
     → (Answers : List X → A → Type 0) → Content → Content → Type 0
-TellsOf (Ok a) tree columns Answers = Told tree columns Answers a
-TellsOf (Err e) tree columns Answers = λ content after. ⊤
+ReportsOf (Ok a) tree columns Answers = Reported tree columns Answers a
+ReportsOf (Err e) tree columns Answers = λ content after. ⊤
 
 -- True if a void cancels the entry of the meter `meter` at index `place`.
 abbrev pub is_void : (meter : List ℕ) → (place : ℕ) → Voided → Bool
@@ -22,8 +22,8 @@ names meter place voids = list_any (is_void meter place) voids
 
 -- True if the answer of a query says whether the entry of the meter `meter` at index `place` is
 -- voided.
-abbrev pub TellsVoided : (meter : List ℕ) → (place : ℕ) → List Voided → Bool → Type 0
-TellsVoided meter place voids is = is ≡ names meter place voids
+abbrev pub ReportsVoided : (meter : List ℕ) → (place : ℕ) → List Voided → Bool → Type 0
+ReportsVoided meter place voids is = is ≡ names meter place voids
 
 -- True if every entry of the meter `meter` with an index between `low` and `high` is voided.
 abbrev pub AreVoided : (meter : List ℕ) → (low high : ℕ) → List Voided → Type 0

@@ -2,14 +2,14 @@
 ghost use Rattle.std.specs.Prelude.{◌≡◌, ◌≤◌, IfOk, IfSome};
 ghost use Rattle.sqlite.specs.Held.{state};
 ghost use Rattle.store_tables.specs.Answer.{IsFound, AnyOrder};
-ghost use Rattle.store_tables.specs.Asking.{AsksInside, TellsRows, ShowsFirst};
+ghost use Rattle.store_tables.specs.Asking.{AsksInside, ReportsRows, ShowsFirst};
 ghost use Rattle.store_tables.specs.Entries.Rows.{entry_columns, entry_shown, is_entry, IsRow};
 ghost use Rattle.store_tables.specs.Entries.Rows.{IsSoundEntry, voided_columns, voided_shown};
 ghost use Rattle.store_tables.specs.Entries.Trees.{entries, voids};
 ghost use Rattle.store_tables.specs.Limits.{greatest_place};
 ghost use Rattle.store_tables.specs.Steps.{IsSameBorrow};
 ghost use Rattle.store_facts.specs.Going.{Goes};
-ghost use Rattle.store_facts.specs.Voids.Places.{TellsOf, is_void, TellsVoided};
+ghost use Rattle.store_facts.specs.Voids.Places.{ReportsOf, is_void, ReportsVoided};
 
 use sqlite::{Alter, Error, Row, Transaction, params};
 use store_tables::{EntryRow, RowFault, number, read_entry};
@@ -23,7 +23,7 @@ fn entry_rows_at<S: Alter>(
     requires place { place ≤ greatest_place }
     ensures same_reference { IsSameBorrow tx.old.conn tx.new.conn }
     ensures asks { AsksInside S.Store tx.old.conn.now tx.new.conn.now result }
-    ensures shows { TellsRows S.Store tx.old.conn.now tx.new.conn.now entries entry_columns result
+    ensures shows { ReportsRows S.Store tx.old.conn.now tx.new.conn.now entries entry_columns result
         (ShowsFirst (is_entry meter.now place) AnyOrder entry_shown) }
 {
     let place = number(place);
@@ -42,7 +42,7 @@ fn void_rows_at<S: Alter>(
     requires place { place ≤ greatest_place }
     ensures same_reference { IsSameBorrow tx.old.conn tx.new.conn }
     ensures asks { AsksInside S.Store tx.old.conn.now tx.new.conn.now result }
-    ensures shows { TellsRows S.Store tx.old.conn.now tx.new.conn.now voids voided_columns result
+    ensures shows { ReportsRows S.Store tx.old.conn.now tx.new.conn.now voids voided_columns result
         (ShowsFirst (is_void meter.now place) AnyOrder voided_shown) }
 {
     let place = number(place);
@@ -62,7 +62,7 @@ pub fn entry_at<S: Alter>(
     ensures same_reference { IsSameBorrow tx.old.conn tx.new.conn }
     ensures sound { IfOk result (λ found. IfSome found IsSoundEntry) }
     ensures does { Goes (state S.Store tx.old.conn.now) (state S.Store tx.new.conn.now) result
-        (TellsOf result entries entry_columns (IsFound (is_entry meter.now place) IsRow)) }
+        (ReportsOf result entries entry_columns (IsFound (is_entry meter.now place) IsRow)) }
 {
     let rows = entry_rows_at(tx, meter, place)?;
     match rows.first() {
@@ -80,7 +80,7 @@ pub fn is_voided<S: Alter>(
     requires place { place ≤ greatest_place }
     ensures same_reference { IsSameBorrow tx.old.conn tx.new.conn }
     ensures does { Goes (state S.Store tx.old.conn.now) (state S.Store tx.new.conn.now) result
-        (TellsOf result voids voided_columns (TellsVoided meter.now place)) }
+        (ReportsOf result voids voided_columns (ReportsVoided meter.now place)) }
 {
     let rows = void_rows_at(tx, meter, place)?;
     match rows.first() {

@@ -6,7 +6,7 @@ ghost use Rattle.store_tables.specs.Entries.Trees.{voids};
 ghost use Rattle.store_tables.specs.Limits.{greatest_place};
 ghost use Rattle.store_tables.specs.Steps.{IsSameBorrow};
 ghost use Rattle.store_facts.specs.Going.{Goes};
-ghost use Rattle.store_facts.specs.Voids.Places.{TellsOf, IsBefore, IsAfter};
+ghost use Rattle.store_facts.specs.Voids.Places.{ReportsOf, IsBefore, IsAfter};
 
 use crate::voids::entries::is_voided;
 use sqlite::{Alter, Transaction};
@@ -24,7 +24,7 @@ pub fn place_before<S: Alter>(
     ensures same_reference { IsSameBorrow tx.old.conn tx.new.conn }
     ensures lower { IfOk result (λ before. before ≤ place) }
     ensures does { Goes (state S.Store tx.old.conn.now) (state S.Store tx.new.conn.now) result
-        (TellsOf result voids voided_columns (IsBefore meter.now place)) }
+        (ReportsOf result voids voided_columns (IsBefore meter.now place)) }
 {
     for passed in 1..place - 1 {
         let before = place - passed;
@@ -46,7 +46,7 @@ pub fn place_after<S: Alter>(
     ensures same_reference { IsSameBorrow tx.old.conn tx.new.conn }
     ensures high { IfOk result (λ next. next ≤ greatest_place) }
     ensures does { Goes (state S.Store tx.old.conn.now) (state S.Store tx.new.conn.now) result
-        (TellsOf result voids voided_columns (IsAfter meter.now place)) }
+        (ReportsOf result voids voided_columns (IsAfter meter.now place)) }
 {
     for next in place + 1..GREATEST_PLACE + 1 {
         if !is_voided(tx, meter, next)? {

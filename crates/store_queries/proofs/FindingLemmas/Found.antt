@@ -20,8 +20,8 @@ module _ {S : Type 0} (g : Ghosts S) (old new : Held S) where
   -- If an answer satisfies a statement about the records, it also satisfies a weaker statement.
   pub answered : {A B : Type 0} (a : A) (b : B) (P : List Fact → A → Type 0) (Q : List Fact → B → Type 0) (s t : List Fact → Type 0)
       → Finds g old new (Ok a) P s → ((facts : List Fact) → P facts a → Q facts b) → Finds g old new (Ok b) Q t
-  answered a b P Q s t one tells = record {
-    answer = λ zone facts holds clean. tells facts (one.answer zone facts holds clean);
+  answered a b P Q s t one reports = record {
+    answer = λ zone facts holds clean. reports facts (one.answer zone facts holds clean);
     fault = λ zone facts holds clean. tt;
     looks = one.looks;
   }
@@ -31,8 +31,8 @@ module _ {S : Type 0} (g : Ghosts S) (old new : Held S) where
 
   -- If a look-up satisfies a postcondition about damage, it also satisfies a weaker postcondition
   -- about damage.
-  pub less_told : {A : Type 0} (r : Result A RowFault) (P : List Fact → A → Type 0) (s t : List Fact → Type 0) → ((facts : List Fact) → t facts → s facts) → Finds g old new r P s → Finds g old new r P t
-  less_told r P s t weaker one = record {
+  pub less_reported : {A : Type 0} (r : Result A RowFault) (P : List Fact → A → Type 0) (s t : List Fact → Type 0) → ((facts : List Fact) → t facts → s facts) → Finds g old new r P s → Finds g old new r P t
+  less_reported r P s t weaker one = record {
     answer = one.answer;
     fault = λ zone facts holds clean. on_err r (λ f why. less_fault (state g old) (state g new) (t facts) (s facts) f (weaker facts) why) (one.fault zone facts holds clean);
     looks = one.looks;
@@ -82,7 +82,7 @@ module _ {S : Type 0} (g : Ghosts S) (old new : Held S) where
 -- If a look-up runs no query, the database stays unchanged.
 pub not_asked : {S A : Type 0} (g : Ghosts S) (old : Held S) (r : Result A RowFault) (P : List Fact → A → Type 0) (s : List Fact → Type 0)
     → ((zone : List ℕ) (facts : List Fact) → IfOk r (P facts)) → ((facts : List Fact) → IfErr r (IsRowFault (s facts))) → Finds g old old r P s
-not_asked g old r P s tells fair = record { answer = λ zone facts holds clean. tells zone facts; fault = λ zone facts holds clean. on_err r (λ f why. row_fault (state g old) (state g old) (s facts) (s facts) f (λ is. is) why) (fair facts); looks = λ zone. stays g zone old }
+not_asked g old r P s reports fair = record { answer = λ zone facts holds clean. reports zone facts; fault = λ zone facts holds clean. on_err r (λ f why. row_fault (state g old) (state g old) (s facts) (s facts) f (λ is. is) why) (fair facts); looks = λ zone. stays g zone old }
 
 -- If a result satisfies a postcondition, it also satisfies any postcondition that follows from the
 -- first.
@@ -132,16 +132,16 @@ fails_then g old mid new a e (Err d) P Q R s t u one two sound fails = record {
 -- of one look-up.
 pub found_then : {S A B : Type 0} (g : Ghosts S) (old mid new : Held S) (a : A) (r : Result B RowFault) (P : List Fact → A → Type 0) (Q R : List Fact → B → Type 0) (s t u : List Fact → Type 0)
     → Finds g old mid (Ok a) P s → Finds g mid new r Q t → ((facts : List Fact) → P facts a → u facts → t facts) → ((facts : List Fact) (b : B) → P facts a → Q facts b → R facts b) → Finds g old new r R u
-found_then g old mid new a (Ok b) P Q R s t u one two sound tells =
-    answered g old new b b (λ facts x. P facts a × Q facts x) R t u (finds_then g old mid new a (Ok b) P Q s t one two) (λ facts h. tells facts b h.0 h.1)
-found_then g old mid new a (Err e) P Q R s t u one two sound tells = fails_then g old mid new a e (Err e) P Q R s t u one two sound refl
+found_then g old mid new a (Ok b) P Q R s t u one two sound reports =
+    answered g old new b b (λ facts x. P facts a × Q facts x) R t u (finds_then g old mid new a (Ok b) P Q s t one two) (λ facts h. reports facts b h.0 h.1)
+found_then g old mid new a (Err e) P Q R s t u one two sound reports = fails_then g old mid new a e (Err e) P Q R s t u one two sound refl
 
 -- If a query returns a value, the look-up returns the converted value, or a fault if the value
 -- can't be converted.
 pub made : {S A C : Type 0} (g : Ghosts S) (old new : Held S) (a : A) (r : Result C RowFault) (P : List Fact → A → Type 0) (R : List Fact → C → Type 0) (s u : List Fact → Type 0)
     → Finds g old new (Ok a) P s → ((facts : List Fact) → P facts a → IfOk r (R facts)) → ((facts : List Fact) → P facts a → IfErr r (IsRowFault (u facts))) → Finds g old new r R u
-made g old new a r P R s u one tells fails = record {
-  answer = λ zone facts holds clean. tells facts (one.answer zone facts holds clean);
+made g old new a r P R s u one reports fails = record {
+  answer = λ zone facts holds clean. reports facts (one.answer zone facts holds clean);
   fault = λ zone facts holds clean. on_err r (λ f why. row_fault (state g old) (state g new) (u facts) (u facts) f (λ is. is) why) (fails facts (one.answer zone facts holds clean));
   looks = one.looks;
 }

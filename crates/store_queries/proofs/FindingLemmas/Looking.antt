@@ -64,10 +64,10 @@ pub record HasSeen {S : Type 0} (g : Ghosts S) (zone : List ℕ) (mid : Held S) 
 
 -- True if the rows of one table determine an answer about the records. If the rows of the records
 -- can be read, so can the rows of the table.
-pub record IsTold {A X : Type 0} (facts : List Fact) (content : Content) (tree : ℕ) (columns : X → Row) (IsSound : X → Type 0) (Answers : List X → A → Type 0) (Says : List Fact → A → Type 0) (AreSound : List Fact → Type 0) : Type 0 where
+pub record IsReported {A X : Type 0} (facts : List Fact) (content : Content) (tree : ℕ) (columns : X → Row) (IsSound : X → Type 0) (Answers : List X → A → Type 0) (Says : List Fact → A → Type 0) (AreSound : List Fact → Type 0) : Type 0 where
   pub rows : List X
   pub there : HasRows tree columns rows content
-  pub tells : (a : A) → Answers rows a → Says facts a
+  pub reports : (a : A) → Answers rows a → Says facts a
   pub sound : AreSound facts → AllByRecursion IsSound rows
 
 weaker_ok : {A : Type 0} (P Q : A → Type 0) (r : Result A RowFault) → ((a : A) → P a → Q a) → IfOk r P → IfOk r Q
@@ -149,8 +149,8 @@ module _ {S : Type 0} (g : Ghosts S) (old mid : Held S) where
       pub asked : {A : Type 0} (a : A) (Says : List Fact → A → Type 0) (AreSound : List Fact → Type 0)
           → (HasCleanDisk (state g new) → (content : Content) → AreTables (state g mid).now content → (zone : List ℕ) (facts : List Fact) → AreOf zone facts content → Says facts a)
           → Finds g old new (Ok a) Says AreSound
-      asked a Says AreSound tells = record {
-        answer = λ zone facts holds clean. let s = seen zone facts holds (asks.clean clean) in tells clean s.content s.tables zone facts s.are;
+      asked a Says AreSound reports = record {
+        answer = λ zone facts holds clean. let s = seen zone facts holds (asks.clean clean) in reports clean s.content s.tables zone facts s.are;
         fault = λ zone facts holds clean. tt;
         looks = looks_asked;
       }
@@ -186,18 +186,18 @@ module _ {S : Type 0} (g : Ghosts S) (old mid : Held S) where
 
     -- If the rows of one table determine an answer about the records, the query on this table gives
     -- the look-up's answer.
-    pub told_of : {A X : Type 0} (new : Held S) (tree : ℕ) (columns : X → Row) (IsSound : X → Type 0) (r : Result A RowFault) (Answers : List X → A → Type 0)
+    pub reported_of : {A X : Type 0} (new : Held S) (tree : ℕ) (columns : X → Row) (IsSound : X → Type 0) (r : Result A RowFault) (Answers : List X → A → Type 0)
         → LooksUp g mid new tree columns IsSound r Answers → (Says : List Fact → A → Type 0) (AreSound : List Fact → Type 0)
-        → ((zone : List ℕ) (facts : List Fact) (content : Content) → AreOf zone facts content → IsTold facts content tree columns IsSound Answers Says AreSound)
+        → ((zone : List ℕ) (facts : List Fact) (content : Content) → AreOf zone facts content → IsReported facts content tree columns IsSound Answers Says AreSound)
         → Finds g old new r Says AreSound
-    told_of new tree columns IsSound r Answers it Says AreSound told = record {
+    reported_of new tree columns IsSound r Answers it Says AreSound reported = record {
       answer = λ zone facts holds clean.
           let s = seen zone facts holds (it.asks.clean clean) in
-          let t = told zone facts s.content s.are in
-          weaker_ok (Answers t.rows) (Says facts) r t.tells (it.answer clean s.content s.tables t.rows t.there);
+          let t = reported zone facts s.content s.are in
+          weaker_ok (Answers t.rows) (Says facts) r t.reports (it.answer clean s.content s.tables t.rows t.there);
       fault = λ zone facts holds clean.
           let s = seen zone facts holds (it.asks.clean clean) in
-          let t = told zone facts s.content s.are in
+          let t = reported zone facts s.content s.are in
           on_err r (λ f why. less_fault (state g old) (state g new) (AreSound facts) (AllByRecursion IsSound t.rows) f t.sound (since new it.asks zone facts holds clean (AllByRecursion IsSound t.rows) f why))
           (it.fault clean s.content s.tables t.rows t.there);
       looks = looks_asked new it.asks;
@@ -205,8 +205,8 @@ module _ {S : Type 0} (g : Ghosts S) (old mid : Held S) where
 
     -- If a look-up runs no query after `check_open`, it satisfies the contract of a look-up.
     pub seen_alone : {A : Type 0} (a : A) (Says : List Fact → A → Type 0) (AreSound : List Fact → Type 0) → ((facts : List Fact) → AreLawful facts → Says facts a) → Finds g old mid (Ok a) Says AreSound
-    seen_alone a Says AreSound tells = record {
-      answer = λ zone facts holds clean. tells facts (seen zone facts holds clean).are.lawful;
+    seen_alone a Says AreSound reports = record {
+      answer = λ zone facts holds clean. reports facts (seen zone facts holds clean).are.lawful;
       fault = λ zone facts holds clean. tt;
       looks = looks_touched;
     }

@@ -287,17 +287,17 @@ module _ (meter : List ℕ) (o : Opening) (rows : List EntryRow) (table : List E
       all_passing T (is_of meter) (λ e off is. absurd (let on = (and_parts (bytes_eq e.meter meter) (e.entry.place == place) is).0 in let f : true ≡ false = sym on ∙ off in cc)) table
       (recursion_from_All T _ (All-permutation T _ _ (IsPermutation-sym _ _ are) (All-from_recursion T _ mine)))
 
-  pub told_of : (P : stored.EntryRow → Type 0) (place : ℕ) (entry : stored.EntryRow) → AllByRecursion (λ (e : Entered). e.entry.place ≡ place → P e.entry) (entered_rows o rows)
+  pub reported_of : (P : stored.EntryRow → Type 0) (place : ℕ) (entry : stored.EntryRow) → AllByRecursion (λ (e : Entered). e.entry.place ≡ place → P e.entry) (entered_rows o rows)
       → IsFound (is_entry meter place) IsRow table (Some entry) → P entry
-  told_of P place entry all found =
+  reported_of P place entry all found =
       let it = found_has (is_entry meter place) IsRow (λ (e : Entered). P e.entry) table entry (lifted (λ (e : Entered). P e.entry) place all) found in
       subst P (sym it.1) it.2
 
   none_at_place : (place : ℕ) (e : Entered) → is_of meter e ≡ true → is_entry meter place e ≡ false → e.entry.place ≡ place → ⊥
   none_at_place place e mine off same = let f : true ≡ false = sym (ap₂ ◌&&◌ mine (eq-eqb e.entry.place place same)) ∙ off in absurd (cc)
 
-  pub none_told : (place : ℕ) → AllByRecursion (λ (e : Entered). is_of meter e ≡ true) (entered_rows o rows) → IsFound (is_entry meter place) IsRow table None → AllByRecursion (λ (e : Entered). e.entry.place ≡ place → ⊥) (entered_rows o rows)
-  none_told place mine none =
+  pub none_reported : (place : ℕ) → AllByRecursion (λ (e : Entered). is_of meter e ≡ true) (entered_rows o rows) → IsFound (is_entry meter place) IsRow table None → AllByRecursion (λ (e : Entered). e.entry.place ≡ place → ⊥) (entered_rows o rows)
+  none_reported place mine none =
       let off = all-filter (λ e. is_entry meter place e ≡ false) (is_of meter) table (none_passes (is_entry meter place) table none) in
       let here = recursion_from_All (λ e. is_entry meter place e ≡ false) _ (All-permutation (λ e. is_entry meter place e ≡ false) _ _ are (All-from_recursion (λ e. is_entry meter place e ≡ false) _ off)) in
       both (entered_rows o rows) mine here

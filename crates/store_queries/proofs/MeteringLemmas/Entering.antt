@@ -80,14 +80,14 @@ journal_is journals stand change facts meter entries voids rows shown void are =
 by_opening : (facts : List Fact) (place : ℕ) (whole : Installation) (found : Option EntryContext) (opening : Option Opening) → Some whole ≡ option_map (installation_of facts) opening
     → ((o : Opening) → opening ≡ Some o → whole ≡ installation_of facts o → found ≡ option_map (place_in facts o) (row_at place (rows_of facts o)))
     → found ≡ option_and_then (λ o. option_map (place_in facts o) (row_at place (rows_of facts o))) opening
-by_opening facts place whole found None is tells = absurd (let e = is in cc)
-by_opening facts place whole found (Some o) is tells = tells o refl (same_Some _ _ is)
+by_opening facts place whole found None is reports = absurd (let e = is in cc)
+by_opening facts place whole found (Some o) is reports = reports o refl (same_Some _ _ is)
 
 pub entry_is : (facts : List Fact) (meter : List ℕ) (place : ℕ) (whole : Installation) (rows : List EntryRow) (found : Option EntryContext) → Some whole ≡ meter_of facts meter → FindsJournal meter facts rows
     → ((o : Opening) → whole ≡ installation_of facts o → latest_first rows ≡ rows_of facts o → found ≡ option_map (place_in facts o) (row_at place (rows_of facts o)))
     → found ≡ entry_at facts meter place
-entry_is facts meter place whole rows found is journal tells =
-    by_opening facts place whole found (opening_of facts meter) is (λ o there whole_is. tells o whole_is (journal o there))
+entry_is facts meter place whole rows found is journal reports =
+    by_opening facts place whole found (opening_of facts meter) is (λ o there whole_is. reports o whole_is (journal o there))
 
 -- If a meter was never installed, it has no entry at any index.
 none_at : (facts : List Fact) (place : ℕ) (opening : Option Opening) → None ≡ option_map (installation_of facts) opening
@@ -98,14 +98,14 @@ none_at facts place (Some o) is = absurd (let e = is in cc)
 pub no_entry : (facts : List Fact) (meter : List ℕ) (place : ℕ) → None ≡ meter_of facts meter → None ≡ entry_at facts meter place
 no_entry facts meter place is = none_at facts place (opening_of facts meter) is
 
-pub placed_is : (facts : List Fact) (meter text : List ℕ) (place : ℕ) (x : Option Installation) (whole : Installation) (rows told : List EntryRow) (r : Result (Option EntryContext) RowFault) → x ≡ Some whole → x ≡ meter_of facts meter → text ≡ meter
-    → told ≡ rows → FindsJournal text facts rows
-    → ((o : Opening) → whole ≡ installation_of facts o → latest_first told ≡ rows_of facts o → IfOk r (λ found. found ≡ option_map (place_in facts o) (row_at place (rows_of facts o))))
+pub placed_is : (facts : List Fact) (meter text : List ℕ) (place : ℕ) (x : Option Installation) (whole : Installation) (rows reported : List EntryRow) (r : Result (Option EntryContext) RowFault) → x ≡ Some whole → x ≡ meter_of facts meter → text ≡ meter
+    → reported ≡ rows → FindsJournal text facts rows
+    → ((o : Opening) → whole ≡ installation_of facts o → latest_first reported ≡ rows_of facts o → IfOk r (λ found. found ≡ option_map (place_in facts o) (row_at place (rows_of facts o))))
     → IfOk r (λ found. found ≡ entry_at facts meter place)
-placed_is facts meter text place x whole rows told (Err e) is found named same_rows journal tells = tt
-placed_is facts meter text place x whole rows told (Ok y) is found named same_rows journal tells =
+placed_is facts meter text place x whole rows reported (Err e) is found named same_rows journal reports = tt
+placed_is facts meter text place x whole rows reported (Ok y) is found named same_rows journal reports =
     entry_is facts meter place whole rows y (sym is ∙ found) (subst (λ (t : List ℕ). FindsJournal t facts rows) named journal)
-    (λ o whole_is rows_are. tells o whole_is (ap latest_first same_rows ∙ rows_are))
+    (λ o whole_is rows_are. reports o whole_is (ap latest_first same_rows ∙ rows_are))
 
 pub from_derefs : (a b c d : List Row) (rows : List EntryRow) → a ≡ c → b ≡ d → AreJournal a b rows → AreJournal c d rows
 from_derefs a b c d rows one two are = subst (λ (l : List Row). AreJournal l d rows) one (subst (λ (l : List Row). AreJournal a l rows) two are)
@@ -141,19 +141,19 @@ can_be_placed ranges journals stand kept facts o place rows lawful there are =
     }
 
 -- If finding a meter entry by its index reports `Damaged`, a row has a value out of its range.
-pub placed_fault : InstallationsAreInRange → JournalsFit → RowsStand → PlacesWereKept → (facts : List Fact) (meter text : List ℕ) (place : ℕ) (x : Option Installation) (whole : Installation) (rows told : List EntryRow) (r : Result (Option EntryContext) RowFault)
-    → (Sound : Type 0) → (Sound → AreLawful facts) → x ≡ Some whole → x ≡ meter_of facts meter → text ≡ meter → told ≡ rows → FindsJournal text facts rows → IfErr r (λ e. (e ≡ Damaged) × (¬ CanBePlaced whole.opening told place))
+pub placed_fault : InstallationsAreInRange → JournalsFit → RowsStand → PlacesWereKept → (facts : List Fact) (meter text : List ℕ) (place : ℕ) (x : Option Installation) (whole : Installation) (rows reported : List EntryRow) (r : Result (Option EntryContext) RowFault)
+    → (Sound : Type 0) → (Sound → AreLawful facts) → x ≡ Some whole → x ≡ meter_of facts meter → text ≡ meter → reported ≡ rows → FindsJournal text facts rows → IfErr r (λ e. (e ≡ Damaged) × (¬ CanBePlaced whole.opening reported place))
     → IfErr r (IsRowFault Sound)
-placed_fault ranges journals stand kept facts meter text place x whole rows told (Ok y) Sound lawful is found_is named same_rows journal h = tt
-placed_fault ranges journals stand kept facts meter text place x whole rows told (Err e) Sound lawful is found_is named same_rows journal h =
+placed_fault ranges journals stand kept facts meter text place x whole rows reported (Ok y) Sound lawful is found_is named same_rows journal h = tt
+placed_fault ranges journals stand kept facts meter text place x whole rows reported (Err e) Sound lawful is found_is named same_rows journal h =
     subst (IsRowFault Sound) (sym h.0) (λ sound.
     let o = mapped_some (installation_of facts) (opening_of facts meter) whole (sym found_is ∙ is) in
     let there = found_recorded (λ (x : Opening). same x.meter meter) (openings_in facts) o.0 o.1 in
-    let are : latest_first told ≡ rows_of facts o.0 = ap latest_first same_rows ∙ journal o.0 (ap (opening_of facts) named ∙ o.1) in
-    h.1 (subst (λ (w : Installation). CanBePlaced w.opening told place) o.2 (can_be_placed ranges journals stand kept facts o.0 place told (lawful sound) there are)))
+    let are : latest_first reported ≡ rows_of facts o.0 = ap latest_first same_rows ∙ journal o.0 (ap (opening_of facts) named ∙ o.1) in
+    h.1 (subst (λ (w : Installation). CanBePlaced w.opening reported place) o.2 (can_be_placed ranges journals stand kept facts o.0 place reported (lawful sound) there are)))
 
-pub journal_fault : {C : Type 0} (Sound : Type 0) (entries voids shown told : List Row) (r : Result C RowFault) → shown ≡ entries → told ≡ voids → (es : List Entered) (vs : List Voided) → entries ≡ map entry_shown es → voids ≡ map voided_shown vs
-    → IfErr r (IsFaultOfJournal shown told) → (Sound → AllByRecursion IsSoundEntered es × AllByRecursion IsSoundVoided vs) → IfErr r (IsRowFault Sound)
-journal_fault Sound entries voids shown told (Ok x) one two es vs first second h sound = tt
-journal_fault Sound entries voids shown told (Err e) one two es vs first second h sound =
+pub journal_fault : {C : Type 0} (Sound : Type 0) (entries voids shown reported : List Row) (r : Result C RowFault) → shown ≡ entries → reported ≡ voids → (es : List Entered) (vs : List Voided) → entries ≡ map entry_shown es → voids ≡ map voided_shown vs
+    → IfErr r (IsFaultOfJournal shown reported) → (Sound → AllByRecursion IsSoundEntered es × AllByRecursion IsSoundVoided vs) → IfErr r (IsRowFault Sound)
+journal_fault Sound entries voids shown reported (Ok x) one two es vs first second h sound = tt
+journal_fault Sound entries voids shown reported (Err e) one two es vs first second h sound =
     less_sound Sound (AllByRecursion IsSoundEntered es × AllByRecursion IsSoundVoided vs) sound e (h es vs (one ∙ first) (two ∙ second))

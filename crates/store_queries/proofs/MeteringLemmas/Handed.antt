@@ -33,7 +33,7 @@ module _ {S K T : Type 0} (g : Ghosts S) (takes : K → T → K → Type 0) (IsR
 
   -- True if the tables encode the records, and `tables` has the rows of the tables that the stream
   -- reads.
-  pub record Tells {Tables : Type 0} (Have : Tables → Content → Type 0) (AreRowsOf : Tables → List T → Type 0) (IsSound : Tables → Type 0) (facts : List Fact) (content : Content) : Type 0 where
+  pub record Reports {Tables : Type 0} (Have : Tables → Content → Type 0) (AreRowsOf : Tables → List T → Type 0) (IsSound : Tables → Type 0) (facts : List Fact) (content : Content) : Type 0 where
     pub rows : Tables
     pub there : Have rows content
     pub says_so : (all : List T) → AreRowsOf rows all → all ≡ says facts
@@ -46,25 +46,25 @@ module _ {S K T : Type 0} (g : Ghosts S) (takes : K → T → K → Type 0) (IsR
 
   pub handed : {Tables : Type 0} (old mid new : Held S) (before after : K) (r : Result (Unit {0}) RowFault) (Have : Tables → Content → Type 0) (AreRowsOf : Tables → List T → Type 0) (IsSound : Tables → Type 0)
       → Touched g old mid → tables.HandsOn g mid new takes before after r IsRow Have AreRowsOf IsSound
-      → ((zone : List ℕ) (facts : List Fact) (content : Content) → AreOf zone facts content → Tells Have AreRowsOf IsSound facts content) → HandsOn g old new takes before after r IsRow says AreSound
-  handed old mid new before after r Have AreRowsOf IsSound touched hands tells = record {
+      → ((zone : List ℕ) (facts : List Fact) (content : Content) → AreOf zone facts content → Reports Have AreRowsOf IsSound facts content) → HandsOn g old new takes before after r IsRow says AreSound
+  handed old mid new before after r Have AreRowsOf IsSound touched hands reports = record {
     begun = λ zone facts holds clean.
         let has = seen g old mid touched zone facts holds (hands.asks.clean clean) in
-        let told = tells zone facts has.content has.are in
-        begun_so before after (says facts) (AreRowsOf told.rows) told.says_so (hands.begun clean has.content has.tables told.rows told.there);
+        let reported = reports zone facts has.content has.are in
+        begun_so before after (says facts) (AreRowsOf reported.rows) reported.says_so (hands.begun clean has.content has.tables reported.rows reported.there);
     whole = λ zone facts holds clean.
         let has = seen g old mid touched zone facts holds (hands.asks.clean clean) in
-        let told = tells zone facts has.content has.are in
-        on_ok r (λ (h : (all : List T) × AreRowsOf told.rows all × TakesAll takes before all after). subst (λ (l : List T). TakesAll takes before l after) (told.says_so h.0 h.1) h.2)
-        (hands.whole clean has.content has.tables told.rows told.there);
+        let reported = reports zone facts has.content has.are in
+        on_ok r (λ (h : (all : List T) × AreRowsOf reported.rows all × TakesAll takes before all after). subst (λ (l : List T). TakesAll takes before l after) (reported.says_so h.0 h.1) h.2)
+        (hands.whole clean has.content has.tables reported.rows reported.there);
     some = hands.some;
     fault = λ zone facts holds clean.
         let has = seen g old mid touched zone facts holds (hands.asks.clean clean) in
-        let told = tells zone facts has.content has.are in
+        let reported = reports zone facts has.content has.are in
         on_err r (λ f why. elim why [
-          | inl own ↦ inl (less_fault (state g old) (state g new) (AreSound facts) (IsSound told.rows) f told.sound (since g old mid touched new hands.asks zone facts holds clean (IsSound told.rows) f own))
+          | inl own ↦ inl (less_fault (state g old) (state g new) (AreSound facts) (IsSound reported.rows) f reported.sound (since g old mid touched new hands.asks zone facts holds clean (IsSound reported.rows) f own))
           | inr most ↦ inr most
-        ]) (hands.fault clean has.content has.tables told.rows told.there);
+        ]) (hands.fault clean has.content has.tables reported.rows reported.there);
     looks = looks_asked g old mid touched new hands.asks;
     mode = λ is. hands.asks.mode touched.mode;
   }

@@ -104,19 +104,19 @@ module _ (meter : List ℕ) (place : ℕ) where
 -- ---- reading all rows of a meter
 
 module _ (o : Opening) (vs : List Voided) where
-  pub record IsTold (row : EntryRow) : Type 0 where
+  pub record IsReported (row : EntryRow) : Type 0 where
     pub shape : HasShape row.kind row.entry
     pub reading : row.stands ≡ false → is_read row.kind row.entry ≡ true
     pub stands : not (list_any (names row.place) vs) ≡ row.stands
 
-  pub one_back : (row : EntryRow) (rows : List EntryRow) → IsTold row → row_among vs (entered o.meter (entry_row (scale_after o (row ∷ rows)) row)) ≡ Some row
+  pub one_back : (row : EntryRow) (rows : List EntryRow) → IsReported row → row_among vs (entered o.meter (entry_row (scale_after o (row ∷ rows)) row)) ≡ Some row
   one_back row rows h =
       let last = last_of (opened o) (entries_in rows) in
       let scale : row.stands ≡ true → scale_after o (row ∷ rows) ≡ (after last row.entry).sf = λ on. ap (λ es. (last_of (opened o) es).sf) (entries_standing row rows on) in
       ap (λ b. row_from (entry_row (scale_after o (row ∷ rows)) row) b) h.stands
       ∙ back_by (scale_after o (row ∷ rows)) last row.place row.kind row.entry row.stands h.shape h.reading scale
 
-  pub all_back : (rows : List EntryRow) → AllByRecursion IsTold rows → filter_map (row_among vs) (entered_rows o rows) ≡ rows
+  pub all_back : (rows : List EntryRow) → AllByRecursion IsReported rows → filter_map (row_among vs) (entered_rows o rows) ≡ rows
   all_back [] h = refl
   all_back (row ∷ rows) h =
       ap (λ x. cons_option x (filter_map (row_among vs) (entered_rows o rows))) (one_back row rows h.0) ∙ ap (λ l. row ∷ l) (all_back rows h.1)
@@ -140,12 +140,12 @@ module _ (journals : JournalsFit) (stand : RowsStand) (change : VoidsChangeTwoRo
   journal_back vs all =
       let lines = journal_of facts o.meter in
       let rows = plain stand change (installed o) (well facts o lawful (found facts o lawful there)) lines (journals facts o lawful there) in
-      let told = all_weaker (IsPlain lines) (IsTold o vs) (λ row h. record {
+      let reported = all_weaker (IsPlain lines) (IsReported o vs) (λ row h. record {
         shape = h.shape;
         reading = h.reading;
         stands = ap not (sym (any_permutation (names row.place) _ _ all) ∙ voids_are o.meter row.place facts) ∙ sym h.stands;
       }) (rows_of facts o) rows in
-      filter_map_reverse (row_among vs) (entered_rows o (rows_of facts o)) ∙ ap reverse (all_back o vs (rows_of facts o) told)
+      filter_map_reverse (row_among vs) (entered_rows o (rows_of facts o)) ∙ ap reverse (all_back o vs (rows_of facts o) reported)
 
 -- ---- a meter's entries in order of index
 

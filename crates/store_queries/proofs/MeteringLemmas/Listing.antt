@@ -29,8 +29,8 @@ by_opening facts from most whole rows (Some o) is journal =
     let whole_is : whole ≡ installation_of facts o = same_Some _ _ is in
     ap₂ (λ (p : Opening) (rs : List EntryRow). first_from from most (reverse (listed_rows p rs))) (ap (λ (w : Installation). w.opening) whole_is) (journal o refl)
 
-pub listed_is : (facts : List Fact) (meter text : List ℕ) (from most : ℕ) (x : Option Installation) (whole : Installation) (rows told : List EntryRow) (v : List MeterEntry) → x ≡ Some whole → x ≡ meter_of facts meter → text ≡ meter
-    → told ≡ rows → FindsJournal text facts rows → v ≡ first_from from most (reverse (listed_rows whole.opening (latest_first told))) → v ≡ entries_from facts meter from most
-listed_is facts meter text from most x whole rows told v is found named same_rows journal listed =
-    listed ∙ by_opening facts from most whole told (opening_of facts meter) (sym is ∙ found)
+pub listed_is : (facts : List Fact) (meter text : List ℕ) (from most : ℕ) (x : Option Installation) (whole : Installation) (rows reported : List EntryRow) (v : List MeterEntry) → x ≡ Some whole → x ≡ meter_of facts meter → text ≡ meter
+    → reported ≡ rows → FindsJournal text facts rows → v ≡ first_from from most (reverse (listed_rows whole.opening (latest_first reported))) → v ≡ entries_from facts meter from most
+listed_is facts meter text from most x whole rows reported v is found named same_rows journal listed =
+    listed ∙ by_opening facts from most whole reported (opening_of facts meter) (sym is ∙ found)
     (λ o there. ap latest_first same_rows ∙ subst (λ (t : List ℕ). FindsJournal t facts rows) named journal o there)

@@ -28,8 +28,8 @@ use Rattle.office_rules.specs.Lawful.{AreLawful}
 use Rattle.office_rules.specs.Meters.{opened, installed, journal_of, rows_of, installation_of, meter_of, place_in, entry_at}
 use Rattle.office_rules.proofs.Journals.{found, well}
 use Rattle.office_rules.proofs.Lookups.{same_text, same_itself, find_passes}
-use Rattle.office_books.specs.Near.{with_energy, TellsNear}
-use Rattle.office_books.proofs.Within.{within_whole, tells_near}
+use Rattle.office_books.specs.Near.{with_energy, ReportsNear}
+use Rattle.office_books.proofs.Within.{within_whole, reports_near}
 use Rattle.store_tables.specs.declared.entries.rows.EntryRow as stored
 use Rattle.store_tables.specs.Entries.Rows.{Entered, Voided, is_of, is_void_of}
 use Rattle.store_facts.specs.Rows.{counter_after, entered_rows, entries_at, entries_of, entry_row, voided}
@@ -37,10 +37,10 @@ use Rattle.store_facts.proofs.Energy.{found_recorded}
 use Rattle.store_facts.proofs.Passing.{any_permutation}
 use Rattle.store_queries.specs.declared.metering.around.Around as stored_around
 use Rattle.store_queries.specs.declared.metering.around.Sides.{Sides}
-use Rattle.store_queries.specs.Metering.Around.{AreVoided, AreSides, ByVoids, FindsAt, FindsAround, IsSeen, next_from, TellsOf, TellsRightly}
+use Rattle.store_queries.specs.Metering.Around.{AreVoided, AreSides, ByVoids, FindsAt, FindsAround, IsSeen, next_from, ReportsOf, ReportsRightly}
 use Rattle.store_queries.specs.Metering.Entries.{row_from, names, ShowsVoids}
-use Rattle.store_queries.proofs.MeteringLemmas.Around.{AtRow, AreStruck, IsNextRow, all_of_meter, all_places, entries_at_rows, next_around, none_next, none_told, stood_around, told_of}
-use Rattle.store_queries.proofs.MeteringLemmas.Journals.{IsTold, back_by, numbered, one_back, voids_are}
+use Rattle.store_queries.proofs.MeteringLemmas.Around.{AtRow, AreStruck, IsNextRow, all_of_meter, all_places, entries_at_rows, next_around, none_next, none_reported, stood_around, reported_of}
+use Rattle.store_queries.proofs.MeteringLemmas.Journals.{IsReported, back_by, numbered, one_back, voids_are}
 use Rattle.store_queries.proofs.MeteringLemmas.Shapes.{IsPlain, found_rest, found_there, plain}
 
 -- ---- the index of the next meter entry that is not voided
@@ -102,8 +102,8 @@ module _ (journals : JournalsFit) (stand : RowsStand) (change : VoidsChangeTwoRo
   struck_is : (low high : ℕ) → AreVoided vs low high → AreStruck lines low high
   struck_is low high are place above below = sym (named_is place) ∙ are place above below
 
-  told : (row : EntryRow) → IsPlain lines row → IsTold o vs row
-  told row h = record { shape = h.shape; reading = h.reading; stands = ap not (named_is row.place) ∙ sym h.stands }
+  reported : (row : EntryRow) → IsPlain lines row → IsReported o vs row
+  reported row h = record { shape = h.shape; reading = h.reading; stands = ap not (named_is row.place) ∙ sym h.stands }
 
   mine : (table : List Entered) → ((m : List ℕ) → IsPermutation (filter (is_of m) table) (entries_of facts m)) → IsPermutation (filter (is_of meter) table) (entered_rows o rows)
   mine table each = subst (IsPermutation (filter (is_of meter) table)) (ap (entries_at facts) there) (each meter)
@@ -113,7 +113,7 @@ module _ (journals : JournalsFit) (stand : RowsStand) (change : VoidsChangeTwoRo
 
   module _ (place : ℕ) (late : 2 ≤ place) (sides : Sides) (are : AreSides vs place sides) (seen : stored_around.Around) (finds : FindsAround meter place sides.before sides.after facts seen) where
     row : AtRow o place rows seen.entry
-    row = told_of meter o rows finds.entry.table (mine finds.entry.table finds.entry.each) (AtRow o place rows) place seen.entry (entries_at_rows o place rows places_are late) finds.entry.is
+    row = reported_of meter o rows finds.entry.table (mine finds.entry.table finds.entry.each) (AtRow o place rows) place seen.entry (entries_at_rows o place rows places_are late) finds.entry.is
 
     abbrev around : journal.Around
     around = row.around
@@ -123,66 +123,66 @@ module _ (journals : JournalsFit) (stand : RowsStand) (change : VoidsChangeTwoRo
 
     row_is : row_from seen.entry sides.stands ≡ Some around.row
     row_is =
-        let its : IsTold o vs around.row = told around.row (row_holds (IsPlain lines) place rows around plains row.there) in
+        let its : IsReported o vs around.row = reported around.row (row_holds (IsPlain lines) place rows around plains row.there) in
         ap (λ b. row_from seen.entry b) (are.stands ∙ ap (λ n. not (list_any (names n) vs)) (sym at_place))
         ∙ ap (λ (e : stored.EntryRow). row_from e (not (list_any (names around.row.place) vs))) row.is ∙ one_back o vs around.row around.before its
 
     before_is : counter_after seen.before ≡ last_of (opened o) (entries_in around.before)
     before_is =
-        told_of meter o rows finds.before.table (mine finds.before.table finds.before.each) (λ (e : stored.EntryRow). counter_after e ≡ last_of (opened o) (entries_in around.before)) sides.before seen.before
+        reported_of meter o rows finds.before.table (mine finds.before.table finds.before.each) (λ (e : stored.EntryRow). counter_after e ≡ last_of (opened o) (entries_in around.before)) sides.before seen.before
         (stood_around o lines place sides.before rows around places_are plains row.there are.before.lower (struck_is sides.before place are.before.between)
         (elim are.before.stands [
           | inl first ↦ inl first
           | inr stands ↦ inr (sym (named_is sides.before) ∙ stands)
         ])) finds.before.is
 
-    next_told : (next : Option stored.EntryRow) → FindsAt meter sides.after facts next → next_from next ≡ around.next
-    next_told None h =
-        let beyond = all_places o sides.after rows places_are (let up = are.after.higher in omega (arith, up, late)) (none_told meter o rows h.table (mine h.table h.each) sides.after of_meter h.is) in
+    next_reported : (next : Option stored.EntryRow) → FindsAt meter sides.after facts next → next_from next ≡ around.next
+    next_reported None h =
+        let beyond = all_places o sides.after rows places_are (let up = are.after.higher in omega (arith, up, late)) (none_reported meter o rows h.table (mine h.table h.each) sides.after of_meter h.is) in
         sym (none_next o lines place rows around places_are plains row.there (λ q above under. struck_is place sides.after are.after.between q above (omega (arith, under, beyond))))
-    next_told (Some e) h =
-        let it = told_of meter o rows h.table (mine h.table h.each) (IsNextRow o lines around) sides.after e
+    next_reported (Some e) h =
+        let it = reported_of meter o rows h.table (mine h.table h.each) (IsNextRow o lines around) sides.after e
         (next_around o lines place sides.after rows around places_are plains row.there are.after.higher (struck_is place sides.after are.after.between) (sym (named_is sides.after) ∙ are.after.stands)) h.is in
         let scale : it.row.stands ≡ true → e.sf ≡ (after (last_of (opened o) (entries_in it.before)) it.row.entry).sf =
         λ on. it.scale ∙ ap (λ es. (last_of (opened o) es).sf) (entries_standing it.row it.before on) in
         ap (λ (x : stored.EntryRow). row_from x true) it.is ∙ ap (row_from (entry_row e.sf it.row)) (sym it.stands)
         ∙ back_by e.sf (last_of (opened o) (entries_in it.before)) it.row.place it.row.kind it.row.entry it.row.stands it.shape (λ off. absurd (let f : true ≡ false = sym it.stands ∙ off in cc)) scale ∙ sym it.next
 
-    seen_near : (whole : Installation) (p : EntryContext) → Some whole ≡ meter_of facts meter → IsSeen whole seen sides.stands p → TellsNear facts meter place (Some p)
+    seen_near : (whole : Installation) (p : EntryContext) → Some whole ≡ meter_of facts meter → IsSeen whole seen sides.stands p → ReportsNear facts meter place (Some p)
     seen_near whole p whole_is h =
         let whole_of : whole ≡ installation_of facts o = same_Some _ _ (whole_is ∙ ap (option_map (installation_of facts)) there) in
         let found_at : Some (place_in facts o around) ≡ entry_at facts meter place =
         sym (ap (option_and_then (λ (x : Opening). option_map (place_in facts x) (row_at place (rows_of facts x)))) there ∙ ap (option_map (place_in facts o)) row.there) in
         let row_same : p.row ≡ around.row = same_Some _ _ (h.row ∙ row_is) in
-        let next_same : p.next ≡ around.next = h.next ∙ next_told seen.next finds.next in
+        let next_same : p.next ≡ around.next = h.next ∙ next_reported seen.next finds.next in
         let before_same : p.before ≡ (with_energy whole.total (place_in facts o around)).before =
         h.before ∙ ap (λ (l : Last). let i : Installation = record whole { last = l } in i) before_is
         ∙ ap (λ (w : Installation). let i : Installation = record { opening = w.opening; last = last_of (opened o) (entries_in around.before); total = whole.total; ended = w.ended } in i) whole_of in
         let all_same : p ≡ with_energy whole.total (place_in facts o around) =
         ap (λ (b : Installation). let q : EntryContext = record { before = b; row = p.row; next = p.next } in q) before_same
         ∙ ap₂ (λ (r : EntryRow) (n : Option EntryRow). let q : EntryContext = record { before = (with_energy whole.total (place_in facts o around)).before; row = r; next = n } in q) row_same next_same in
-        subst (λ (q : EntryContext). TellsNear facts meter place (Some q)) (sym all_same)
-        (tells_near facts meter place whole (Some (place_in facts o around)) whole_is found_at (within_whole kept places facts lawful meter place))
+        subst (λ (q : EntryContext). ReportsNear facts meter place (Some q)) (sym all_same)
+        (reports_near facts meter place whole (Some (place_in facts o around)) whole_is found_at (within_whole kept places facts lawful meter place))
 
 -- If a meter entry is built from the rows around it, the result equals the entry in the records.
 pub seen_rightly : JournalsFit → RowsStand → VoidsChangeTwoRows → JournalsAreKept → PlacesWereKept → (facts : List Fact) (meter : List ℕ) (place : ℕ) → 2 ≤ place → (vs : List Voided) → IsPermutation (filter (is_void_of meter) (map voided (voids_in facts))) vs
     → (sides : Sides) → AreSides vs place sides → (seen : stored_around.Around) → FindsAround meter place sides.before sides.after facts seen → (whole : Installation) (p : EntryContext) → Some whole ≡ meter_of facts meter → IsSeen whole seen sides.stands p
-    → TellsNear facts meter place (Some p)
+    → ReportsNear facts meter place (Some p)
 seen_rightly journals stand change kept places facts meter place late vs all sides are seen finds whole p whole_is h =
     let o = mapped_some (installation_of facts) (opening_of facts meter) whole (sym whole_is) in
     seen_near journals stand change kept places facts meter o.0 o.1 finds.entry.lawful vs all place late sides are seen finds whole p whole_is h
 
 if_seen : (facts : List Fact) (meter : List ℕ) (place : ℕ) (whole : Installation) (seen : stored_around.Around) (stands : Bool) (r : Option EntryContext) → IfSome r (IsSeen whole seen stands)
-    → ((p : EntryContext) → Some whole ≡ meter_of facts meter → IsSeen whole seen stands p → TellsNear facts meter place (Some p)) → IfSome r (λ p. TellsOf meter place whole facts (Some p))
-if_seen facts meter place whole seen stands None h tells = tt
-if_seen facts meter place whole seen stands (Some p) h tells = λ whole_is. tells p whole_is h
+    → ((p : EntryContext) → Some whole ≡ meter_of facts meter → IsSeen whole seen stands p → ReportsNear facts meter place (Some p)) → IfSome r (λ p. ReportsOf meter place whole facts (Some p))
+if_seen facts meter place whole seen stands None h reports = tt
+if_seen facts meter place whole seen stands (Some p) h reports = λ whole_is. reports p whole_is h
 
 -- If an entry is built from the rows of `entries` and `voids`, the result equals the entry in the
 -- records.
-pub told_rightly : JournalsFit → RowsStand → VoidsChangeTwoRows → JournalsAreKept → PlacesWereKept → (facts : List Fact) (meter : List ℕ) (place : ℕ) → 2 ≤ place → (shown told : List Row) (sides : Sides) (found : Option stored_around.Around) (seen : stored_around.Around)
-    (whole : Installation) (r : Option EntryContext) → ShowsVoids meter facts shown → told ≡ shown → ByVoids (λ (vs : List Voided). AreSides vs place sides) told → IfSome found (FindsAround meter place sides.before sides.after facts) → found ≡ Some seen
-    → IfSome r (IsSeen whole seen sides.stands) → TellsRightly meter place whole facts r
-told_rightly journals stand change kept places facts meter place late shown told sides found seen whole r shows same by finds is h =
+pub reported_rightly : JournalsFit → RowsStand → VoidsChangeTwoRows → JournalsAreKept → PlacesWereKept → (facts : List Fact) (meter : List ℕ) (place : ℕ) → 2 ≤ place → (shown reported : List Row) (sides : Sides) (found : Option stored_around.Around) (seen : stored_around.Around)
+    (whole : Installation) (r : Option EntryContext) → ShowsVoids meter facts shown → reported ≡ shown → ByVoids (λ (vs : List Voided). AreSides vs place sides) reported → IfSome found (FindsAround meter place sides.before sides.after facts) → found ≡ Some seen
+    → IfSome r (IsSeen whole seen sides.stands) → ReportsRightly meter place whole facts r
+reported_rightly journals stand change kept places facts meter place late shown reported sides found seen whole r shows same by finds is h =
     let are : AreSides shows.voids place sides = by shows.voids (same ∙ shows.shown) in
     let here : FindsAround meter place sides.before sides.after facts seen = subst (λ (f : Option stored_around.Around). IfSome f (FindsAround meter place sides.before sides.after facts)) is finds in
     record {

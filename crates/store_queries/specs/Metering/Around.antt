@@ -11,7 +11,7 @@ use Rattle.office_events.specs.declared.questions.Installation.{Installation}
 use Rattle.office_events.specs.declared.questions.EntryContext.{EntryContext}
 use Rattle.office_rules.specs.Lawful.{AreLawful}
 use Rattle.office_rules.specs.Meters.{meter_of}
-use Rattle.office_books.specs.Near.{TellsNear}
+use Rattle.office_books.specs.Near.{ReportsNear}
 use Rattle.store_tables.specs.Answer.{IsFound}
 use Rattle.store_tables.specs.Limits.{greatest_place}
 use Rattle.store_tables.specs.declared.entries.rows.EntryRow.{EntryRow}
@@ -93,14 +93,14 @@ pub record IsSeen (whole : Installation) (around : Around) (stands : Bool) (seen
 
 -- True if the answer is the meter's entry at index `place`, where `whole` is the meter's
 -- installation.
-abbrev pub TellsOf : (meter : List ℕ) → (place : ℕ) → Installation → List Fact
+abbrev pub ReportsOf : (meter : List ℕ) → (place : ℕ) → Installation → List Fact
     → Option EntryContext → Type 0
-TellsOf meter place whole facts found =
-    Some whole ≡ meter_of facts meter → TellsNear facts meter place found
+ReportsOf meter place whole facts found =
+    Some whole ≡ meter_of facts meter → ReportsNear facts meter place found
 
 -- True if the rules accepted the records, and an entry that was built from rows is the meter's
 -- entry at index `place`.
-pub record TellsRightly (meter : List ℕ) (place : ℕ) (whole : Installation) (facts : List Fact)
+pub record ReportsRightly (meter : List ℕ) (place : ℕ) (whole : Installation) (facts : List Fact)
     (found : Option EntryContext) : Type 0 where
   pub lawful : AreLawful facts
-  pub right : IfSome found (λ p. TellsOf meter place whole facts (Some p))
+  pub right : IfSome found (λ p. ReportsOf meter place whole facts (Some p))

@@ -60,8 +60,8 @@ abbrev pub names : (place : ℕ) → Voided → Bool
 names place v = place == v.place
 
 -- True if the answer is whether a void in the result rows cancels the meter entry at index `place`.
-abbrev pub TellsVoided : (voids : List Row) → (place : ℕ) → Bool → Type 0
-TellsVoided voids place is =
+abbrev pub ReportsVoided : (voids : List Row) → (place : ℕ) → Bool → Type 0
+ReportsVoided voids place is =
     (vs : List Voided) → voids ≡ map voided_shown vs → is ≡ list_any (names place) vs
 
 -- The journal row of a meter entry, marked as voided if one of the voids cancels the entry.

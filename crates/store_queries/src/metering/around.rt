@@ -2,14 +2,14 @@
 ghost use Rattle.std.specs.Prelude.{◌≡◌, ◌≤◌, false, IfOk, IfSome, IsUtf8};
 ghost use Rattle.office_rules.specs.Lawful.{AreLawful};
 ghost use Rattle.office_rules.specs.Ranges.{IsSound};
-ghost use Rattle.office_books.specs.Near.{TellsNear};
+ghost use Rattle.office_books.specs.Near.{ReportsNear};
 ghost use Rattle.store_tables.specs.Limits.{greatest_place};
 ghost use Rattle.store_queries.specs.Finding.Finding.{Finds};
 ghost use Rattle.store_queries.specs.Metering.Sound.{HasReadableMeters, HasReadableJournals};
-ghost use Rattle.store_queries.specs.Metering.Entries.{TellsVoided};
+ghost use Rattle.store_queries.specs.Metering.Entries.{ReportsVoided};
 ghost use Rattle.store_queries.specs.Metering.Around.{IsBefore, IsAfter, AreSides, ByVoids};
 ghost use Rattle.store_queries.specs.Metering.Around.{FindsAt, FindsAround, next_from, IsSeen};
-ghost use Rattle.store_queries.specs.Metering.Around.{stood, TellsOf, TellsRightly};
+ghost use Rattle.store_queries.specs.Metering.Around.{stood, ReportsOf, ReportsRightly};
 
 use crate::metering::entries::{entry, voids};
 use crate::metering::journal::{entry_row, is_voided};
@@ -44,7 +44,7 @@ pub(crate) struct Around {
 /// Returns true if one of the voids cancels the meter entry at `place`, or None if a void can't be
 /// read.
 fn is_named(voids: &[Row], place: u64) -> Option<bool>
-    ensures { IfSome result (TellsVoided voids.now place) }
+    ensures { IfSome result (ReportsVoided voids.now place) }
 {
     match is_voided(voids, place) {
         Ok(is) => Some(is),
@@ -198,7 +198,7 @@ fn entry_from_neighbours<S: Alter>(
 ) -> Result<Option<EntryContext>, RowFault>
     requires { conn.old.in_transaction ≡ false }
     ensures finds { Finds S.Store conn.old conn.new result
-        (TellsRightly meter.now place whole.now) HasReadableJournals }
+        (ReportsRightly meter.now place whole.now) HasReadableJournals }
     ensures sound { IfOk result (λ found. IfSome found (λ p. IsSound p.before)) }
 {
     journals_fit();
@@ -227,7 +227,7 @@ fn entry_from_all_rows<S: Alter>(
     requires idle { conn.old.in_transaction ≡ false }
     requires sound { IsSound whole.now }
     ensures finds { Finds S.Store conn.old conn.new result
-        (λ facts found. AreLawful facts → TellsOf name.now place whole.now facts found)
+        (λ facts found. AreLawful facts → ReportsOf name.now place whole.now facts found)
         (λ facts. IsUtf8 name.now × HasReadableJournals facts) }
     ensures sound { IfOk result (λ found. IfSome found (λ p. IsSound p.before)) }
 {
@@ -251,7 +251,7 @@ pub fn entry_near<S: Alter>(
 ) -> Result<Option<EntryContext>, RowFault>
     requires { conn.old.in_transaction ≡ false }
     ensures finds { Finds S.Store conn.old conn.new result
-        (λ facts found. TellsNear facts name.now place found)
+        (λ facts found. ReportsNear facts name.now place found)
         (λ facts. IsUtf8 name.now × HasReadableJournals facts) }
     ensures sound { IfOk result (λ found. IfSome found (λ p. IsSound p.before)) }
 {

@@ -5,7 +5,7 @@ ghost use Rattle.store_queries.specs.Metering.Entries.{step_row, change_row, row
 ghost use Rattle.store_tables.specs.declared.faults.RowFault.TheVariants.{Sql};
 ghost use Rattle.store_tables.specs.Failing.{want_of_memory};
 ghost use Rattle.store_queries.specs.Metering.Entries.{IsFaultOfVoids, IsFaultOfJournal};
-ghost use Rattle.store_queries.specs.Metering.Entries.{TellsVoided, AreJournal};
+ghost use Rattle.store_queries.specs.Metering.Entries.{ReportsVoided, AreJournal};
 
 use energy_core::Entry;
 use meter_journal::EntryRow;
@@ -63,7 +63,7 @@ pub(crate) fn entry_row(row: store_tables::EntryRow, stands: bool) -> Option<Ent
 
 /// Returns true if one of the voids cancels the meter entry at `place`.
 pub(crate) fn is_voided(voids: &[Row], place: u64) -> Result<bool, RowFault>
-    ensures told { IfOk result (TellsVoided voids.now place) }
+    ensures reported { IfOk result (ReportsVoided voids.now place) }
     ensures fault { IfErr result (IsFaultOfVoids voids.now) }
 {
     for row in voids {

@@ -4,7 +4,7 @@ ghost use Rattle.sqlite.specs.Held.{state};
 ghost use Rattle.store_tables.specs.Content.{Edits, with_row, changed_where};
 ghost use Rattle.store_tables.specs.Steps.{Steps, IsSameBorrow};
 ghost use Rattle.store_tables.specs.Answer.{IsFound, AnyOrder, LastFirst, FirstFirst};
-ghost use Rattle.store_tables.specs.Asking.{Asks, AsksInside, LooksUp, TellsRows, Shows};
+ghost use Rattle.store_tables.specs.Asking.{Asks, AsksInside, LooksUp, ReportsRows, Shows};
 ghost use Rattle.store_tables.specs.Asking.{ShowsFirst};
 ghost use Rattle.store_tables.specs.Limits.{greatest_place};
 ghost use Rattle.store_tables.specs.Entries.Rows.{entry_columns, entry_shown, place_shown, entry_place};
@@ -74,7 +74,7 @@ pub fn set_rollovers<S: Alter>(
 fn rows_at<S: Alter>(conn: &mut Connection<S>, meter: &str, place: u64) -> Result<Vec<Row>, Error>
     requires place { place ≤ greatest_place }
     ensures asks { Asks S.Store conn.old conn.new }
-    ensures shows { TellsRows S.Store conn.old conn.new entries entry_columns result
+    ensures shows { ReportsRows S.Store conn.old conn.new entries entry_columns result
         (ShowsFirst (is_entry meter.now place) AnyOrder entry_shown) }
 {
     let place = number(place);
@@ -105,7 +105,7 @@ pub fn entry_at<S: Alter>(
 /// Queries the entries of a meter in ascending order of their indices. `read_entry` reads each row.
 pub fn entry_rows<S: Alter>(conn: &mut Connection<S>, meter: &str) -> Result<Vec<Row>, Error>
     ensures asks { Asks S.Store conn.old conn.new }
-    ensures shows { TellsRows S.Store conn.old conn.new entries entry_columns result
+    ensures shows { ReportsRows S.Store conn.old conn.new entries entry_columns result
         (Shows (is_of meter.now) (FirstFirst entry_place) entry_shown) }
 {
     conn.query_all(OF_METER, params![meter])
@@ -119,7 +119,7 @@ pub fn last_entry_rows<S: Alter>(
 ) -> Result<Vec<Row>, Error>
     ensures same_reference { IsSameBorrow tx.old.conn tx.new.conn }
     ensures asks { AsksInside S.Store tx.old.conn.now tx.new.conn.now result }
-    ensures shows { TellsRows S.Store tx.old.conn.now tx.new.conn.now entries entry_columns result
+    ensures shows { ReportsRows S.Store tx.old.conn.now tx.new.conn.now entries entry_columns result
         (ShowsFirst (is_of meter.now) (LastFirst entry_place) place_shown) }
 {
     tx.query_all(

@@ -4,7 +4,7 @@
 ghost use Rattle.std.specs.Prelude.{◌≤◌, IfOk, IfSome};
 ghost use Rattle.store_tables.specs.Limits.{latest_moment};
 ghost use Rattle.store_tables.specs.Answer.{IsLast, LastFirst, every};
-ghost use Rattle.store_tables.specs.Asking.{Asks, TellsRows, ShowsFirst, LooksUp};
+ghost use Rattle.store_tables.specs.Asking.{Asks, ReportsRows, ShowsFirst, LooksUp};
 ghost use Rattle.store_tables.specs.Entries.Rows.{entry_columns, voided_columns, IsSoundEntered};
 ghost use Rattle.store_tables.specs.Entries.Latest.{entry_moment, entry_moment_shown, HasEntryMoment};
 ghost use Rattle.store_tables.specs.Entries.Latest.{void_moment, void_moment_shown, HasVoidMoment};
@@ -17,7 +17,7 @@ use sqlite::{Alter, Connection, Error, Row};
 /// Queries the latest timestamp of all entries.
 fn entry_moments<S: Alter>(conn: &mut Connection<S>) -> Result<Vec<Row>, Error>
     ensures asks { Asks S.Store conn.old conn.new }
-    ensures shows { TellsRows S.Store conn.old conn.new entries entry_columns result
+    ensures shows { ReportsRows S.Store conn.old conn.new entries entry_columns result
         (ShowsFirst every (LastFirst entry_moment) entry_moment_shown) }
 {
     conn.query_all(
@@ -40,7 +40,7 @@ pub fn latest_entry<S: Alter>(conn: &mut Connection<S>) -> Result<Option<u64>, R
 /// Queries the latest time at which an entry was voided.
 fn void_moments<S: Alter>(conn: &mut Connection<S>) -> Result<Vec<Row>, Error>
     ensures asks { Asks S.Store conn.old conn.new }
-    ensures shows { TellsRows S.Store conn.old conn.new voids voided_columns result
+    ensures shows { ReportsRows S.Store conn.old conn.new voids voided_columns result
         (ShowsFirst every (LastFirst void_moment) void_moment_shown) }
 {
     conn.query_all("SELECT moment FROM voids ORDER BY moment DESC LIMIT 1", &[])

@@ -4,7 +4,7 @@ ghost use Rattle.sqlite.specs.Held.{state};
 ghost use Rattle.store_tables.specs.Content.{Edits, with_row};
 ghost use Rattle.store_tables.specs.Steps.{Steps, IsSameBorrow};
 ghost use Rattle.store_tables.specs.Answer.{FirstFirst};
-ghost use Rattle.store_tables.specs.Asking.{Asks, TellsRows, Shows};
+ghost use Rattle.store_tables.specs.Asking.{Asks, ReportsRows, Shows};
 ghost use Rattle.store_tables.specs.Limits.{IsPlace, latest_moment};
 ghost use Rattle.store_tables.specs.Entries.Rows.{voided_at, voided_columns, voided_shown};
 ghost use Rattle.store_tables.specs.Entries.Rows.{voided_place, is_void_of};
@@ -40,7 +40,7 @@ pub fn insert_void<S: Alter>(
 /// Queries the voided entries of a meter in ascending order of index. `read_void` reads each row.
 pub fn void_rows<S: Alter>(conn: &mut Connection<S>, meter: &str) -> Result<Vec<Row>, Error>
     ensures asks { Asks S.Store conn.old conn.new }
-    ensures shows { TellsRows S.Store conn.old conn.new voids voided_columns result
+    ensures shows { ReportsRows S.Store conn.old conn.new voids voided_columns result
         (Shows (is_void_of meter.now) (FirstFirst voided_place) voided_shown) }
 {
     conn.query_all(OF_METER, params![meter])

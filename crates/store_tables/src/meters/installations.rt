@@ -4,7 +4,7 @@ ghost use Rattle.sqlite.specs.Held.{state};
 ghost use Rattle.store_tables.specs.Content.{Edits, with_row, changed_where};
 ghost use Rattle.store_tables.specs.Steps.{Steps, IsSameBorrow};
 ghost use Rattle.store_tables.specs.Answer.{IsFound, IsLast, AnyOrder, LastFirst, every};
-ghost use Rattle.store_tables.specs.Asking.{Asks, AsksInside, TellsRows, ShowsFirst, LooksUp};
+ghost use Rattle.store_tables.specs.Asking.{Asks, AsksInside, ReportsRows, ShowsFirst, LooksUp};
 ghost use Rattle.store_tables.specs.Limits.{IsPlace};
 ghost use Rattle.store_tables.specs.Meters.Rows.{meter_at, installed_columns, installed_shown};
 ghost use Rattle.store_tables.specs.Meters.Rows.{installed_place_shown, installed_place, is_meter, is_at};
@@ -103,7 +103,7 @@ pub fn close_installation<S: Alter>(
 /// Queries the installation of a meter.
 fn rows_of<S: Alter>(conn: &mut Connection<S>, meter: &str) -> Result<Vec<Row>, Error>
     ensures asks { Asks S.Store conn.old conn.new }
-    ensures shows { TellsRows S.Store conn.old conn.new installations installed_columns result
+    ensures shows { ReportsRows S.Store conn.old conn.new installations installed_columns result
         (ShowsFirst (is_meter meter.now) AnyOrder installed_shown) }
 {
     conn.query_all(OF_METER, params![meter])
@@ -129,7 +129,7 @@ pub fn installation_of<S: Alter>(
 /// Queries the latest installation at an accounting register.
 fn rows_at<S: Alter>(conn: &mut Connection<S>, register: &str) -> Result<Vec<Row>, Error>
     ensures asks { Asks S.Store conn.old conn.new }
-    ensures shows { TellsRows S.Store conn.old conn.new installations installed_columns result
+    ensures shows { ReportsRows S.Store conn.old conn.new installations installed_columns result
         (ShowsFirst (is_at register.now) (LastFirst installed_place) installed_shown) }
 {
     conn.query_all(
@@ -159,7 +159,7 @@ pub fn installation_at<S: Alter>(
 /// Queries the greatest index of all installations.
 fn last_rows<S: Alter>(conn: &mut Connection<S>) -> Result<Vec<Row>, Error>
     ensures asks { Asks S.Store conn.old conn.new }
-    ensures shows { TellsRows S.Store conn.old conn.new installations installed_columns result
+    ensures shows { ReportsRows S.Store conn.old conn.new installations installed_columns result
         (ShowsFirst every (LastFirst installed_place) installed_place_shown) }
 {
     conn.query_all(LAST, &[])
@@ -184,7 +184,7 @@ pub fn installation_rows<S: Alter>(
 ) -> Result<Vec<Row>, Error>
     ensures same_reference { IsSameBorrow tx.old.conn tx.new.conn }
     ensures asks { AsksInside S.Store tx.old.conn.now tx.new.conn.now result }
-    ensures shows { TellsRows S.Store tx.old.conn.now tx.new.conn.now
+    ensures shows { ReportsRows S.Store tx.old.conn.now tx.new.conn.now
         installations installed_columns result
         (ShowsFirst (is_meter meter.now) AnyOrder installed_shown) }
 {
@@ -196,7 +196,7 @@ pub fn installation_rows<S: Alter>(
 pub fn last_installation_rows<S: Alter>(tx: &mut Transaction<'_, S>) -> Result<Vec<Row>, Error>
     ensures same_reference { IsSameBorrow tx.old.conn tx.new.conn }
     ensures asks { AsksInside S.Store tx.old.conn.now tx.new.conn.now result }
-    ensures shows { TellsRows S.Store tx.old.conn.now tx.new.conn.now
+    ensures shows { ReportsRows S.Store tx.old.conn.now tx.new.conn.now
         installations installed_columns result
         (ShowsFirst every (LastFirst installed_place) installed_place_shown) }
 {

@@ -4,7 +4,7 @@ ghost use Rattle.sqlite.specs.Held.{state};
 ghost use Rattle.store_tables.specs.Content.{Edits, with_row};
 ghost use Rattle.store_tables.specs.Steps.{Steps, IsSameBorrow};
 ghost use Rattle.store_tables.specs.Answer.{IsFound, AnyOrder};
-ghost use Rattle.store_tables.specs.Asking.{Asks, AsksInside, TellsRows, ShowsFirst, LooksUp};
+ghost use Rattle.store_tables.specs.Asking.{Asks, AsksInside, ReportsRows, ShowsFirst, LooksUp};
 ghost use Rattle.store_tables.specs.Meters.Rows.{ranged_columns, range_shown, is_range_of, HasRange};
 ghost use Rattle.store_tables.specs.Meters.Rows.{IsRange, IsSoundRanged};
 ghost use Rattle.store_tables.specs.Meters.Trees.{ranges};
@@ -37,7 +37,7 @@ pub fn insert_range<S: Alter>(
 /// Queries the range of a meter's counter.
 fn rows_of<S: Alter>(conn: &mut Connection<S>, meter: &str) -> Result<Vec<Row>, Error>
     ensures asks { Asks S.Store conn.old conn.new }
-    ensures shows { TellsRows S.Store conn.old conn.new ranges ranged_columns result
+    ensures shows { ReportsRows S.Store conn.old conn.new ranges ranged_columns result
         (ShowsFirst (is_range_of meter.now) AnyOrder range_shown) }
 {
     conn.query_all(OF_METER, params![meter])
@@ -58,7 +58,7 @@ pub fn range_of<S: Alter>(conn: &mut Connection<S>, meter: &str) -> Result<Optio
 pub fn range_rows<S: Alter>(tx: &mut Transaction<'_, S>, meter: &str) -> Result<Vec<Row>, Error>
     ensures same_reference { IsSameBorrow tx.old.conn tx.new.conn }
     ensures asks { AsksInside S.Store tx.old.conn.now tx.new.conn.now result }
-    ensures shows { TellsRows S.Store tx.old.conn.now tx.new.conn.now ranges ranged_columns result
+    ensures shows { ReportsRows S.Store tx.old.conn.now tx.new.conn.now ranges ranged_columns result
         (ShowsFirst (is_range_of meter.now) AnyOrder range_shown) }
 {
     tx.query_all(OF_METER, params![meter])

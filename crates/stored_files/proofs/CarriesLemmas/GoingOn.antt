@@ -21,7 +21,7 @@ use Rattle.carried_books.specs.Carrying.Carried.{Carries, OnlyAsked}
 use Rattle.carried_books.specs.Carrying.Feeding.{Passes}
 use Rattle.carried_books.specs.declared.carrying.faults.CarryFault.{CarryFault}
 use Rattle.stored_files.specs.Carries.GoingOn.{GoesOn, GoesOnFrom, GoesOnIn, IsCarriedInto}
-use Rattle.stored_files.specs.Carries.ToldZone.{TellsZone}
+use Rattle.stored_files.specs.Carries.ReportedZone.{ReportsZone}
 
 -- If a file rollover executes its commands on a new office that was opened at time 0, then the
 -- office's history consists of these commands.
@@ -57,34 +57,34 @@ goes_on_from g old facts its zone until new books (Err why) clean holds it = tt
 -- ---- reading the time zone of an office's file before a file rollover
 
 -- After the time zone of a file is read, the file has the same records as before.
-pub still_has : {S Z : Type 0} (g : Ghosts S) (old new : Held S) (zone : List ℕ) (facts : List Fact) (told : String Z) → HasFile g zone old facts
+pub still_has : {S Z : Type 0} (g : Ghosts S) (old new : Held S) (zone : List ℕ) (facts : List Fact) (reported : String Z) → HasFile g zone old facts
     → (HasCleanDisk (state g new) → HasCleanDisk (state g old))
-    → (HasCleanDisk (state g new) → (layout : Layout) (its : List ℕ) (content : Content) → IsFile layout its (state g old).committed content → TellsZone its (state g old) (state g new) told)
+    → (HasCleanDisk (state g new) → (layout : Layout) (its : List ℕ) (content : Content) → IsFile layout its (state g old).committed content → ReportsZone its (state g old) (state g new) reported)
     → HasFile g zone new facts
-still_has g old new zone facts told has cleans tells = λ clean.
+still_has g old new zone facts reported has cleans reports = λ clean.
     let file = has (cleans clean) in
-    (file.0, subst (λ db. HasFactsIn file.0 zone facts db) (sym (tells clean file.0 zone file.1.content file.1.file).same) file.1)
+    (file.0, subst (λ db. HasFactsIn file.0 zone facts db) (sym (reports clean file.0 zone file.1.content file.1.file).same) file.1)
 
 -- If a query reads the time zone of a file, then it returns the time zone in the file's table
 -- `meta`.
-pub is_told : {S Z : Type 0} (g : Ghosts S) (old new : Held S) (zone : List ℕ) (facts : List Fact) (told : String Z) → HasFile g zone old facts
+pub is_reported : {S Z : Type 0} (g : Ghosts S) (old new : Held S) (zone : List ℕ) (facts : List Fact) (reported : String Z) → HasFile g zone old facts
     → (HasCleanDisk (state g new) → HasCleanDisk (state g old))
-    → (HasCleanDisk (state g new) → (layout : Layout) (its : List ℕ) (content : Content) → IsFile layout its (state g old).committed content → TellsZone its (state g old) (state g new) told)
-    → HasCleanDisk (state g new) → string_bytes told ≡ zone
-is_told g old new zone facts told has cleans tells clean =
+    → (HasCleanDisk (state g new) → (layout : Layout) (its : List ℕ) (content : Content) → IsFile layout its (state g old).committed content → ReportsZone its (state g old) (state g new) reported)
+    → HasCleanDisk (state g new) → string_bytes reported ≡ zone
+is_reported g old new zone facts reported has cleans reports clean =
     let file = has (cleans clean) in
-    (tells clean file.0 zone file.1.content file.1.file).bytes
+    (reports clean file.0 zone file.1.content file.1.file).bytes
 
-pub carried_into : {S E : Type 0} (g : Ghosts S) (mid : Held S) (facts : List Fact) (told zone : List ℕ) (until : Option ℕ) (new : Held S) (result : Result ℕ E)
-    → (HasCleanDisk (state g mid) → told ≡ zone) → IfOk result (GoesOnFrom g mid facts told until new) → IfOk result (IsCarriedInto g facts zone until new)
-carried_into g mid facts told zone until new (Ok meters) is it = record {
+pub carried_into : {S E : Type 0} (g : Ghosts S) (mid : Held S) (facts : List Fact) (reported zone : List ℕ) (until : Option ℕ) (new : Held S) (result : Result ℕ E)
+    → (HasCleanDisk (state g mid) → reported ≡ zone) → IfOk result (GoesOnFrom g mid facts reported until new) → IfOk result (IsCarriedInto g facts zone until new)
+carried_into g mid facts reported zone until new (Ok meters) is it = record {
   asked = it.asked;
   commands = it.commands;
   are = it.are;
-  told = told;
+  reported = reported;
   zone_is = λ clean. is (it.clean clean);
   made = it.made;
   office = it.office;
   stands = it.stands;
 }
-carried_into g mid facts told zone until new (Err why) is it = tt
+carried_into g mid facts reported zone until new (Err why) is it = tt

@@ -9,13 +9,13 @@ use Rattle.sqlite.specs.State.{State, Shown}
 use Rattle.sqlite_tied.specs.Compute.{everything}
 use Rattle.sqlite.specs.Listing.{understood, reads_listing}
 use Rattle.sqlite.proofs.Callers.{IsPlain, command_of, reads_as, one_permutation}
-use Rattle.store_tables.specs.Content.{Content, HasTree, AreTablesIn, told}
+use Rattle.store_tables.specs.Content.{Content, HasTree, AreTablesIn, reported}
 use Rattle.store_tables.proofs.Scans.{scan, no_limit, asked, passes, shows}
 use Rattle.store_files.specs.declared.layouts.Layout.{Layout}
 use Rattle.store_files.specs.declared.layouts.Layout.TheVariants.{First, Second, Third}
 use Rattle.store_files.specs.Layouts.{schema_of}
 use Rattle.store_files.specs.Meta.{Meta, meta_columns, IsMarked}
-use Rattle.stored_files.specs.Carries.ToldZone.{zone_shown}
+use Rattle.stored_files.specs.Carries.ReportedZone.{zone_shown}
 
 abbrev pub zone_rows : List ℕ
 zone_rows = codes "SELECT zone FROM meta"
@@ -44,9 +44,9 @@ zone_plain First = (refl, refl)
 zone_plain Second = (refl, refl)
 zone_plain Third = (refl, refl)
 
-told_same : (rows : List Row) → map (told true) rows ≡ rows
-told_same [] = refl
-told_same (r ∷ rows) = ap (λ rs. r ∷ rs) (told_same rows)
+reported_same : (rows : List Row) → map (reported true) rows ≡ rows
+reported_same [] = refl
+reported_same (r ∷ rows) = ap (λ rs. r ∷ rs) (reported_same rows)
 
 meta_there : (layout : Layout) → HasTree (schema_of layout).tables 0
 meta_there First = inl refl
@@ -54,8 +54,8 @@ meta_there Second = inl refl
 meta_there Third = inl refl
 
 -- If the table `meta` is queried for its columns, then the query returns the only row of the table.
-one_row : (rows all : List Row) (m : Meta) → IsPermutation (map (told true) rows) all → IsPermutation (meta_columns m ∷ []) all → rows ≡ meta_columns m ∷ []
-one_row rows all m is marked = sym (told_same rows) ∙ one_permutation (meta_columns m) (map (told true) rows) (IsPermutation-trans _ _ _ marked (IsPermutation-sym _ _ is))
+one_row : (rows all : List Row) (m : Meta) → IsPermutation (map (reported true) rows) all → IsPermutation (meta_columns m ∷ []) all → rows ≡ meta_columns m ∷ []
+one_row rows all m is marked = sym (reported_same rows) ∙ one_permutation (meta_columns m) (map (reported true) rows) (IsPermutation-trans _ _ _ marked (IsPermutation-sym _ _ is))
 
 pub zone_answer : (layout : Layout) (old new : State) (content : Content) (m : Meta) (rows : List Row) → AreTablesIn (schema_of layout) old.now content → IsMarked m content → Shown zone_rows [] old new rows → rows ≡ zone_shown m ∷ []
 zone_answer layout old new content m rows has marked h =

@@ -56,10 +56,10 @@ module _ {K : Type 0} (k : keepings.Ghosts K) (range : DayRange) (register : Lis
     pub joins_in : (old : Held S) (zone : List ℕ) (before : Option (JoinedOffice K)) (kept : K) (new : JoinedOffice K)
         → AreBefore k zone range before kept → IsOfZone zone before → string_bytes new.zone ≡ zone
         → JoinsFile k g old range register facts kept new.kept → JoinsOffice k g old zone range register facts before new
-    joins_in old zone before kept new are same told it = record {
+    joins_in old zone before kept new are same reported it = record {
       asked = it.asked;
       clean = it.clean;
-      told = λ clean. told;
+      reported = λ clean. reported;
       same = λ clean. same;
       joins = λ clean. next_joins zone before kept new are (it.joins clean);
     }
@@ -79,20 +79,20 @@ module _ {K : Type 0} (k : keepings.Ghosts K) (range : DayRange) (register : Lis
 
     -- ---- reading the time zone of a file before adding the file to a merged report
 
-    module _ (old mid : Held S) (told zone : List ℕ) (before : Option (JoinedOffice K)) (cleans : HasCleanDisk (state g mid) → HasCleanDisk (state g old))
-        (is : HasCleanDisk (state g mid) → told ≡ zone) where
-      pub joins_office : (result : Result (JoinedOffice K) JoinFault) → IfOk result (JoinsOffice k g mid told range register facts before)
+    module _ (old mid : Held S) (reported zone : List ℕ) (before : Option (JoinedOffice K)) (cleans : HasCleanDisk (state g mid) → HasCleanDisk (state g old))
+        (is : HasCleanDisk (state g mid) → reported ≡ zone) where
+      pub joins_office : (result : Result (JoinedOffice K) JoinFault) → IfOk result (JoinsOffice k g mid reported range register facts before)
           → IfOk result (JoinsOffice k g old zone range register facts before)
       joins_office (Ok new) it = record {
         asked = it.asked;
         clean = λ clean. cleans (it.clean clean);
-        told = λ clean. it.told clean ∙ is (it.clean clean);
+        reported = λ clean. it.reported clean ∙ is (it.clean clean);
         same = λ clean. subst (λ (those : List ℕ). IsOfZone those before) (is (it.clean clean)) (it.same clean);
         joins = λ clean. subst (λ (those : List ℕ). JoinsNext k those range register facts before new) (is (it.clean clean)) (it.joins clean);
       }
       joins_office (Err why) it = tt
 
-      pub refuses_office : (result : Result (JoinedOffice K) JoinFault) → IfErr result (RefusesIn k g mid told range register facts before)
+      pub refuses_office : (result : Result (JoinedOffice K) JoinFault) → IfErr result (RefusesIn k g mid reported range register facts before)
           → IfErr result (RefusesOffice k g old zone range register facts before)
       refuses_office (Ok new) it = tt
       refuses_office (Err (fault.Unopened why)) it = tt
@@ -106,7 +106,7 @@ module _ {K : Type 0} (k : keepings.Ghosts K) (range : DayRange) (register : Lis
         parts = it.parts;
       }
 
-      pub elsewhere : (IsOfZone told before → ⊥) → IsElsewhere k g zone before
+      pub elsewhere : (IsOfZone reported before → ⊥) → IsElsewhere k g zone before
       elsewhere other = record {
         left = mid;
         other = λ clean same. other (subst (λ (those : List ℕ). IsOfZone those before) (sym (is clean)) same);

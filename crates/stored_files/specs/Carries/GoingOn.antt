@@ -61,8 +61,8 @@ module _ {S : Type 0} (g : Ghosts S) where
     pub asked : SqlBooks S g
     pub commands : List TimedCommand
     pub are : (ledger_beneath g asked).is_clean → AreCarried facts until commands meters
-    pub told : List ℕ
-    pub zone_is : (ledger_beneath g asked).is_clean → told ≡ zone
-    pub made : IsMade g told new
+    pub reported : List ℕ
+    pub zone_is : (ledger_beneath g asked).is_clean → reported ≡ zone
+    pub made : IsMade g reported new
     pub office : Office (SqlBooks S g)
     pub stands : StandsIfClean (ledger_beneath g) (set_up_by commands) office

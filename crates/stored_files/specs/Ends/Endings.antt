@@ -23,8 +23,8 @@ ending_number (Failed failure) = 3
 
 -- States that the command's ending is reported on standard error. Success and refusal are not
 -- reported there.
-abbrev pub IsTold : Ending → Type 0
-IsTold ending = 1 < ending_number ending
+abbrev pub IsReported : Ending → Type 0
+IsReported ending = 1 < ending_number ending
 
 -- The ending of a command that reads standard input and prints, from the command's exit status.
 abbrev pub ending_of : ExitStatus → Ending

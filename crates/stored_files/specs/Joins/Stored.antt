@@ -86,7 +86,7 @@ module _ {K : Type 0} (k : keepings.Ghosts K) where
         (facts : List Fact) (before : Option (JoinedOffice K)) (new : JoinedOffice K) : Type 0 where
       pub asked : SqlBooks S g
       pub clean : (ledger_beneath g asked).is_clean → HasCleanDisk (state g old)
-      pub told : (ledger_beneath g asked).is_clean → string_bytes new.zone ≡ zone
+      pub reported : (ledger_beneath g asked).is_clean → string_bytes new.zone ≡ zone
       pub same : (ledger_beneath g asked).is_clean → IsOfZone zone before
       pub joins : (ledger_beneath g asked).is_clean
           → JoinsNext zone range register facts before new

@@ -7,7 +7,7 @@ ghost use Rattle.store_files.specs.declared.layouts.Layout.{Layout as TheLayout}
 ghost use Rattle.store_files.specs.Layouts.{schema_of, IsNamedAs};
 ghost use Rattle.store_files.specs.Meta.{Meta};
 ghost use Rattle.store_files.specs.Upgrade.{IsFile};
-ghost use Rattle.stored_files.specs.Carries.ToldZone.{ShowsZone, TellsZone, zone_shown};
+ghost use Rattle.stored_files.specs.Carries.ReportedZone.{ShowsZone, ReportsZone, zone_shown};
 
 use sqlite::{Alter, Connection, Error, ErrorCode, Row};
 use store_files::{OpenFault, layout_of};
@@ -62,12 +62,12 @@ fn zone_in(rows: &[Row]) -> Result<String, OpenFault>
 fn zone_of_open<S: Alter>(connection: &mut Connection<S>) -> Result<String, OpenFault>
     ensures clean { HasCleanDisk (state S.Store connection.new)
         → HasCleanDisk (state S.Store connection.old) }
-    ensures tells { HasCleanDisk (state S.Store connection.new)
+    ensures reports { HasCleanDisk (state S.Store connection.new)
         → (layout : TheLayout) (zone : List ℕ) (content : Content)
         → (state S.Store connection.old).now ≡ (state S.Store connection.old).committed
         → IsFile layout zone (state S.Store connection.old).committed content
         → IfOk result
-        (TellsZone zone (state S.Store connection.old) (state S.Store connection.new)) }
+        (ReportsZone zone (state S.Store connection.old) (state S.Store connection.new)) }
 {
     match zone_rows(connection) {
         Ok(rows) => zone_in(&rows),
@@ -80,11 +80,11 @@ fn zone_of_file<S: Alter>(connection: &mut Connection<S>) -> Result<String, Open
     requires { connection.old.in_transaction ≡ false }
     ensures clean { HasCleanDisk (state S.Store connection.new)
         → HasCleanDisk (state S.Store connection.old) }
-    ensures tells { HasCleanDisk (state S.Store connection.new)
+    ensures reports { HasCleanDisk (state S.Store connection.new)
         → (layout : TheLayout) (zone : List ℕ) (content : Content)
         → IsFile layout zone (state S.Store connection.old).committed content
         → IfOk result
-        (TellsZone zone (state S.Store connection.old) (state S.Store connection.new)) }
+        (ReportsZone zone (state S.Store connection.old) (state S.Store connection.new)) }
 {
     match check_open(connection) {
         Ok(()) => zone_of_open(connection),
@@ -99,11 +99,11 @@ pub fn read_zone_text<S: Alter>(connection: &mut Connection<S>) -> Result<String
         → result ≡ Err OpenFault.NotOurs }
     ensures clean { HasCleanDisk (state S.Store connection.new)
         → HasCleanDisk (state S.Store connection.old) }
-    ensures tells { HasCleanDisk (state S.Store connection.new)
+    ensures reports { HasCleanDisk (state S.Store connection.new)
         → (layout : TheLayout) (zone : List ℕ) (content : Content)
         → IsFile layout zone (state S.Store connection.old).committed content
         → IfOk result
-        (TellsZone zone (state S.Store connection.old) (state S.Store connection.new)) }
+        (ReportsZone zone (state S.Store connection.old) (state S.Store connection.new)) }
 {
     if !connection.is_autocommit() {
         return Err(OpenFault::NotOurs);

@@ -1,6 +1,6 @@
 //! Defines how commands end, with their exit statuses and messages.
 ghost use Rattle.std.specs.Prelude.{◌≡◌, ◌⊎◌};
-ghost use Rattle.stored_files.specs.Ends.Endings.{IsTold, ending_number, ending_of};
+ghost use Rattle.stored_files.specs.Ends.Endings.{IsReported, ending_number, ending_of};
 
 use crate::ends::failure::Failure;
 use crate::ends::named::Named;
@@ -62,7 +62,7 @@ pub fn ending_of(status: ExitStatus) -> Ending<'static>
 /// refusal, because standard output reports these. Errors while writing to standard error are
 /// ignored.
 pub fn say<W: Write>(ending: &Ending<'_>, errors: &mut W)
-    ensures { IsTold ending.now ⊎ (errors.new ≡ errors.old) }
+    ensures { IsReported ending.now ⊎ (errors.new ≡ errors.old) }
 {
     let _said = match ending {
         Ending::Fine | Ending::Refused => Ok(()),

@@ -4,14 +4,14 @@ use Rattle.sqlite.specs.Store.{Ghosts}
 use Rattle.office_rules.specs.History.{History}
 use Rattle.office_books.specs.Ledgers.{Ledger}
 use Rattle.http_request.specs.Hosts.{texts}
-use Rattle.office_program.specs.Report.{TellsReport}
-use Rattle.office_program.specs.RangedReport.{TellsRange}
-use Rattle.office_program.specs.Statement.{TellsStatement}
-use Rattle.office_program.specs.HttpPort.{TellsServing, port as port_of}
-use Rattle.office_program.specs.PortRound.{TellsPolling}
+use Rattle.office_program.specs.Report.{ReportsReport}
+use Rattle.office_program.specs.RangedReport.{AnswersRange}
+use Rattle.office_program.specs.Statement.{ReportsStatement}
+use Rattle.office_program.specs.HttpPort.{ReportsServing, port as port_of}
+use Rattle.office_program.specs.PortRound.{ReportsPolling}
 use Rattle.office_program.specs.Entering.Checked.{LooksOver}
-use Rattle.office_program.specs.Entering.Entered.{TellsEntering}
-use Rattle.office_program.specs.Entering.Lines.{Telling}
+use Rattle.office_program.specs.Entering.Entered.{ReportsEntering}
+use Rattle.office_program.specs.Entering.Lines.{Reporting}
 use Rattle.office_running.specs.Runs.{BooksRun}
 use Rattle.office_program.specs.declared.port_round.PollEnd.{PollEnd}
 use Rattle.run_status.specs.Advice.Lacks.{LooksUp}
@@ -40,27 +40,27 @@ module _ {B : Type 0} (ledger : B → Ledger) where
       → (moments later : Option (List ℕ)) → (found left : B) → (had holds : Option (List ℕ))
       → PollEnd → Type 0
   PollsAndLooks past device moments later found left had holds end =
-      (polled : B) × TellsPolling ledger past device moments later found polled had holds end
+      (polled : B) × ReportsPolling ledger past device moments later found polled had holds end
       × LooksUp (ledger polled) (ledger left)
 
-module _ {B : Type 0} (ledger : B → Ledger) (tells : Telling) (past : History) where
+module _ {B : Type 0} (ledger : B → Ledger) (reports : Reporting) (past : History) where
   -- States that the task changed the store from `found` to `left`, and ended with the result
-  -- `Done`. `tells` has the contents of the files and counters that an input text names.
+  -- `Done`. `reports` has the contents of the files and counters that an input text names.
   unfoldable pub Does : (moments later had holds : Option (List ℕ))
       → (found left : B) → Task → Done → Type 0
   Does moments later had holds found left (task.Report register) (Reported end) =
-      TellsReport ledger past register.now moments later found left had holds end
+      ReportsReport ledger past register.now moments later found left had holds end
   Does moments later had holds found left (task.ReportRange register form) (Reported end) =
-      TellsRange ledger past register.now form.now moments later found left had holds end
+      AnswersRange ledger past register.now form.now moments later found left had holds end
   Does moments later had holds found left (task.Statement register form) (Reported end) =
-      TellsStatement ledger past register.now form.now moments later found left had holds end
+      ReportsStatement ledger past register.now form.now moments later found left had holds end
   Does moments later had holds found left (task.Serve host port names connections) (Served end) =
-      TellsServing ledger past (port_of (texts names.now) connections) moments later found left had
+      ReportsServing ledger past (port_of (texts names.now) connections) moments later found left had
       holds end
   Does moments later had holds found left (task.Enter caller text) (Entered end) =
-      TellsEntering ledger past tells caller.now text.now moments later found left had holds end
+      ReportsEntering ledger past reports caller.now text.now moments later found left had holds end
   Does moments later had holds found left (task.Check caller text) (Checked end) =
-      LooksOver tells caller.now text.now (ledger left) had holds end past
+      LooksOver reports caller.now text.now (ledger left) had holds end past
   Does moments later had holds found left (task.Round device host port) (Polled end) =
       PollsAndLooks ledger past device.now moments later found left had holds end
   Does moments later had holds found left (task.Run settings sites) (Ran end) =
@@ -68,7 +68,7 @@ module _ {B : Type 0} (ledger : B → Ledger) (tells : Telling) (past : History)
   Does moments later had holds found left _ _ = ⊥
 
 -- States that the task ran over the store that was opened from a database.
-abbrev pub DoesOver : {S : Type 0} → Ghosts S → Telling → (past : History)
+abbrev pub DoesOver : {S : Type 0} → Ghosts S → Reporting → (past : History)
     → (moments later had holds : Option (List ℕ)) → Task → Done → Type 0
-DoesOver g tells past moments later had holds asked end = OverBooks g past (λ found left.
-    Does (ledger_in g) tells past moments later had holds found left asked end)
+DoesOver g reports past moments later had holds asked end = OverBooks g past (λ found left.
+    Does (ledger_in g) reports past moments later had holds found left asked end)

@@ -4,7 +4,7 @@ ghost use Rattle.office_rules.specs.History.{History};
 ghost use Rattle.office_core.specs.Leaving.{BooksStand};
 ghost use Rattle.store_files.specs.declared.layouts.Layout.{Layout as TheLayout};
 ghost use Rattle.store_files.specs.Layouts.{IsNamedAs};
-ghost use Rattle.office_program.specs.Entering.Lines.{telling_of};
+ghost use Rattle.office_program.specs.Entering.Lines.{reporting_of};
 ghost use Rattle.stored_files.specs.BooksFound.{HasPast};
 ghost use Rattle.stored_office.specs.Tasks.Tasks.{IsOf, Does, DoesOver};
 
@@ -110,7 +110,7 @@ fn carry_out<
     ensures same { IsOf task.entry result.end }
     ensures does { (past : History) → BooksStand (B.ledger books) past
         → (B.ledger result.books).is_clean
-        → Does B.ledger (telling_of F.NamedFiles files.now) past
+        → Does B.ledger (reporting_of F.NamedFiles files.now) past
         (C.moments clock.old) (C.moments clock.new)
         (W.contents output.old) (W.contents output.new) books result.books task.entry result.end }
 {
@@ -206,7 +206,7 @@ pub fn carry_out_stored<
     ensures silent { IfErr result (λ fault. output.new ≡ output.old) }
     ensures same { IfOk result (IsOf task.entry) }
     ensures does { (past : History) → HasPast S.Store connection past
-        → IfOk result (DoesOver S.Store (telling_of F.NamedFiles files.now) past
+        → IfOk result (DoesOver S.Store (reporting_of F.NamedFiles files.now) past
         (C.moments clock.old) (C.moments clock.new)
         (W.contents output.old) (W.contents output.new) task.entry) }
 {

@@ -12,7 +12,7 @@ use Rattle.sun_chain.specs.Walk.{Fails}
 use Rattle.sun_chain.specs.declared.model.Model.{Model}
 use Rattle.sun_chain.specs.declared.fault.ChainFault.{ChainFault}
 use Rattle.sun_chain.specs.declared.fault.ChainFault.TheVariants.{NoMark, Unreadable, PastEnd, TooMany, Memory}
-use Rattle.sunspec_text.specs.Chains.ImageLines.{nothing_read, words_told}
+use Rattle.sunspec_text.specs.Chains.ImageLines.{nothing_read, words_reported}
 use Rattle.command_io.specs.Input.{most_bytes, too_long}
 use Rattle.command_io.specs.Lines.{speaking_lines}
 use Rattle.script_text.specs.AnswerText.{bad_line}
@@ -98,4 +98,4 @@ LinesPrint (Ok word) printed status = WordsPrint word printed status
 pub record ChainPrints (input printed : List ℕ) (status : ExitStatus) : Type 0 where
   pub long : most_bytes < length input → (status ≡ Refused) × (printed ≡ too_long)
   pub lines : length input ≤ most_bytes
-      → LinesPrint (words_told nothing_read (speaking_lines input)) printed status
+      → LinesPrint (words_reported nothing_read (speaking_lines input)) printed status

@@ -76,10 +76,10 @@ or_bad_line (Some word) number goes_on = goes_on word
 
 -- The image of a device's words after reading all lines. If a line is malformed, the result is the
 -- number of the first such line.
-abbrev pub words_told : Words → List Line → Result Words ℕ
-words_told word [] = Ok word
-words_told word (line ∷ lines) =
-    or_bad_line (words_after word line.text) line.number (λ later. words_told later lines)
+abbrev pub words_reported : Words → List Line → Result Words ℕ
+words_reported word [] = Ok word
+words_reported word (line ∷ lines) =
+    or_bad_line (words_after word line.text) line.number (λ later. words_reported later lines)
 
 -- The image of a device's words before the first line is read. The image has no words.
 abbrev pub nothing_read : Words

@@ -4,7 +4,7 @@ use Rattle.std.specs.declared.result.Result.{Result}
 use Rattle.sun_chain.specs.Image.{Words, word_in}
 use Rattle.sun_chain.specs.declared.image.Image.{Image}
 use Rattle.command_io.specs.Lines.{Line, speaking_lines}
-use Rattle.sunspec_text.specs.Chains.ImageLines.{Put, nothing_read, words_after, words_told}
+use Rattle.sunspec_text.specs.Chains.ImageLines.{Put, nothing_read, words_after, words_reported}
 use Rattle.sunspec_text.specs.declared.chains.image_lines.Put.{Put as LoadedPut}
 use Rattle.sunspec_text.specs.declared.chains.image_lines.LoadFault.{LoadFault}
 use Rattle.sunspec_text.specs.declared.chains.image_lines.LoadFault.TheVariants.{BadLine, Memory}
@@ -14,8 +14,8 @@ abbrev pub seen_put : LoadedPut → Put
 seen_put put = record { address = put.address; words = put.words.items }
 
 -- States that the image has exactly the words that the lines of the text contain.
-abbrev pub TellsImage : (text : List ℕ) → Image → Type 0
-TellsImage text image = words_told nothing_read (speaking_lines text) ≡ Ok (word_in image)
+abbrev pub ReportsImage : (text : List ℕ) → Image → Type 0
+ReportsImage text image = words_reported nothing_read (speaking_lines text) ≡ Ok (word_in image)
 
 -- States that a line is malformed or extends past address 65,535, and that `number` is the line's
 -- number.
@@ -32,9 +32,9 @@ ExplainsLine Memory word line = Unit {0}
 -- States that the fault explains why the lines give no image. The fault has the number of the first
 -- malformed line, or memory ran out.
 abbrev pub Explains : LoadFault → Result Words ℕ → Type 0
-Explains (BadLine number) told = told ≡ Err number
-Explains Memory told = Unit {0}
+Explains (BadLine number) reported = reported ≡ Err number
+Explains Memory reported = Unit {0}
 
 -- States that the fault explains why the lines of the text give no image.
 abbrev pub ExplainsText : (text : List ℕ) → LoadFault → Type 0
-ExplainsText text fault = Explains fault (words_told nothing_read (speaking_lines text))
+ExplainsText text fault = Explains fault (words_reported nothing_read (speaking_lines text))

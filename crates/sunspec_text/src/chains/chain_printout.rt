@@ -6,7 +6,7 @@ ghost use Rattle.sun_chain.specs.Image.{word_in};
 ghost use Rattle.sun_chain.specs.Points.{seen};
 ghost use Rattle.sunspec_text.specs.Chains.ChainText.{ChainPrints, FaultPrints, LinesPrint, WordsPrint, fault_line};
 ghost use Rattle.sunspec_text.specs.Chains.ChainText.{lines_of, model_line, model_lines, point_line};
-ghost use Rattle.sunspec_text.specs.Chains.ImageLines.{nothing_read, words_told};
+ghost use Rattle.sunspec_text.specs.Chains.ImageLines.{nothing_read, words_reported};
 ghost use Rattle.command_io.specs.Lines.{speaking_lines};
 ghost use Rattle.command_io.specs.Printing.{PrintsAs, PrintsFor, PrintsOn};
 
@@ -36,7 +36,7 @@ pub fn chain_text<R: Read, P: Printer>(alloc: Global, input: &mut R, output: &mu
 
 // Builds the complete output for lines `ADDRESS HEX` in memory, and then prints this output.
 fn print_said<P: Printer>(alloc: Global, text: &[u8], output: &mut P) -> ExitStatus
-    ensures { PrintsOn P.Printer (LinesPrint (words_told nothing_read (speaking_lines text.now)))
+    ensures { PrintsOn P.Printer (LinesPrint (words_reported nothing_read (speaking_lines text.now)))
         result output.old output.new }
 {
     let mut lines = Vec::new(alloc);
@@ -46,7 +46,7 @@ fn print_said<P: Printer>(alloc: Global, text: &[u8], output: &mut P) -> ExitSta
 
 // Writes the chain of SunSpec models in lines `ADDRESS HEX`, or a fault.
 fn print_lines<W: Write>(alloc: Global, text: &[u8], output: &mut W) -> ExitStatus
-    ensures { PrintsAs (LinesPrint (words_told nothing_read (speaking_lines text.now))) result
+    ensures { PrintsAs (LinesPrint (words_reported nothing_read (speaking_lines text.now))) result
         (W.contents output.old) (W.contents output.new) }
 {
     match load(alloc, text) {

@@ -3,7 +3,7 @@ ghost use Rattle.std.specs.Prelude.{◌≡◌, IfOk, IfErr, OnOk, Some, option_m
 ghost use Rattle.sun_chain.specs.Image.{word_in};
 ghost use Rattle.sunspec_text.specs.Chains.ImageLines.{SpellsWords, address_of, write_of, words_after};
 ghost use Rattle.command_io.specs.Lines.{seen_line};
-ghost use Rattle.sunspec_text.specs.Chains.Seen.{ExplainsLine, ExplainsText, TellsImage, seen_put};
+ghost use Rattle.sunspec_text.specs.Chains.Seen.{ExplainsLine, ExplainsText, ReportsImage, seen_put};
 
 use command_io::{InputLine, InputLines};
 use device_scan::words_of_bytes;
@@ -28,7 +28,7 @@ pub(crate) struct Put {
 
 /// Reads lines `ADDRESS HEX` into an image of a device's words.
 pub(crate) fn load(alloc: Global, text: &[u8]) -> Result<Image, LoadFault>
-    ensures image { IfOk result (TellsImage text.now) }
+    ensures image { IfOk result (ReportsImage text.now) }
     ensures fault { IfErr result (ExplainsText text.now) }
 {
     let mut image = Image::new(alloc);

@@ -9,15 +9,15 @@ pub returns-in-Need-clause-heard : goal.returns-in-Need-clause-heard
 returns-in-Need-clause-heard t c =
     c.in-Ok.ensures
     ∙ ap (first_of (seen c.args.heard))
-    (need_settles (ask_of c.args.attempt.now) c.feed-fed.result.what c.args.reader.now.rest c.args.piece.now c.feed-fed.result.taken c.feed-fed.new.self c.feed-fed.ensures.tells c.feed-fed.ensures.after c.in-Need.is (c.feed-fed.ensures.need c.in-Need.is))
+    (need_settles (ask_of c.args.attempt.now) c.feed-fed.result.what c.args.reader.now.rest c.args.piece.now c.feed-fed.result.taken c.feed-fed.new.self c.feed-fed.ensures.reports c.feed-fed.ensures.after c.in-Need.is (c.feed-fed.ensures.need c.in-Need.is))
 
 pub returns-in-Need-clause-rest : goal.returns-in-Need-clause-rest
 returns-in-Need-clause-rest t c =
-    (need_rest c.feed-fed.result.what c.args.reader.now.rest c.args.piece.now c.feed-fed.result.taken c.feed-fed.new.self c.feed-fed.ensures.tells c.feed-fed.ensures.after c.in-Need.is (c.feed-fed.ensures.need c.in-Need.is)).0
+    (need_rest c.feed-fed.result.what c.args.reader.now.rest c.args.piece.now c.feed-fed.result.taken c.feed-fed.new.self c.feed-fed.ensures.reports c.feed-fed.ensures.after c.in-Need.is (c.feed-fed.ensures.need c.in-Need.is)).0
 
 pub returns-in-Garbled-clause-garbled : goal.returns-in-Garbled-clause-garbled
 returns-in-Garbled-clause-garbled t c = λ garbled.
-    garbled_rest c.feed-fed.result.what c.args.reader.now.rest c.args.piece.now c.feed-fed.result.taken c.feed-fed.ensures.tells c.in-Garbled.is
+    garbled_rest c.feed-fed.result.what c.args.reader.now.rest c.args.piece.now c.feed-fed.result.taken c.feed-fed.ensures.reports c.in-Garbled.is
 
 pub returns-in-Whole-clause-heard : goal.returns-in-Whole-clause-heard
 returns-in-Whole-clause-heard t c =
@@ -29,10 +29,10 @@ returns-in-Whole-clause-heard t c =
     (λ later. seen later ≡ first_of (seen c.args.heard) (settled ask (frames (c.args.reader.now.rest ++ c.args.piece.now))))
     c.hear_piece.result
     c.hear_piece.ensures.heard
-    (λ later tells.
-    heard_piece (seen c.args.heard) (seen c.in-Ok.later) (settled ask (frames_held buffered.frame)) (settled ask (frames (buffered.rest ++ left))) (seen later) c.in-Ok.ensures tells
+    (λ later reports.
+    heard_piece (seen c.args.heard) (seen c.in-Ok.later) (settled ask (frames_held buffered.frame)) (settled ask (frames (buffered.rest ++ left))) (seen later) c.in-Ok.ensures reports
     ∙ ap (first_of (seen c.args.heard))
-    (sym (piece_settles ask c.feed-fed.result.what c.args.reader.now.rest c.args.piece.now c.feed-fed.result.taken buffered c.feed-fed.ensures.tells c.feed-fed.ensures.after)))
+    (sym (piece_settles ask c.feed-fed.result.what c.args.reader.now.rest c.args.piece.now c.feed-fed.result.taken buffered c.feed-fed.ensures.reports c.feed-fed.ensures.after)))
 
 pub returns-in-Whole-clause-rest : goal.returns-in-Whole-clause-rest
 returns-in-Whole-clause-rest t c =
@@ -44,10 +44,10 @@ returns-in-Whole-clause-rest t c =
     c.hear_piece.result
     c.hear_piece.ensures.rest
     (λ later reads.
-    reads ∙ sym (piece_rest c.feed-fed.result.what c.args.reader.now.rest c.args.piece.now c.feed-fed.result.taken buffered c.feed-fed.ensures.tells c.feed-fed.ensures.after))
+    reads ∙ sym (piece_rest c.feed-fed.result.what c.args.reader.now.rest c.args.piece.now c.feed-fed.result.taken buffered c.feed-fed.ensures.reports c.feed-fed.ensures.after))
 
 pub returns-in-Whole-clause-garbled : goal.returns-in-Whole-clause-garbled
 returns-in-Whole-clause-garbled t c = λ garbled.
     subst (λ (y : List ℕ). IsBad y)
-    (sym (piece_rest c.feed-fed.result.what c.args.reader.now.rest c.args.piece.now c.feed-fed.result.taken c.feed-fed.new.self c.feed-fed.ensures.tells c.feed-fed.ensures.after))
+    (sym (piece_rest c.feed-fed.result.what c.args.reader.now.rest c.args.piece.now c.feed-fed.result.taken c.feed-fed.new.self c.feed-fed.ensures.reports c.feed-fed.ensures.after))
     (c.hear_piece.ensures.garbled garbled)

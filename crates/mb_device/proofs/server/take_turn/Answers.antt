@@ -14,7 +14,7 @@ returns-in_err-answered-in-Ok-Bytes-clause-turns g c =
     let is : c.from_residual.result ≡ Err fault = search rules in
     subst (λ x. Turns buffered c.args.sender.now x old new (standing_in x c.answer_piece.new.reader c.answer_piece.new.sender)) (sym is)
     (turn_fault fault c.args.sender.now buffered c.take.new.piece _ c.in-Ok-Bytes.field-0 c.in-Ok-Bytes.count old mid new c.requires.going c.in-Ok-Bytes.ensures.bytes c.in-Ok-Bytes.field-0-is (omega arith)
-    c.answer_piece.ensures.remaining c.take.ensures.given refl c.in_err-answered-in-Ok-Bytes.ensures.answered c.in_err-answered-in-Ok-Bytes.ensures.tells)
+    c.answer_piece.ensures.remaining c.take.ensures.given refl c.in_err-answered-in-Ok-Bytes.ensures.answered c.in_err-answered-in-Ok-Bytes.ensures.reports)
 
 pub returns-in-Ok-End-clause-turns : goal.returns-in-Ok-End-clause-turns
 returns-in-Ok-End-clause-turns g c =

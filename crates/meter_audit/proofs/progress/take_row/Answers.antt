@@ -38,15 +38,15 @@ returns-after-step-clause-sound c =
     ]
 
 pub returns-after-step-clause-goes_on : goal.returns-after-step-clause-goes_on
-returns-after-step-clause-goes_on c = λ told done gone.
+returns-after-step-clause-goes_on c = λ reported done gone.
     let new : Progress = record { check = c.in-Ok.next; wanted = c.match-step.progress.wanted } in
     elim c.match-step.branch [
       | in-Some+in_ok-append_shares-in-Ok w ↦
           goes_standing c.passed_rows_fit.ensures c.args.meter.now c.args.progress.now new c.args.row.now c.in-Ok.next w.in-Some.step
           c.requires.meter.installed (passed_as _ c.in-Ok.next c.in-Ok.step (Some w.in-Some.step) c.in-Ok.ensures.value w.in-Some.is) refl
-          (ap (λ (p : Progress). p.wanted.items) w.progress-is ∙ w.in_ok-append_shares-in-Ok.ensures) told done gone
+          (ap (λ (p : Progress). p.wanted.items) w.progress-is ∙ w.in_ok-append_shares-in-Ok.ensures) reported done gone
       | in_default w ↦
           goes_voided c.passed_rows_fit.ensures c.args.meter.now c.args.progress.now new c.args.row.now c.in-Ok.next
           c.requires.meter.installed (passed_as _ c.in-Ok.next c.in-Ok.step None c.in-Ok.ensures.value w.in_default.is) refl
-          (ap (λ (p : Progress). p.wanted.items) w.progress-is) told done gone
+          (ap (λ (p : Progress). p.wanted.items) w.progress-is) reported done gone
     ]

@@ -1,5 +1,5 @@
 use Rattle.std.proofs.Common.{length}
-use Rattle.poll_core.specs.Telling.{IsCall}
+use Rattle.poll_core.specs.Reporting.{IsCall}
 use Rattle.poll_core.specs.declared.outcome.Call.TheVariants as call
 use Rattle.modbus_tests.proofs.session_script.tick.Given as goal
 

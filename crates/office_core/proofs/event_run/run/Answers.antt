@@ -24,7 +24,7 @@ loop-moment-preserved g c =
             answers = c.feed-result.ensures.answers;
             stands = c.feed-result.ensures.stands;
             leaves = c.feed-result.ensures.leaves;
-            told = c.feed-result.ensures.told;
+            reported = c.feed-result.ensures.reported;
             quiet = c.feed-result.ensures.quiet;
             ends = c.feed-result.ensures.ends;
           }));
@@ -57,4 +57,4 @@ returns-clause-stands g c past stood clean =
     let results = c.loop-moment.results.items in
     let over : length events ≤ c.loop-moment.moment-index = omega (arith, c.loop-moment-test.false) in
     let so_far = all_fed g.B.Books.ledger c.args.books c.args.opened events c.loop-moment.moment-index results c.loop-moment.office over c.loop-moment.invariant.so_far in
-    record { office = so_far.stands past stood clean; told = so_far.told past stood clean }
+    record { office = so_far.stands past stood clean; reported = so_far.reported past stood clean }

@@ -1,8 +1,8 @@
 use Rattle.std.proofs.Common.{refl, subst}
 use Rattle.http_request.specs.Routing.Routes.{routes}
 use Rattle.http_answer.specs.Replies.{fault, fault_said, reply_bytes}
-use Rattle.office_http.specs.Wants.Wanting.{IsNoCommand, IsToldOff, Wants}
-use Rattle.office_http.proofs.Served.{lasts_same, no_command_told, told_off}
+use Rattle.office_http.specs.Wants.Wanting.{IsNoCommand, IsReportedOff, Wants}
+use Rattle.office_http.proofs.Served.{lasts_same, no_command_reported, reported_off}
 use Rattle.office_http.proofs.answers.append_reply.Goals as goal
 
 pub returns-in-Rejected : goal.returns-in-Rejected
@@ -10,11 +10,11 @@ returns-in-Rejected g c =
     let ledger = g.B.Books.ledger in
     let old = c.args.office.now in
     let read = c.args.bytes.now in
-    let wants : IsToldOff routes read (reply_bytes (fault c.in-Rejected.status)) = subst (Wants routes read) c.in-Rejected.is c.requires.wants in
+    let wants : IsReportedOff routes read (reply_bytes (fault c.in-Rejected.status)) = subst (Wants routes read) c.in-Rejected.is c.requires.wants in
     record {
       serves = λ past stands clean. record {
         put = reply_bytes (fault c.in-Rejected.status);
-        serves = told_off ledger past c.args.moment read old old (reply_bytes (fault c.in-Rejected.status)) refl wants.nothing wants.reply stands;
+        serves = reported_off ledger past c.args.moment read old old (reply_bytes (fault c.in-Rejected.status)) refl wants.nothing wants.reply stands;
         puts = c.append_fault.ensures;
       };
       gives = c.append_fault.ensures.link;
@@ -30,7 +30,7 @@ returns-in-Refused g c =
     record {
       serves = λ past stands clean. record {
         put = reply_bytes (fault_said c.in-Refused.why);
-        serves = no_command_told ledger past c.args.moment read old c.in-Refused.why wants stands;
+        serves = no_command_reported ledger past c.args.moment read old c.in-Refused.why wants stands;
         puts = c.write_command_fault.ensures;
       };
       gives = c.write_command_fault.ensures.link;

@@ -2,7 +2,7 @@ use Rattle.std.proofs.Common.{None, sym, subst}
 use Rattle.http_answer.specs.Kinds.{done_text}
 use Rattle.http_answer.specs.Replies.{reply_bytes, row_reply}
 use Rattle.office_http.specs.Serving.{Serves}
-use Rattle.office_http.proofs.Served.{command_told, lasts_fed}
+use Rattle.office_http.proofs.Served.{command_reported, lasts_fed}
 use Rattle.office_http.proofs.answers.write_asked.Goals as goal
 
 pub returns : goal.returns
@@ -16,7 +16,7 @@ returns g c =
         put = reply_bytes (row_reply done_text c.command_result.result);
         serves =
             subst (λ a. Serves ledger past c.args.moment read old new None (reply_bytes (row_reply done_text a))) (sym c.command_result.ensures)
-            (command_told ledger past c.args.moment read old new c.args.asked c.feed-answer.result c.requires (c.feed-answer.ensures.answers past stands clean) (c.feed-answer.ensures.stands past stands clean) (c.feed-answer.ensures.leaves past stands clean) c.feed-answer.ensures.ends.stopped.0);
+            (command_reported ledger past c.args.moment read old new c.args.asked c.feed-answer.result c.requires (c.feed-answer.ensures.answers past stands clean) (c.feed-answer.ensures.stands past stands clean) (c.feed-answer.ensures.leaves past stands clean) c.feed-answer.ensures.ends.stopped.0);
         puts = c.write_done.ensures;
       };
       gives = c.write_done.ensures.link;

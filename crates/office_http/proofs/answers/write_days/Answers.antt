@@ -3,7 +3,7 @@ use Rattle.http_answer.specs.Sending.Sending.{OnlyGives, Outgoing}
 use Rattle.office_http.specs.Rows.Reports.{Report}
 use Rattle.interval_core.specs.Report.{day_line}
 use Rattle.office_http.specs.Serving.{Puts}
-use Rattle.office_http.proofs.Reported.{days_told, lines_give}
+use Rattle.office_http.proofs.Reported.{days_reported, lines_give}
 use Rattle.office_http.proofs.Served.{lasts_asked, still}
 use Rattle.office_http.proofs.answers.write_days.Goals as goal
 
@@ -23,7 +23,7 @@ returns g c =
     record {
       serves = λ past stands clean.
           subst (λ (o : Outgoing). Puts ledger past c.args.moment read old new o out cut) from
-          (days_told ledger past c.args.moment read old new c.args.register.now start lines answer out cut
+          (days_reported ledger past c.args.moment read old new c.args.register.now start lines answer out cut
           (c.days-answer.ensures.days past stands clean) none c.finish_report.ensures c.requires.nothing c.requires.replies
           (still ledger past old new c.days-answer.result c.days-answer.ensures.asks stands) c.days-answer.ensures.asks.stopped.0);
       gives =

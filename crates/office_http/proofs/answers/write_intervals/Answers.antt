@@ -9,7 +9,7 @@ use Rattle.office_rules.specs.History.{facts_of}
 use Rattle.office_core.specs.Asking.{intervals_of}
 use Rattle.office_http.specs.Serving.{Puts}
 use Rattle.office_http.proofs.Few.{FromJournals, few_named}
-use Rattle.office_http.proofs.Reported.{lines_give, rows_told}
+use Rattle.office_http.proofs.Reported.{lines_give, rows_reported}
 use Rattle.office_http.proofs.Served.{lasts_asked, still}
 use Rattle.office_http.proofs.answers.write_intervals.Goals as goal
 
@@ -30,7 +30,7 @@ returns g c =
     record {
       serves = λ past stands clean.
           subst (λ (o : Outgoing). Puts ledger past c.args.moment read old new o out cut) from
-          (rows_told ledger past c.args.moment read old new share_line (intervals_of (facts_of past) c.args.meter.now) start lines answer out cut
+          (rows_reported ledger past c.args.moment read old new share_line (intervals_of (facts_of past) c.args.meter.now) start lines answer out cut
           (c.intervals-answer.ensures.rows past stands clean) none c.finish_report.ensures
           (few_named law (facts_of past) c.args.meter.now (c.facts_are_lawful.ensures past stands.books.is_past.accepted stands.books.is_past.planned))
           c.requires.nothing

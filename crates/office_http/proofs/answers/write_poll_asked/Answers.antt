@@ -6,7 +6,7 @@ use Rattle.http_answer.specs.Whole.{IsReply}
 use Rattle.office_events.specs.declared.refusals.Refusal.TheVariants as refusal
 use Rattle.office_rules.specs.History.{facts_of}
 use Rattle.office_rules.specs.Readings.{poll_row_of}
-use Rattle.office_http.proofs.Served.{lasts_asked, lasts_same, row_told, still, told_off}
+use Rattle.office_http.proofs.Served.{lasts_asked, lasts_same, row_reported, still, reported_off}
 use Rattle.office_http.proofs.answers.write_poll_asked.Goals as goal
 
 pub returns-in-None : goal.returns-in-None
@@ -18,7 +18,7 @@ returns-in-None g c =
       serves = λ past stands clean. record {
         put = reply_bytes (refused refusal.NotFound);
         serves =
-            told_off ledger past c.args.moment read old old (reply_bytes (refused refusal.NotFound)) refl c.requires.nothing
+            reported_off ledger past c.args.moment read old old (reply_bytes (refused refusal.NotFound)) refl c.requires.nothing
             (λ office. subst (λ n. IsReply office routes read (reply_bytes (poll_reply office n))) c.in-None.is (c.requires.replies office)) stands;
         puts = c.append_refusal.ensures;
       };
@@ -37,7 +37,7 @@ returns-in-Some g c =
       serves = λ past stands clean. record {
         put = reply_bytes (row_reply poll_text c.poll-answer.result);
         serves =
-            row_told ledger past c.args.moment read old new poll_text (poll_row_of (facts_of past) number) c.poll-answer.result
+            row_reported ledger past c.args.moment read old new poll_text (poll_row_of (facts_of past) number) c.poll-answer.result
             (c.poll-answer.ensures.found past stands clean) c.requires.nothing
             (λ office answers. subst (λ a. IsReply office routes read (reply_bytes (row_reply poll_text a))) (answers.poll number)
             (subst (λ n. IsReply office routes read (reply_bytes (poll_reply office n))) c.in-Some.is (c.requires.replies office)))

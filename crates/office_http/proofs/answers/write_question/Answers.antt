@@ -9,7 +9,7 @@ use Rattle.http_answer.specs.Whole.{IsReply}
 use Rattle.interval_core.specs.Lines.{days_text, intervals_text}
 use Rattle.office_rules.specs.History.{facts_of}
 use Rattle.office_rules.specs.Meters.{meter_of}
-use Rattle.office_http.proofs.Served.{lasts_asked, row_told, still}
+use Rattle.office_http.proofs.Served.{lasts_asked, row_reported, still}
 use Rattle.office_http.proofs.answers.write_question.Goals as goal
 
 pub returns-in-Meter : goal.returns-in-Meter
@@ -24,7 +24,7 @@ returns-in-Meter g c =
       serves = λ past stands clean. record {
         put = reply_bytes (row_reply meter_text c.meter-answer.result);
         serves =
-            row_told ledger past c.args.moment read old new meter_text (option_and_then (meter_of (facts_of past)) name) c.meter-answer.result
+            row_reported ledger past c.args.moment read old new meter_text (option_and_then (meter_of (facts_of past)) name) c.meter-answer.result
             (c.meter-answer.ensures.found past stands clean) c.requires.nothing
             (λ office answers. subst (λ a. IsReply office routes read (reply_bytes (row_reply meter_text a))) (answers.meter name)
             (subst (λ n. IsReply office routes read (reply_bytes (row_reply meter_text (office.meter n)))) (sym c.name_asked.ensures)

@@ -10,24 +10,24 @@ use Rattle.office_rounds.proofs.fed_events.feed.Goals as goal
 pub returns-in-Ok-clause-feeds : goal.returns-in-Ok-clause-feeds
 returns-in-Ok-clause-feeds g c = λ moments later past stands clean.
     let answer = c.in-Ok.answer in
-    let told = c.in-Ok.ensures.told past stands clean in
+    let reported = c.in-Ok.ensures.reported past stands clean in
     fed_printed g.B.Books.ledger past c.args.at c.args.event.now answer _ _ c.feed.new.self
     (accepted_text answer (notes_in c.feed.new.self) (outgoing_in c.feed.new.self)) c.print.result
     (record {
       stands = c.in-Ok.ensures.stands past stands clean;
       answer = c.in-Ok.ensures.answers past stands clean;
-      told = told;
+      reported = reported;
     })
     c.print.ensures.prints
-    (ap (λ notes. accepted_text answer notes (outgoing_in c.feed.new.self)) told.notes
-    ∙ ap (λ frames. accepted_text answer (notes_after past c.args.at c.args.event.now (Ok answer)) frames) told.outgoing)
+    (ap (λ notes. accepted_text answer notes (outgoing_in c.feed.new.self)) reported.notes
+    ∙ ap (λ frames. accepted_text answer (notes_after past c.args.at c.args.event.now (Ok answer)) frames) reported.outgoing)
 
 pub returns-in-Err-clause-feeds : goal.returns-in-Err-clause-feeds
 returns-in-Err-clause-feeds g c = λ moments later past stands clean. (
   record {
     stands = c.in-Err.ensures.stands past stands clean;
     answer = c.in-Err.ensures.answers past stands clean;
-    told = c.in-Err.ensures.told past stands clean;
+    reported = c.in-Err.ensures.reported past stands clean;
   },
   Appends-nil _,
 )

@@ -3,11 +3,11 @@ use Rattle.std.specs.Prelude.{Ok}
 use Rattle.office_rounds.specs.FedEvents.{history_with}
 use Rattle.office_rounds.specs.Polling.{round_after}
 use Rattle.office_rounds.proofs.Connecting.{connect_failed, connects}
-use Rattle.office_rounds.proofs.Goings.{fed_one, goes_on, told_broken}
+use Rattle.office_rounds.proofs.Goings.{fed_one, goes_on, reported_broken}
 use Rattle.office_rounds.proofs.fed_events.feed_next.Goals as goal
 
-pub returns-in-Ok-clause-tells : goal.returns-in-Ok-clause-tells
-returns-in-Ok-clause-tells g c = λ device past begun fed going does clean.
+pub returns-in-Ok-clause-reports : goal.returns-in-Ok-clause-reports
+returns-in-Ok-clause-reports g c = λ device past begun fed going does clean.
     let old = c.args.progress.now in
     let e = c.args.event.now in
     let feeds = c.in-Ok.ensures.feeds (g.C.Clock.moments c.args.clock.now) (g.C.Clock.moments c.now-at.new.self) (history_with past fed) going.leaves.stands clean in (
@@ -18,9 +18,9 @@ returns-in-Ok-clause-tells g c = λ device past begun fed going does clean.
           (c.note.ensures.round ∙ ap (λ notes. round_after e c.in-Ok.answer notes old.round) c.notes.ensures) c.note.ensures.latest,
     )
 
-pub returns-in-Err-clause-tells : goal.returns-in-Err-clause-tells
-returns-in-Err-clause-tells g c = λ device past begun fed going does clean.
-    told_broken g.B.Books.ledger device past begun _ _ c.args.office.now c.feed.new.office fed c.args.progress.now _ c.now-at.result c.args.event.now
+pub returns-in-Err-clause-reports : goal.returns-in-Err-clause-reports
+returns-in-Err-clause-reports g c = λ device past begun fed going does clean.
+    reported_broken g.B.Books.ledger device past begun _ _ c.args.office.now c.feed.new.office fed c.args.progress.now _ c.now-at.result c.args.event.now
     c.in-Err.fault going does c.now-at.ensures
     (c.in-Err.ensures.feeds (g.C.Clock.moments c.args.clock.now) (g.C.Clock.moments c.now-at.new.self) (history_with past fed) going.leaves.stands clean)
     refl c.latest_after-progress.ensures

@@ -1,6 +1,6 @@
 use Rattle.std.proofs.Common.{inr}
 use Rattle.office_rounds.proofs.Overs.{is_broken_off, is_round}
-use Rattle.office_rounds.proofs.Wholes.{counts_failures, told_used}
+use Rattle.office_rounds.proofs.Wholes.{counts_failures, reported_used}
 use Rattle.office_rounds.proofs.round.poll_to_end.Goals as goal
 
 pub returns-in-Ok-clause-polls : goal.returns-in-Ok-clause-polls
@@ -15,7 +15,7 @@ returns-in-Err-clause-polls g c = λ device past begun from fed going wired is c
     so.1.0 so.1.1 (c.close.ensures.closes device past begun so.0 so.1.0 clean))
 
 pub returns-in-Err-clause-used : goal.returns-in-Err-clause-used
-returns-in-Err-clause-used g c = λ is. c.in-Err.ensures.used (told_used c.in-Err.fault c.close.result c.close.ensures.told is)
+returns-in-Err-clause-used g c = λ is. c.in-Err.ensures.used (reported_used c.in-Err.fault c.close.result c.close.ensures.reported is)
 
 pub returns-in-Err-clause-failures : goal.returns-in-Err-clause-failures
-returns-in-Err-clause-failures g c = counts_failures c.in-Err.fault c.close.result _ _ c.in-Err.ensures.failures c.close.ensures.told
+returns-in-Err-clause-failures g c = counts_failures c.in-Err.fault c.close.result _ _ c.in-Err.ensures.failures c.close.ensures.reported

@@ -33,7 +33,7 @@ returns-in-Err-clause-rounds g c = λ past stands clean.
     c.end_unconnected.ensures.ends device past begun w h clean
 
 pub returns-in-Err-clause-used : goal.returns-in-Err-clause-used
-returns-in-Err-clause-used g c = λ is. absurd (not_used c.in-Err.fault c.end_unconnected.result c.in-Err.ensures.kind c.end_unconnected.ensures.told is)
+returns-in-Err-clause-used g c = λ is. absurd (not_used c.in-Err.fault c.end_unconnected.result c.in-Err.ensures.kind c.end_unconnected.ensures.reported is)
 
 pub returns-in-Err-clause-failures : goal.returns-in-Err-clause-failures
-returns-in-Err-clause-failures g c = kept_failures c.in-Err.fault c.end_unconnected.result _ c.in-Err.ensures.kind c.end_unconnected.ensures.told
+returns-in-Err-clause-failures g c = kept_failures c.in-Err.fault c.end_unconnected.result _ c.in-Err.ensures.kind c.end_unconnected.ensures.reported

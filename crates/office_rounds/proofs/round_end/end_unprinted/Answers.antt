@@ -6,7 +6,7 @@ returns-clause-ends g c = λ printed moments later past stands clean. record {
   taken = record {
     stands = c.feed-answer.ensures.stands past stands clean;
     answer = c.feed-answer.ensures.answers past stands clean;
-    told = c.feed-answer.ensures.told past stands clean;
+    reported = c.feed-answer.ensures.reported past stands clean;
   };
   stops = λ why is. record { before = c.feed-answer.ensures.ends.stopped.0; after = c.feed-answer.ensures.ends.stops };
 }

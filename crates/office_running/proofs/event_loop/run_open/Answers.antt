@@ -6,7 +6,7 @@ pub returns : goal.returns
 returns g c = record {
   first = c.now-moment.result;
   between = g.C.Clock.moments c.now-moment.new.self;
-  tells = c.now-moment.ensures;
+  reports = c.now-moment.ensures;
   turns = turns_after_asking (texts c.args.settings.now.host_names.now) g.B.Books.ledger c.now-moment.result _ _ c.args.office.now c.site.new.self
       c.run_from.new.office c.site.result c.site.ensures.asks c.run_from.ensures;
 }

@@ -2,7 +2,7 @@ use Rattle.std.proofs.Common.{◌≡◌, ◌+◌, ◌*◌, ◌++◌, List, lengt
 use Rattle.office_books.specs.declared.entries.MeterEntry.{MeterEntry}
 use Rattle.run_http.specs.Voids.{voided_in}
 use Rattle.office_core.proofs.SeveralAsked.{asked, goes_on, kept_on, unasked}
-use Rattle.run_http.proofs.ReplyLemmas.Voids.{AreKept, more_kept, no_room, refused, told}
+use Rattle.run_http.proofs.ReplyLemmas.Voids.{AreKept, more_kept, no_room, refused, reported}
 use Rattle.run_http.proofs.voids.ask_voids.Goals as goal
 
 pub loop-turn-init : goal.loop-turn-init
@@ -20,7 +20,7 @@ returns-in-Err g c =
 pub returns-then-len-lt65536 : goal.returns-then-len-lt65536
 returns-then-len-lt65536 g c =
     let same : length c.deref.result.now ≡ length c.in-Ok.piece.items = ap length c.deref.ensures.value in
-    told g.B.Books.ledger c.args.office.now c.loop-turn.office c.entries.new.self c.args.meter.now (c.loop-turn.turn * 65536) c.loop-turn.kept.items
+    reported g.B.Books.ledger c.args.office.now c.loop-turn.office c.entries.new.self c.args.meter.now (c.loop-turn.turn * 65536) c.loop-turn.kept.items
     c.in-Ok.piece c.keep_voided.new.kept c.loop-turn.invariant.keeps c.loop-turn.invariant.are c.in-Ok.ensures.asks c.in-Ok.ensures.listed
     (c.in_ok-keep_voided-in-Ok.ensures ∙ ap (λ (piece : List MeterEntry). c.loop-turn.kept.items ++ voided_in piece) c.deref.ensures.value)
     (omega (arith, same, c.len.ensures, c.deref.ensures.len, c.if-len-lt65536.true))

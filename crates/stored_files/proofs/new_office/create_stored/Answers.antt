@@ -1,4 +1,4 @@
-use Rattle.stored_files.proofs.Told.{not_both, same_fault}
+use Rattle.stored_files.proofs.Reported.{not_both, same_fault}
 use Rattle.stored_files.proofs.new_office.create_stored.Goals as goal
 
 pub returns-in-Ok-clause-no_zone : goal.returns-in-Ok-clause-no_zone
@@ -10,7 +10,7 @@ returns-clause-no_zone g c = λ idle none other. same_fault _ _ (c.in-Err.ensure
 pub returns-in-Ok-clause-made : goal.returns-in-Ok-clause-made
 returns-in-Ok-clause-made g c = record {
   made = c.in-Ok.field-0.connection;
-  told = c.in-Ok.field-0.zone;
+  reported = c.in-Ok.field-0.zone;
   does = c.in-Ok.ensures.does;
   none = c.in-Ok.ensures.none;
 }

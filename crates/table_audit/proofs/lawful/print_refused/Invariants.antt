@@ -6,6 +6,6 @@ use Rattle.table_audit.proofs.lawful.print_refused.Given as goal
 abbrev pub invariant-loop-index : goal.invariant-loop-index
 invariant-loop-index l = record {
   sound : IsSoundProgress l.meter l.progress;
-  told : 0 < length l.found.first.items;
+  reported : 0 < length l.found.first.items;
   few : length l.found.first.items ≤ MOST;
 }

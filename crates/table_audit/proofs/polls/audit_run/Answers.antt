@@ -1,10 +1,10 @@
 use Rattle.table_audit.specs.PollShowing.{AreRowsOfRun}
-use Rattle.table_audit.specs.Polls.{TellsRun}
+use Rattle.table_audit.specs.Polls.{ReportsRun}
 use Rattle.table_audit.proofs.Looking.{made}
 use Rattle.table_audit.proofs.polls.audit_run.Goals as goal
 
 pub returns-in-Ok-clause-finds : goal.returns-in-Ok-clause-finds
 returns-in-Ok-clause-finds g c =
     made g.S.Store c.args.conn.now c.run_rows.new.conn c.in_ok-rows.rows c.in-Ok.goes_on (AreRowsOfRun c.args.run)
-    (TellsRun c.args.run c.args.last c.args.findings.now c.audit_rows_of.new.findings) c.in_ok-rows.ensures
-    (λ content theirs. record { rows = c.in_ok-rows.rows; theirs = theirs; told = c.in-Ok.ensures.told; stops = c.in-Ok.ensures.stops })
+    (ReportsRun c.args.run c.args.last c.args.findings.now c.audit_rows_of.new.findings) c.in_ok-rows.ensures
+    (λ content theirs. record { rows = c.in_ok-rows.rows; theirs = theirs; reported = c.in-Ok.ensures.reported; stops = c.in-Ok.ensures.stops })

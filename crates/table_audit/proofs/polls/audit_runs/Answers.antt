@@ -1,5 +1,5 @@
 use Rattle.std.proofs.Common.{rules, ◌≡◌, ◌+◌, false, Ok, Err, arith}
-use Rattle.table_audit.specs.Polls.{TellsRun, TellsRuns}
+use Rattle.table_audit.specs.Polls.{ReportsRun, ReportsRuns}
 use Rattle.table_audit.proofs.Looking.{known, finds_then, passed_on, made}
 use Rattle.table_audit.proofs.PollRuns.{IsSoFar, none_yet, one_more, up_to_stop, all_runs, runs_reach, runs_few}
 use Rattle.table_audit.proofs.polls.audit_runs.Goals as goal
@@ -22,7 +22,7 @@ loop-run-preserved g c = record {
       (λ content _. IsSoFar c.args.last (c.loop-run.run + 1) c.args.findings.now c.audit_run.new.findings content)
       (finds_then g.S.Store c.args.conn.now c.loop-run.conn c.audit_run.new.conn c.args.last (Ok c.in_ok-goes_on.goes_on) _ _
       (λ content b. IsSoFar c.args.last c.loop-run.run c.args.findings.now c.loop-run.findings content
-      × TellsRun c.loop-run.run c.args.last c.loop-run.findings c.audit_run.new.findings content b)
+      × ReportsRun c.loop-run.run c.args.last c.loop-run.findings c.audit_run.new.findings content b)
       c.loop-run.invariant.finds c.in_ok-goes_on.ensures.finds (λ content b before one. (before, one)))
       (λ content h. one_more c.args.last c.loop-run.run c.args.findings.now c.loop-run.findings c.audit_run.new.findings content c.in_ok-goes_on.goes_on h.0 h.1);
   few = c.in_ok-goes_on.ensures.few;
@@ -32,7 +32,7 @@ pub returns-in_err-goes_on-clause-finds : goal.returns-in_err-goes_on-clause-fin
 returns-in_err-goes_on-clause-finds g c =
     passed_on g.S.Store c.args.conn.now c.audit_run.new.conn c.in_err-goes_on.field-0.0 c.from_residual.result _ _
     (finds_then g.S.Store c.args.conn.now c.loop-run.conn c.audit_run.new.conn c.args.last (Err c.in_err-goes_on.field-0.0) _ _
-    (λ content b. TellsRun c.loop-run.run c.args.last c.loop-run.findings c.audit_run.new.findings content b)
+    (λ content b. ReportsRun c.loop-run.run c.args.last c.loop-run.findings c.audit_run.new.findings content b)
     c.loop-run.invariant.finds c.in_err-goes_on.ensures.finds (λ content b before one. one))
     c.from_residual.ensures.1
 
@@ -40,16 +40,16 @@ pub returns-then-not-goes_on-clause-finds : goal.returns-then-not-goes_on-clause
 returns-then-not-goes_on-clause-finds g c =
     let stopped : c.in_ok-goes_on.goes_on ≡ false = search rules in
     made g.S.Store c.args.conn.now c.audit_run.new.conn c.in_ok-goes_on.goes_on _ _
-    (λ content _. TellsRuns c.args.last c.args.findings.now c.audit_run.new.findings content)
+    (λ content _. ReportsRuns c.args.last c.args.findings.now c.audit_run.new.findings content)
     (finds_then g.S.Store c.args.conn.now c.loop-run.conn c.audit_run.new.conn c.args.last (Ok c.in_ok-goes_on.goes_on) _ _
     (λ content b. IsSoFar c.args.last c.loop-run.run c.args.findings.now c.loop-run.findings content
-    × TellsRun c.loop-run.run c.args.last c.loop-run.findings c.audit_run.new.findings content b)
+    × ReportsRun c.loop-run.run c.args.last c.loop-run.findings c.audit_run.new.findings content b)
     c.loop-run.invariant.finds c.in_ok-goes_on.ensures.finds (λ content b before one. (before, one)))
     (λ content h. up_to_stop c.args.last c.loop-run.run c.args.findings.now c.loop-run.findings c.audit_run.new.findings content c.in_ok-goes_on.goes_on h.0 h.1 stopped)
 
 pub returns-clause-finds : goal.returns-clause-finds
 returns-clause-finds g c =
     let reach = runs_reach c.args.last c.div_ceil-runs.result c.div_ceil-runs.ensures in
-    made g.S.Store c.args.conn.now c.loop-run.conn c.args.last _ _ (λ content _. TellsRuns c.args.last c.args.findings.now c.loop-run.findings content)
+    made g.S.Store c.args.conn.now c.loop-run.conn c.args.last _ _ (λ content _. ReportsRuns c.args.last c.args.findings.now c.loop-run.findings content)
     c.loop-run.invariant.finds
     (λ content before. all_runs c.args.last c.loop-run.run c.args.findings.now c.loop-run.findings content before (omega (arith, reach)))

@@ -1,8 +1,8 @@
 use Rattle.std.proofs.Common.{rules, ◌≡◌, ℕ, List, subst}
 use Rattle.table_audit.proofs.Looking.{made, passed_on}
-use Rattle.table_seals.specs.PollSealing.{TellsPolls, DigestsPolls}
+use Rattle.table_seals.specs.PollSealing.{ReportsPolls, DigestsPolls}
 use Rattle.table_seals.specs.Sealed.{sealed_polls_of}
-use Rattle.table_seals.proofs.PollFound.{tells_kept}
+use Rattle.table_seals.proofs.PollFound.{reports_kept}
 use Rattle.table_seals.proofs.poll_sealing.check_polls.Goals as goal
 
 pub returns-in_err-found : goal.returns-in_err-found
@@ -13,7 +13,7 @@ returns-in_err-found g c =
 pub returns : goal.returns
 returns g c =
     let same : c.as_slice.result.now ≡ c.args.seal.now.pending.items = search rules in
-    made g.S.Store c.args.conn.now c.digest_polls.new.conn c.in_ok-found.found c.differ.result _ (TellsPolls (sealed_polls_of c.args.seal.now))
+    made g.S.Store c.args.conn.now c.digest_polls.new.conn c.in_ok-found.found c.differ.result _ (ReportsPolls (sealed_polls_of c.args.seal.now))
     c.in_ok-found.ensures.finds
-    (λ content h. tells_kept content c.in_ok-found.found (sealed_polls_of c.args.seal.now) c.differ.result c.differ.ensures
+    (λ content h. reports_kept content c.in_ok-found.found (sealed_polls_of c.args.seal.now) c.differ.result c.differ.ensures
     (subst (λ (xs : List ℕ). DigestsPolls c.args.seal.now.count xs content c.in_ok-found.found) same h))

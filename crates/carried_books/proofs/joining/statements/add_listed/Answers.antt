@@ -6,15 +6,15 @@ use Rattle.office_events.specs.declared.questions.Installation.{Installation}
 use Rattle.office_books.proofs.Handing.{takes_more}
 use Rattle.office_books.proofs.Moving.{consults_then, passes_well}
 use Rattle.carried_books.specs.Joining.Meters.{AddMeters, AddsMeter}
-use Rattle.carried_books.specs.Joining.Statements.{TellsAll, stands_of}
+use Rattle.carried_books.specs.Joining.Statements.{ReportsAll, stands_of}
 use Rattle.carried_books.proofs.JoiningLemmas.Meters.{apart_among, joined_one}
-use Rattle.carried_books.proofs.JoiningLemmas.Statements.{told_all, told_apart, told_none}
+use Rattle.carried_books.proofs.JoiningLemmas.Statements.{reported_all, reported_apart, reported_none}
 use Rattle.carried_books.proofs.joining.statements.add_listed.Goals as goal
 
 pub loop-row-init : goal.loop-row-init
 loop-row-init g c = record {
   joins = refl;
-  tells = λ facts holds clean. told_none c.args.zone.now c.args.range.now facts c.args.known.now.items;
+  reports = λ facts holds clean. reported_none c.args.zone.now c.args.range.now facts c.args.known.now.items;
   reads = record { goes = record { clean = λ is. is; faults = refl; zone = refl }; keeps = record { facts = λ known holds. holds; left = λ left may. may } };
 }
 
@@ -28,9 +28,9 @@ returns-then-is_some-clause-joins g c =
     (sym c.is_some.ensures ∙ c.if-is_some.true) i refl c.loop-row.invariant.joins
     (subst (Contains listed) (sym c.row-item.is) (All-contains_itself listed i row c.loop-row-test.true)) c.in_ok-apart.ensures.joins
 
-pub returns-then-is_some-clause-tells : goal.returns-then-is_some-clause-tells
-returns-then-is_some-clause-tells g c facts holds clean =
-    told_apart c.args.zone.now c.args.range.now facts c.args.listed.now c.args.known.now.items c.add_row.new.known.items c.in_ok-apart.apart
+pub returns-then-is_some-clause-reports : goal.returns-then-is_some-clause-reports
+returns-then-is_some-clause-reports g c facts holds clean =
+    reported_apart c.args.zone.now c.args.range.now facts c.args.listed.now c.args.known.now.items c.add_row.new.known.items c.in_ok-apart.apart
     (sym c.is_some.ensures ∙ c.if-is_some.true)
 
 pub loop-row-preserved : goal.loop-row-preserved
@@ -56,10 +56,10 @@ loop-row-preserved g c =
       joins = subst (λ (rows : List Installation). AddMeters (map stands_of was) rows (map stands_of has)) (sym same)
           (takes_more AddsMeter (map stands_of was) (map stands_of had) (map stands_of has) before row c.loop-row.invariant.joins
           (joined_one (map stands_of had) row (map stands_of has) apart joined c.in_ok-apart.ensures.joins));
-      tells = λ facts holds clean.
+      reports = λ facts holds clean.
           let mid = c.loop-row.invariant.reads.keeps.facts facts holds in
-          subst (λ (rows : List Installation). TellsAll zone range facts rows was has None) (sym same)
-          (told_all zone range facts before row was had has apart joined (c.loop-row.invariant.tells facts holds (reads.goes.clean clean))
-          (c.in_ok-apart.ensures.tells facts mid clean));
+          subst (λ (rows : List Installation). ReportsAll zone range facts rows was has None) (sym same)
+          (reported_all zone range facts before row was had has apart joined (c.loop-row.invariant.reports facts holds (reads.goes.clean clean))
+          (c.in_ok-apart.ensures.reports facts mid clean));
       reads = consults_then a b d tt (Ok tt) c.loop-row.invariant.reads (record { goes = passes_well b d apart tt reads.goes; keeps = reads.keeps });
     }

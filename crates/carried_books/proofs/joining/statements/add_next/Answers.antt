@@ -3,8 +3,8 @@ use Rattle.std.specs.Option.{option_map}
 use Rattle.carried_books.specs.Joining.Meters.{is_before}
 use Rattle.carried_books.specs.Joining.Statements.{stands_of}
 use Rattle.carried_books.specs.declared.joining.kept_meters.KeptMeter.{KeptMeter}
-use Rattle.carried_books.proofs.JoiningLemmas.KeptMeters.{tells_first}
-use Rattle.carried_books.proofs.JoiningLemmas.Statements.{comes_after_told, stand_earlier, stands_apart, stands_next}
+use Rattle.carried_books.proofs.JoiningLemmas.KeptMeters.{reports_first}
+use Rattle.carried_books.proofs.JoiningLemmas.Statements.{comes_after_reported, stand_earlier, stands_apart, stands_next}
 use Rattle.carried_books.proofs.joining.statements.add_next.Goals as goal
 
 pub returns-in-Some-clause-joins : goal.returns-in-Some-clause-joins
@@ -24,14 +24,14 @@ returns-in_ok-push-in-None-clause-joins g c =
     ∙ sym c.not_before.ensures ∙ c.in-None.is))
     c.in_ok-push-in-None.ensures.items refl
 
-pub returns-in_ok-push-in-None-clause-tells : goal.returns-in_ok-push-in-None-clause-tells
-returns-in_ok-push-in-None-clause-tells g c facts holds clean =
+pub returns-in_ok-push-in-None-clause-reports : goal.returns-in_ok-push-in-None-clause-reports
+returns-in_ok-push-in-None-clause-reports g c facts holds clean =
     let zone = c.args.zone.now in
     let range = c.args.range.now in
     let row = c.args.row.now in
-    comes_after_told zone range facts row _ c.args.known.now.items c.push.new.self.items
+    comes_after_reported zone range facts row _ c.args.known.now.items c.push.new.self.items
     (stand_earlier row c.args.known.now.items
     (ap (λ (known : List KeptMeter). option_map stands_of (find (λ one. not (is_before one.stands row)) known)) (sym c.as_slice.ensures.value)
     ∙ sym c.not_before.ensures ∙ c.in-None.is))
-    (tells_first zone range facts row _ c.new-none.result (c.new-none.ensures.none zone range) refl (c.in_ok-told-in-None.ensures.found facts holds clean))
+    (reports_first zone range facts row _ c.new-none.result (c.new-none.ensures.none zone range) refl (c.in_ok-reported-in-None.ensures.found facts holds clean))
     c.in_ok-push-in-None.ensures.items

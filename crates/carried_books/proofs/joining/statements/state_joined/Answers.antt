@@ -1,7 +1,7 @@
 use Rattle.std.proofs.Common.{ap, ◌∙◌}
 use Rattle.energy_report.specs.StatementTexts.{statement_text}
 use Rattle.carried_books.specs.Joining.Statements.{rows_of_those}
-use Rattle.carried_books.proofs.JoiningLemmas.Statements.{rows_told}
+use Rattle.carried_books.proofs.JoiningLemmas.Statements.{rows_reported}
 use Rattle.carried_books.proofs.joining.statements.state_joined.Goals as goal
 
 pub returns-clause-states : goal.returns-clause-states
@@ -15,7 +15,7 @@ returns-clause-states g c = λ zone register files has.
         has.are,
         ap (statement_text form)
             (c.in_ok-rows.ensures ∙ ap (λ its. rows_of_those its form.range c.deref.result.now) has.zone_is ∙ ap (rows_of_those zone form.range) c.deref.ensures.value
-            ∙ rows_told zone form.range c.args.joined.now.meters.items has.meters has.told),
+            ∙ rows_reported zone form.range c.args.joined.now.meters.items has.meters has.reported),
       );
-      told = rw c.deref-2.ensures.value at c.print_rows.ensures;
+      reported = rw c.deref-2.ensures.value at c.print_rows.ensures;
     }

@@ -1,6 +1,6 @@
 use Rattle.std.proofs.Common.{◌≡◌, ℕ, ◌+◌, ◌*◌, ◌^◌, ◌<◌, ◌≤◌, List, true, false}
 use Rattle.mb_device.specs.Tricks.{Course}
-use Rattle.mb_device.specs.Server.{Holds, Served, TellsTake, around, is_serving}
+use Rattle.mb_device.specs.Server.{Holds, Served, ReportsTake, around, is_serving}
 use Rattle.mb_device.proofs.server.Server.serve.Given as goal
 
 abbrev pub invariant-loop-turn : goal.invariant-loop-turn
@@ -11,7 +11,7 @@ invariant-loop-turn g l = record {
       l.self;
   serving : is_serving l.self ≡ true;
   from_serving : is_serving l.fn.self ≡ true;
-  going : 1 ≤ l._turn → TellsTake false false (g.L.Link.last l.link);
+  going : 1 ≤ l._turn → ReportsTake false false (g.L.Link.last l.link);
   few : l.answered ≤ 260 * l._turn;
   failures : g.L.Link.failed l.link ≡ g.L.Link.failed l.fn.link;
   ends : g.L.Link.ended l.link ≡ g.L.Link.ended l.fn.link;

@@ -25,7 +25,7 @@ returns-clause-quiet g c = λ past next settles.
     let booked = c.in_ok-write_records.ensures.quiet (ap (λ (d : PendingWrite). d.facts.items) quiet.draft ∙ c.new-draft.ensures.facts) in
     record {
       ok = refl;
-      told = ap (λ (d : PendingWrite). d.notes.items) quiet.draft ∙ c.new-draft.ensures.notes;
+      reported = ap (λ (d : PendingWrite). d.notes.items) quiet.draft ∙ c.new-draft.ensures.notes;
       books = booked.1 ∙ quiet.books;
     }
 

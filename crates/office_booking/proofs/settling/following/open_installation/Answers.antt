@@ -6,19 +6,19 @@ use Rattle.office_booking.proofs.SettlingLemmas.Overlays.{none_open, open_after}
 use Rattle.office_booking.proofs.settling.following.open_installation.Goals as goal
 
 pub returns-in_default-clause-found : goal.returns-in_default-clause-found
-returns-in_default-clause-found g c = λ known h clean told lawful.
-    none_open c.args.draft.now.facts.items known c.args.register.now told (sym c.in_default.is ∙ c.in_ok-booked.ensures.found known h clean)
+returns-in_default-clause-found g c = λ known h clean reported lawful.
+    none_open c.args.draft.now.facts.items known c.args.register.now reported (sym c.in_default.is ∙ c.in_ok-booked.ensures.found known h clean)
 
 pub returns-then-row-clause-found : goal.returns-then-row-clause-found
-returns-then-row-clause-found g c = λ known h clean told lawful.
+returns-then-row-clause-found g c = λ known h clean reported lawful.
     sym (cond-true _ None (Some c.with_facts-row.result) c.if-row.true)
-    ∙ open_after c.args.draft.now.facts.items known c.args.register.now c.in-Some.booked c.with_facts-row.result told lawful
+    ∙ open_after c.args.draft.now.facts.items known c.args.register.now c.in-Some.booked c.with_facts-row.result reported lawful
     (subst (λ (fs : List Fact). IsAfterFacts c.in-Some.booked fs c.with_facts-row.result) c.deref.ensures.value c.with_facts-row.ensures.following)
     (sym c.in-Some.is ∙ c.in_ok-booked.ensures.found known h clean)
 
 pub returns-clause-found : goal.returns-clause-found
-returns-clause-found g c = λ known h clean told lawful.
+returns-clause-found g c = λ known h clean reported lawful.
     sym (cond-false _ None (Some c.with_facts-row.result) c.if-row.false)
-    ∙ open_after c.args.draft.now.facts.items known c.args.register.now c.in-Some.booked c.with_facts-row.result told lawful
+    ∙ open_after c.args.draft.now.facts.items known c.args.register.now c.in-Some.booked c.with_facts-row.result reported lawful
     (subst (λ (fs : List Fact). IsAfterFacts c.in-Some.booked fs c.with_facts-row.result) c.deref.ensures.value c.with_facts-row.ensures.following)
     (sym c.in-Some.is ∙ c.in_ok-booked.ensures.found known h clean)

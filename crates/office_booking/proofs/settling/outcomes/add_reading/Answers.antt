@@ -14,7 +14,7 @@ returns-clause-adds g c =
     on_ok_weaker c.add_judged.result
     (λ more. read_at _ _ c.args.at c.args.poll.now _ c.args.register.now c.args.draft.now c.add_judged.new.draft c.in-Some.row
     (sym c.is_read_by.ensures ∙ c.if-not-is_read_by.false)
-    (λ known h clean told lawful. sym c.in-Some.is ∙ c.in_ok-row.ensures.found known h clean told lawful)
+    (λ known h clean reported lawful. sym c.in-Some.is ∙ c.in_ok-row.ensures.found known h clean reported lawful)
     (subst (λ (r : Reading). HasMore c.args.draft.now c.add_judged.new.draft (reading_fact c.args.poll.now.number r c.in-Some.row) (reading_note r c.in-Some.row))
     c.reading_of-reading.ensures more))
     c.add_judged.ensures.ok

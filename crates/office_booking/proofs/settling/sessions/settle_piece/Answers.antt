@@ -5,8 +5,8 @@ use Rattle.office_books.proofs.Moving.{consults_then}
 use Rattle.office_booking.proofs.Consulting.{reads_failed}
 use Rattle.office_booking.proofs.settling.sessions.settle_piece.Goals as goal
 
-pub returns-in-None-clause-tells : goal.returns-in-None-clause-tells
-returns-in-None-clause-tells g c = λ later.
+pub returns-in-None-clause-reports : goal.returns-in-None-clause-reports
+returns-in-None-clause-reports g c = λ later.
     let after = rw (c.in-Ok.is, c.in-None.is) at c.next.follows.holds-at-none in
     ends _ _ _ _ _ _ _ _ _ _ _ c.turns.invariant.1 refl
     (called_by_whole _ _ c.args.moment c.turns.taken c.in-Ok.turn.taken c.args.piece.now _ c.turns.invariant.0

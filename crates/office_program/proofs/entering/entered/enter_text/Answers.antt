@@ -2,7 +2,7 @@ use Rattle.std.proofs.Common.{refl, ◌∙◌}
 use Rattle.command_io.specs.Lines.{seen_line, speaking_lines}
 use Rattle.office_rounds.specs.Between.{desk_of}
 use Rattle.office_program.specs.Entering.Course.{history_with}
-use Rattle.office_program.specs.Entering.Lines.{telling_of}
+use Rattle.office_program.specs.Entering.Lines.{reporting_of}
 use Rattle.office_program.proofs.EnteringLemmas.Course.{begins, ends_early, ends_whole, one_more}
 use Rattle.office_program.proofs.entering.entered.enter_text.Goals as goal
 
@@ -10,7 +10,7 @@ pub loop-line-init : goal.loop-line-init
 loop-line-init g c = (
   record { clean = λ clean. clean; zone = refl },
   λ past stands clean.
-      begins g.B.Books.ledger (telling_of g.F.NamedFiles c.args.files.now) c.args.caller.now (speaking_lines c.args.text.now) c.new-lines.result past c.args.first
+      begins g.B.Books.ledger (reporting_of g.F.NamedFiles c.args.files.now) c.args.caller.now (speaking_lines c.args.text.now) c.new-lines.result past c.args.first
       (desk_of g.B.Books g.C.Clock g.W.Write c.args.office.now c.args.clock.now c.args.output.now) c.from-progress.result c.args.office.now stands c.new-lines.ensures
       c.from-progress.ensures,
 )
@@ -22,7 +22,7 @@ loop-line-preserved g c =
       record { clean = λ clean. was.0.clean (lasts.clean clean); zone = lasts.zone ∙ was.0.zone },
       λ past stands clean.
           let under = was.1 past stands (lasts.clean clean) in
-          one_more g.B.Books.ledger (telling_of g.F.NamedFiles c.args.files.now) c.args.caller.now (speaking_lines c.args.text.now) c.loop-line.lines c.next_line.new.self past
+          one_more g.B.Books.ledger (reporting_of g.F.NamedFiles c.args.files.now) c.args.caller.now (speaking_lines c.args.text.now) c.loop-line.lines c.next_line.new.self past
           c.args.first (desk_of g.B.Books g.C.Clock g.W.Write c.args.office.now c.args.clock.now c.args.output.now)
           (desk_of g.B.Books g.C.Clock g.W.Write c.loop-line.office c.loop-line.clock c.loop-line.output)
           (desk_of g.B.Books g.C.Clock g.W.Write c.enter_line.new.office c.enter_line.new.clock c.enter_line.new.output) c.loop-line.progress c.in-Ok.next
@@ -35,7 +35,7 @@ returns-in-Err-clause-enters g c = λ past stands clean.
     let was = c.loop-line.invariant in
     let lasts = c.in-Err.ensures.lasts in
     let under = was.1 past stands (lasts.clean clean) in
-    ends_early g.B.Books.ledger (telling_of g.F.NamedFiles c.args.files.now) c.args.caller.now (speaking_lines c.args.text.now) c.loop-line.lines c.next_line.new.self past
+    ends_early g.B.Books.ledger (reporting_of g.F.NamedFiles c.args.files.now) c.args.caller.now (speaking_lines c.args.text.now) c.loop-line.lines c.next_line.new.self past
     c.args.first (desk_of g.B.Books g.C.Clock g.W.Write c.args.office.now c.args.clock.now c.args.output.now)
     (desk_of g.B.Books g.C.Clock g.W.Write c.loop-line.office c.loop-line.clock c.loop-line.output)
     (desk_of g.B.Books g.C.Clock g.W.Write c.enter_line.new.office c.enter_line.new.clock c.enter_line.new.output) c.loop-line.progress
@@ -50,7 +50,7 @@ returns-in-Err-clause-lasts g c =
 
 pub returns-clause-enters : goal.returns-clause-enters
 returns-clause-enters g c = λ past stands clean.
-    ends_whole g.B.Books.ledger (telling_of g.F.NamedFiles c.args.files.now) c.args.caller.now (speaking_lines c.args.text.now) c.loop-line.lines past
+    ends_whole g.B.Books.ledger (reporting_of g.F.NamedFiles c.args.files.now) c.args.caller.now (speaking_lines c.args.text.now) c.loop-line.lines past
     c.args.first (desk_of g.B.Books g.C.Clock g.W.Write c.args.office.now c.args.clock.now c.args.output.now)
     (desk_of g.B.Books g.C.Clock g.W.Write c.loop-line.office c.loop-line.clock c.loop-line.output) c.loop-line.progress c.loop-line.office c.status.result
     (c.loop-line.invariant.1 past stands clean) c.in_default.ensures.0 c.status.ensures

@@ -2,7 +2,7 @@ use Rattle.std.proofs.Common.{◌≡◌, inl, List, ℕ, Option, ap, sym, ◌∙
 use Rattle.std.specs.Option.{option_and_then}
 use Rattle.office_rules.specs.History.{facts_of}
 use Rattle.office_books.specs.Repeats.{repeat_of}
-use Rattle.office_program.specs.Entering.Lines.{telling_of}
+use Rattle.office_program.specs.Entering.Lines.{reporting_of}
 use Rattle.office_program.proofs.EnteringLemmas.Doubts.{row_failed, row_found, row_missing}
 use Rattle.office_program.proofs.EnteringLemmas.Reading.{filled, kept_read}
 use Rattle.office_program.proofs.entering.reading.shown_for.Goals as goal
@@ -13,7 +13,7 @@ returns-in-Ok-clause-fills g c = λ past stands clean.
     let found = row_found _ _ _ _ (c.in-Ok.ensures.found past stands clean) in
     let kept = sym (ap (λ (bytes : List ℕ). option_and_then (λ name. repeat_of (facts_of past) name c.number-number.result bytes) read.caller) c.as_slice.ensures
     ∙ ap (λ (n : ℕ). option_and_then (λ name. repeat_of (facts_of past) name n read.request) read.caller) c.number-number.ensures) ∙ found.0 in
-    record { stands = c.in-Ok.ensures.asks.stands past stands; told = (inl (kept_read (facts_of past) read _ kept), found.1) }
+    record { stands = c.in-Ok.ensures.asks.stands past stands; reported = (inl (kept_read (facts_of past) read _ kept), found.1) }
 
 pub returns-in-NotFound-clause-fills : goal.returns-in-NotFound-clause-fills
 returns-in-NotFound-clause-fills g c = λ past stands clean.
@@ -22,7 +22,7 @@ returns-in-NotFound-clause-fills g c = λ past stands clean.
     let none = row_missing _ _ _ c.in-Err.why c.in-NotFound.is (c.in-Err.ensures.found past stands was) in
     let new = sym (ap (λ (bytes : List ℕ). option_and_then (λ name. repeat_of (facts_of past) name c.number-number.result bytes) read.caller) c.as_slice.ensures
     ∙ ap (λ (n : ℕ). option_and_then (λ name. repeat_of (facts_of past) name n read.request) read.caller) c.number-number.ensures) ∙ none.0 in
-    filled g.B.Books.ledger (telling_of g.F.NamedFiles c.args.files.now) read c.register.result past _ _ _ c.shown_there.new.office c.shown_there.result new c.register.ensures
+    filled g.B.Books.ledger (reporting_of g.F.NamedFiles c.args.files.now) read c.register.result past _ _ _ c.shown_there.new.office c.shown_there.result new c.register.ensures
     none.1 (c.shown_there.ensures.reads past (c.in-Err.ensures.asks.stands past stands) clean)
 
 pub returns-in-NotFound-clause-lasts : goal.returns-in-NotFound-clause-lasts
@@ -35,5 +35,5 @@ pub returns-in_default-clause-fills : goal.returns-in_default-clause-fills
 returns-in_default-clause-fills g c = λ past stands clean.
     record {
       stands = c.in-Err.ensures.asks.stands past stands;
-      told = row_failed _ _ _ c.in-Err.why c.in_default.not-NotFound (c.in-Err.ensures.found past stands clean);
+      reported = row_failed _ _ _ c.in-Err.why c.in_default.not-NotFound (c.in-Err.ensures.found past stands clean);
     }

@@ -6,10 +6,10 @@ use Rattle.office_program.proofs.texts.ranged_report.report_range.Goals as goal
 
 pub returns-clause-prints : goal.returns-clause-prints
 returns-clause-prints g c = λ past stands clean.
-    let hands = c.days_within-told.ensures.days past stands clean in
-    let reply = c.days_within-told.result in
+    let hands = c.days_within-reported.ensures.days past stands clean in
+    let reply = c.days_within-reported.result in
     let from = c.to-rows.result in
-    let to = c.days_within-told.new.sink in
+    let to = c.days_within-reported.new.sink in
     let left = c.print_rest.new.rows in
     let zone = (g.B.Books.ledger (books_in c.args.office.now)).zone in
     let taken = same_writer g.W.Write.contents zone past c.args.register.now c.args.form.now.range _ _ from to reply hands in
@@ -22,5 +22,5 @@ returns-clause-prints g c = λ past stands clean.
       text = shown.0;
       meant = meant_by reply;
       prints = record { reply = reply; answer = hands.answer; is = shown.1; means = refl };
-      told = rw end shown.2;
+      reported = rw end shown.2;
     }

@@ -11,8 +11,8 @@ returns-in-Ok-clause-prints g c = λ past stands clean.
     record {
       text = statement_text form rows;
       meant = Fine;
-      prints = record { reply = Ok rows; answer = c.in-Ok.ensures.tells past stands clean; is = refl; means = refl };
-      told = written_so c.write_statement-written.result (statement_text form rows) Fine c.ended.result _ _ c.ended.ensures
+      prints = record { reply = Ok rows; answer = c.in-Ok.ensures.reports past stands clean; is = refl; means = refl };
+      reported = written_so c.write_statement-written.result (statement_text form rows) Fine c.ended.result _ _ c.ended.ensures
           (rw c.deref.ensures.value at c.write_statement-written.ensures);
     }
 

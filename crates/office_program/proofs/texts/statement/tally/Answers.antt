@@ -2,7 +2,7 @@ use Rattle.std.proofs.Common.{◌≡◌, ◌+◌, ◌*◌, ◌++◌, List, lengt
 use Rattle.energy_report.specs.Statements.{tally_of}
 use Rattle.office_books.specs.declared.entries.MeterEntry.{MeterEntry}
 use Rattle.office_core.proofs.SeveralAsked.{asked, goes_on, kept_on, unasked}
-use Rattle.office_program.proofs.StatementLemmas.{IsTallied, tally_more, tally_told}
+use Rattle.office_program.proofs.StatementLemmas.{IsTallied, tally_more, tally_reported}
 use Rattle.office_program.proofs.texts.statement.tally.Goals as goal
 
 pub loop-turn-init : goal.loop-turn-init
@@ -12,13 +12,13 @@ loop-turn-init g c = record {
   going = λ lt. absurd (omega (arith, lt));
 }
 
-pub returns-then-len-lt65536-clause-tells : goal.returns-then-len-lt65536-clause-tells
-returns-then-len-lt65536-clause-tells g c =
+pub returns-then-len-lt65536-clause-reports : goal.returns-then-len-lt65536-clause-reports
+returns-then-len-lt65536-clause-reports g c =
     let ledger = g.B.Books.ledger in
     let zone = c.args.zone.now in
     let range = c.args.range.now in
     let same : length c.deref.result.now ≡ length c.in-Ok.piece.items = ap length c.deref.ensures.value in
-    tally_told ledger zone range c.args.office.now c.loop-turn.office c.entries.new.self c.args.meter.now (c.loop-turn.turn * 65536) c.loop-turn.tally
+    tally_reported ledger zone range c.args.office.now c.loop-turn.office c.entries.new.self c.args.meter.now (c.loop-turn.turn * 65536) c.loop-turn.tally
     c.take_all.new.self c.in-Ok.piece c.loop-turn.invariant.kept c.loop-turn.invariant.tallied c.in-Ok.ensures.asks c.in-Ok.ensures.listed
     (λ before is.
     subst (λ (es : List MeterEntry). c.take_all.new.self ≡ tally_of zone range (before ++ es)) c.deref.ensures.value (c.take_all.ensures before is))

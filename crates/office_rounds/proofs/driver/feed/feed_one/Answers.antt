@@ -12,6 +12,6 @@ returns-clause-feeds g c =
     (λ past stands clean. (
       c.feed-answer.ensures.stands past stands clean,
       c.feed-answer.ensures.answers past stands clean,
-      c.feed-answer.ensures.told past stands clean,
+      c.feed-answer.ensures.reported past stands clean,
     ))
     c.answer_for.ensures c.apply_notes_to_all.ensures c.notes-notes.ensures c.outgoing-frames.ensures c.observe.ensures

@@ -5,7 +5,7 @@ use Rattle.store_tables.specs.Meters.Rows.{IsInstalled, IsSoundInstalled, instal
 use Rattle.store_tables.specs.Meters.Trees as tree
 use Rattle.office_store.specs.Bookings.Places.{StandsThere}
 use Rattle.office_store.proofs.BookingsLemmas.Leaving.{no_answer}
-use Rattle.office_store.proofs.BookingsLemmas.Seen.{asked_refused, asked_stopped, seen_told}
+use Rattle.office_store.proofs.BookingsLemmas.Seen.{asked_refused, asked_stopped, seen_reported}
 use Rattle.office_store.proofs.bookings.meter_state.last_of.Goals as goal
 
 pub returns-in_err-rows-clause-does : goal.returns-in_err-rows-clause-does
@@ -21,6 +21,6 @@ returns-in_err-found-in-Some-clause-does g c =
 
 pub returns-clause-does : goal.returns-clause-does
 returns-clause-does g c =
-    seen_told (is_meter c.args.meter.now) installed_shown g.S.Store c.args.tx.now.conn.now c.installation_rows.new.tx.conn.now tree.installations installed_columns c.in_ok-rows.rows c.in_ok-rows.rows.items
+    seen_reported (is_meter c.args.meter.now) installed_shown g.S.Store c.args.tx.now.conn.now c.installation_rows.new.tx.conn.now tree.installations installed_columns c.in_ok-rows.rows c.in_ok-rows.rows.items
     c.in-Some.row.now c.in_ok-found-in-Some.found c.in_ok-found-in-Some.found.row.last IsInstalled IsSoundInstalled StandsThere (λ x seen. ap (λ row. row.last) seen.row)
     c.in_ok-rows.ensures.asks c.in_ok-rows.ensures.shows (ap (λ xs. slice_get xs 0) (sym c.deref.ensures.value) ∙ (sym c.first.ensures.value ∙ ap option_copied c.in-Some.is)) c.in_ok-found-in-Some.ensures.read

@@ -10,7 +10,7 @@ use Rattle.office_store.specs.Bookings.MeterState.{IsStanding}
 use Rattle.office_store.specs.declared.bookings.meter_state.Standing.{Standing}
 use Rattle.office_store.proofs.BookingsLemmas.Leaving.{Then, broken}
 use Rattle.office_store.proofs.BookingsLemmas.Moves.{stands}
-use Rattle.store_facts.proofs.GoingLemmas.{goes_then, told_less}
+use Rattle.store_facts.proofs.GoingLemmas.{goes_then, reported_less}
 use Rattle.office_store.proofs.bookings.meter_state.standing_of.Goals as goal
 
 pub returns-in_err-last-clause-does : goal.returns-in_err-last-clause-does
@@ -41,7 +41,7 @@ returns-clause-does g c =
     let b = state g.S.Store c.next_entry.new.tx.conn.now in
     let d = state g.S.Store c.last_of.new.tx.conn.now in
     let e = state g.S.Store c.range_of.new.tx.conn.now in
-    told_less a e c.in_ok-range.range it (IsStanding meter it) (IsStanding meter it) (λ content after is. is)
+    reported_less a e c.in_ok-range.range it (IsStanding meter it) (IsStanding meter it) (λ content after is. is)
     (goes_then a d e c.in_ok-last.last (Ok c.in_ok-range.range) (Then P Q) R (IsStanding meter it)
     (goes_then a b d c.in_ok-place.place (Ok c.in_ok-last.last) P Q (Then P Q) c.in_ok-place.ensures.does c.in_ok-last.ensures.does (λ before mid after p q. (mid, p, q)))
     c.in_ok-range.ensures.does (λ before mid after p r. stands meter it before p.0 mid after p.1 p.2 r))

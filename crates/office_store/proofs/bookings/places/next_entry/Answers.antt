@@ -3,7 +3,7 @@ use Rattle.store_tables.specs.Entries.Rows.{entry_columns, entry_place, is_of}
 use Rattle.store_tables.specs.Entries.Trees as tree
 use Rattle.office_store.specs.Bookings.Places.{next_in}
 use Rattle.office_store.proofs.BookingsLemmas.Leaving.{no_answer}
-use Rattle.office_store.proofs.BookingsLemmas.NextPlaces.{next_told}
+use Rattle.office_store.proofs.BookingsLemmas.NextPlaces.{next_reported}
 use Rattle.office_store.proofs.bookings.places.next_entry.Goals as goal
 
 pub returns-in_err-rows-clause-does : goal.returns-in_err-rows-clause-does
@@ -12,5 +12,5 @@ returns-in_err-rows-clause-does g c =
 
 pub returns-clause-does : goal.returns-clause-does
 returns-clause-does g c =
-    next_told (is_of c.args.meter.now) entry_place g.S.Store c.args.tx.now.conn.now c.last_entry_rows.new.tx.conn.now tree.entries entry_columns c.in_ok-rows.rows c.in_ok-rows.rows.items c.next_place.result
+    next_reported (is_of c.args.meter.now) entry_place g.S.Store c.args.tx.now.conn.now c.last_entry_rows.new.tx.conn.now tree.entries entry_columns c.in_ok-rows.rows c.in_ok-rows.rows.items c.next_place.result
     c.in_ok-rows.ensures.asks c.in_ok-rows.ensures.shows (c.next_place.ensures.next ∙ ap next_in c.deref.ensures.value)

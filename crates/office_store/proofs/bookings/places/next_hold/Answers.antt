@@ -4,7 +4,7 @@ use Rattle.store_devices.specs.Polls.Rows.{hold_columns, hold_place}
 use Rattle.store_devices.specs.Polls.Trees as tree
 use Rattle.office_store.specs.Bookings.Places.{next_in}
 use Rattle.office_store.proofs.BookingsLemmas.Leaving.{no_answer}
-use Rattle.office_store.proofs.BookingsLemmas.NextPlaces.{next_told}
+use Rattle.office_store.proofs.BookingsLemmas.NextPlaces.{next_reported}
 use Rattle.office_store.proofs.bookings.places.next_hold.Goals as goal
 
 pub returns-in_err-rows-clause-does : goal.returns-in_err-rows-clause-does
@@ -13,5 +13,5 @@ returns-in_err-rows-clause-does g c =
 
 pub returns-clause-does : goal.returns-clause-does
 returns-clause-does g c =
-    next_told every hold_place g.S.Store c.args.tx.now.conn.now c.last_hold_rows.new.tx.conn.now tree.holds hold_columns c.in_ok-rows.rows c.in_ok-rows.rows.items c.next_place.result
+    next_reported every hold_place g.S.Store c.args.tx.now.conn.now c.last_hold_rows.new.tx.conn.now tree.holds hold_columns c.in_ok-rows.rows c.in_ok-rows.rows.items c.next_place.result
     c.in_ok-rows.ensures.asks c.in_ok-rows.ensures.shows (c.next_place.ensures.next ∙ ap next_in c.deref.ensures.value)

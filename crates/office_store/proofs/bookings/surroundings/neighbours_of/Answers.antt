@@ -1,6 +1,6 @@
 use Rattle.std.proofs.Common.{Ok}
 use Rattle.sqlite.specs.Held.{state}
-use Rattle.store_facts.proofs.GoingLemmas.{goes_then, told_less}
+use Rattle.store_facts.proofs.GoingLemmas.{goes_then, reported_less}
 use Rattle.office_store.specs.declared.bookings.surroundings.Neighbours.{Neighbours}
 use Rattle.office_store.specs.Bookings.Surroundings.{FindsEntry, FindsBefore, FindsAfter, AreNear}
 use Rattle.office_store.proofs.BookingsLemmas.Finding.{nearby}
@@ -36,7 +36,7 @@ returns-clause-does g c =
     let b = state g.S.Store c.entry_there.new.tx.conn.now in
     let d = state g.S.Store c.entry_before.new.tx.conn.now in
     let e = state g.S.Store c.entry_after.new.tx.conn.now in
-    told_less a e c.in_ok-next.next it (AreNear meter place it) (AreNear meter place it) (λ content after is. is)
+    reported_less a e c.in_ok-next.next it (AreNear meter place it) (AreNear meter place it) (λ content after is. is)
     (goes_then a d e c.in_ok-before.before (Ok c.in_ok-next.next) (Then P Q) R (AreNear meter place it)
     (goes_then a b d c.in_ok-entry.entry (Ok c.in_ok-before.before) P Q (Then P Q) c.in_ok-entry.ensures.does c.in_ok-before.ensures.does (λ before mid after p q. (mid, p, q)))
     c.in_ok-next.ensures.does (λ before mid after p r. nearby meter place it before p.0 mid after p.1 p.2 r))

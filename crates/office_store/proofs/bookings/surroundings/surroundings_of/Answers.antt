@@ -1,6 +1,6 @@
 use Rattle.std.proofs.Common.{Ok}
 use Rattle.sqlite.specs.Held.{state}
-use Rattle.store_facts.proofs.GoingLemmas.{goes_then, told_less}
+use Rattle.store_facts.proofs.GoingLemmas.{goes_then, reported_less}
 use Rattle.office_store.specs.declared.bookings.surroundings.Surroundings.{Surroundings}
 use Rattle.office_store.specs.Bookings.MeterState.{IsStanding}
 use Rattle.office_store.specs.Bookings.Surroundings.{OpenedAt, AreNear, IsAround}
@@ -37,7 +37,7 @@ returns-clause-does g c =
     let b = state g.S.Store c.standing_of.new.tx.conn.now in
     let d = state g.S.Store c.opened_at.new.tx.conn.now in
     let e = state g.S.Store c.neighbours_of.new.tx.conn.now in
-    told_less a e c.in_ok-near.near it (IsAround meter place it) (IsAround meter place it) (λ content after is. is)
+    reported_less a e c.in_ok-near.near it (IsAround meter place it) (IsAround meter place it) (λ content after is. is)
     (goes_then a d e c.in_ok-opened.opened (Ok c.in_ok-near.near) (Then P Q) R (IsAround meter place it)
     (goes_then a b d c.in_ok-standing.standing (Ok c.in_ok-opened.opened) P Q (Then P Q) c.in_ok-standing.ensures.does c.in_ok-opened.ensures.does (λ before mid after p q. (mid, p, q)))
     c.in_ok-near.ensures.does (λ before mid after p r. around meter place it before p.0 mid after p.1 p.2 r))

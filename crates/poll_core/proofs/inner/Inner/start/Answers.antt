@@ -3,7 +3,7 @@ use Rattle.std.specs.List.{list_any}
 use Rattle.poll_core.specs.Polls.{has_id}
 use Rattle.poll_core.specs.Inside.{state_of}
 use Rattle.poll_core.proofs.Settles.{none_case}
-use Rattle.poll_core.proofs.Starts.{starts, apart_push, any_none, nothing_told}
+use Rattle.poll_core.proofs.Starts.{starts, apart_push, any_none, nothing_reported}
 use Rattle.poll_core.proofs.inner.Inner.start.Goals as goal
 
 pub returns-clause-sound : goal.returns-clause-sound
@@ -20,4 +20,4 @@ returns-clause-sound c =
 pub returns-clause-started : goal.returns-clause-started
 returns-clause-started c = λ events h.
     let going = none_case _ (sym c.is_some.ensures ∙ c.if-is_some.false) in
-    (rw c.push.ensures.items (starts (state_of c.args.self.now) events c.args.moment c.args.poll c.args.unit _ _ h going c.new.ensures), nothing_told _ events _ _ _ _)
+    (rw c.push.ensures.items (starts (state_of c.args.self.now) events c.args.moment c.args.poll c.args.unit _ _ h going c.new.ensures), nothing_reported _ events _ _ _ _)

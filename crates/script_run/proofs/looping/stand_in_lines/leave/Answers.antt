@@ -15,12 +15,12 @@ returns-in-Ok g c =
     (g.W.Write.contents c.args.output.now) (g.W.Write.contents c.write_accepted.new.output)
     (λ now printed next. EventPrints now c.args.at e printed next) c.write_accepted.ensures
     (λ past stands.
-    let told = c.in-Ok.ensures.told past stands tt in
+    let reported = c.in-Ok.ensures.reported past stands tt in
     was_printed past c.args.at e (Ok answer) c.args.office.now c.feed.new.self (accepted_text answer c.notes.result.now c.outgoing.result.now)
     (was_replied past c.args.at e (Ok answer) c.args.office.now c.feed.new.self (c.in-Ok.ensures.answers past stands tt) c.in-Ok.ensures.ends
     (c.in-Ok.ensures.quiet past stands) (c.in-Ok.ensures.stands past stands tt))
-    (ap (λ notes. accepted_text answer notes c.outgoing.result.now) (c.notes.ensures ∙ told.notes)
-    ∙ ap (λ frames. accepted_text answer (notes_after past c.args.at e (Ok answer)) frames) (c.outgoing.ensures ∙ told.outgoing)))
+    (ap (λ notes. accepted_text answer notes c.outgoing.result.now) (c.notes.ensures ∙ reported.notes)
+    ∙ ap (λ frames. accepted_text answer (notes_after past c.args.at e (Ok answer)) frames) (c.outgoing.ensures ∙ reported.outgoing)))
 
 pub returns-in-Err : goal.returns-in-Err
 returns-in-Err g c =

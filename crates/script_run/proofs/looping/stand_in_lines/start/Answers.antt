@@ -20,12 +20,12 @@ returns-in_ok-write_accepted-in-Ok g c = λ connected.
     started c.args.at c.args.device.now e answer c.args.office.now c.feed.new.self c.feed_responses.new.office c.args.bank.now c.send.new.bank connected
     old mid (g.W.Write.contents c.feed_responses.new.output) c.feed_responses.result
     (λ past stands.
-    let told = c.in-Ok.ensures.told past stands tt in (
+    let reported = c.in-Ok.ensures.reported past stands tt in (
       was_replied past c.args.at e (Ok answer) c.args.office.now c.feed.new.self (c.in-Ok.ensures.answers past stands tt) c.in-Ok.ensures.ends
           (c.in-Ok.ensures.quiet past stands) (c.in-Ok.ensures.stands past stands tt),
       subst (λ (text : List ℕ). Appends old mid text)
-          (ap (λ notes. accepted_text answer notes c.outgoing.result.now) (c.notes.ensures ∙ told.notes)
-          ∙ ap (λ frames. accepted_text answer (notes_after past c.args.at e (Ok answer)) frames) (c.outgoing.ensures ∙ told.outgoing))
+          (ap (λ notes. accepted_text answer notes c.outgoing.result.now) (c.notes.ensures ∙ reported.notes)
+          ∙ ap (λ frames. accepted_text answer (notes_after past c.args.at e (Ok answer)) frames) (c.outgoing.ensures ∙ reported.outgoing))
           c.in_ok-write_accepted-in-Ok.ensures,
     ))
     c.send.ensures c.feed_responses.ensures
@@ -53,11 +53,11 @@ returns-in_err-write_accepted-in-Ok g c = λ connected.
     breaks_out c.from_residual.result (λ done now printed next. StartsPrint c.args.at c.args.device.now e now printed next)
     (loop_state c.args.office.now c.args.bank.now connected old) (loop_state c.feed.new.self c.args.bank.now connected mid) c.from_residual.ensures.0
     (λ past stands.
-    let told = c.in-Ok.ensures.told past stands tt in
+    let reported = c.in-Ok.ensures.reported past stands tt in
     start_begun c.args.at c.args.device.now e answer past c.args.office.now c.feed.new.self c.args.bank.now connected old mid
     (was_replied past c.args.at e (Ok answer) c.args.office.now c.feed.new.self (c.in-Ok.ensures.answers past stands tt) c.in-Ok.ensures.ends
     (c.in-Ok.ensures.quiet past stands) (c.in-Ok.ensures.stands past stands tt))
     (subst (λ (text : List ℕ). GotPart text old mid)
-    (ap (λ notes. accepted_text answer notes c.outgoing.result.now) (c.notes.ensures ∙ told.notes)
-    ∙ ap (λ frames. accepted_text answer (notes_after past c.args.at e (Ok answer)) frames) (c.outgoing.ensures ∙ told.outgoing))
+    (ap (λ notes. accepted_text answer notes c.outgoing.result.now) (c.notes.ensures ∙ reported.notes)
+    ∙ ap (λ frames. accepted_text answer (notes_after past c.args.at e (Ok answer)) frames) (c.outgoing.ensures ∙ reported.outgoing))
     c.in_err-write_accepted-in-Ok.ensures))

@@ -1,6 +1,6 @@
 use Rattle.sqlite.specs.Held.{state}
 use Rattle.store_tables.specs.Schema.{books_schema}
-use Rattle.store_tables.proofs.Failures.{told, query_fails}
+use Rattle.store_tables.proofs.Failures.{reported, query_fails}
 use Rattle.store_tables.proofs.StepLemmas.{asks}
 use Rattle.store_devices.proofs.DevicesLemmas.Texts as text
 use Rattle.store_devices.proofs.DevicesLemmas.Asks as asking
@@ -12,5 +12,5 @@ returns-clause-asks g c =
 
 pub returns-clause-shows : goal.returns-clause-shows
 returns-clause-shows g c clean content has xs are =
-    told c.query_all.result _ _ _ _ (λ rows h. asking.device_rows (state g.S.Store c.args.conn.now) (state g.S.Store c.query_all.new.self) content xs rows.items has are h)
+    reported c.query_all.result _ _ _ _ (λ rows h. asking.device_rows (state g.S.Store c.args.conn.now) (state g.S.Store c.query_all.new.self) content xs rows.items has are h)
     (λ e h. query_fails books_schema text.device_rows _ text.device_rows_suits (state g.S.Store c.args.conn.now) (state g.S.Store c.query_all.new.self) has.schema e h) (c.query_all.ensures.ok clean) (c.query_all.ensures.err clean)

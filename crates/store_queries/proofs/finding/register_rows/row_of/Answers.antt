@@ -5,12 +5,12 @@ use Rattle.store_devices.specs.Devices.Trees.{registers}
 use Rattle.store_devices.specs.Devices.Rows.{register_columns, IsSoundRegistered}
 use Rattle.store_queries.specs.Finding.Sound.{IsReadableRegister}
 use Rattle.store_queries.proofs.FindingLemmas.Looking.{looked_up}
-use Rattle.store_queries.proofs.FindingLemmas.Found.{less_told}
+use Rattle.store_queries.proofs.FindingLemmas.Found.{less_reported}
 use Rattle.store_queries.proofs.finding.register_rows.row_of.Goals as goal
 
 pub returns : goal.returns
 returns g c =
-    less_told g.S.Store c.args.conn.now c.register_of.new.conn c.register_of.result _ _ _
+    less_reported g.S.Store c.args.conn.now c.register_of.new.conn c.register_of.result _ _ _
     (λ facts sound. all_weaker IsReadableRegister IsSoundRegistered (λ r is. is.row) (placed registered (registers_in facts)) sound)
     (looked_up g.S.Store c.args.conn.now c.check_open.new.conn (record { mode = c.in_ok-check_open.ensures.autocommit; opened = c.in_ok-check_open.ensures.opened; kept = c.in_ok-check_open.ensures.kept; survives = c.in_ok-check_open.ensures.survives })
     c.register_of.new.conn registers register_columns IsSoundRegistered c.register_of.result _ c.register_of.ensures.finds (λ facts. placed registered (registers_in facts)) (λ zone facts content are. are.registers))

@@ -5,7 +5,7 @@ use Rattle.store_tables.specs.Entries.Rows.{entry_columns, is_entry, IsRow, IsSo
 use Rattle.store_facts.specs.Rows.{entries_of}
 use Rattle.store_queries.specs.Metering.Around.{FindsAt}
 use Rattle.store_queries.specs.Metering.Sound.{HasReadableMeters}
-use Rattle.store_queries.proofs.FindingLemmas.Looking.{not_touched, told_of}
+use Rattle.store_queries.proofs.FindingLemmas.Looking.{not_touched, reported_of}
 use Rattle.store_queries.proofs.FindingLemmas.Greatest.{permuted}
 use Rattle.store_queries.proofs.FindingLemmas.Moments.{by_meter}
 use Rattle.store_queries.proofs.metering.around.row_there.Goals as goal
@@ -17,11 +17,11 @@ returns-in_err-check_open g c =
 
 pub returns : goal.returns
 returns g c =
-    told_of g.S.Store c.args.conn.now c.check_open.new.conn (record { mode = c.in_ok-check_open.ensures.autocommit; opened = c.in_ok-check_open.ensures.opened; kept = c.in_ok-check_open.ensures.kept; survives = c.in_ok-check_open.ensures.survives })
+    reported_of g.S.Store c.args.conn.now c.check_open.new.conn (record { mode = c.in_ok-check_open.ensures.autocommit; opened = c.in_ok-check_open.ensures.opened; kept = c.in_ok-check_open.ensures.kept; survives = c.in_ok-check_open.ensures.survives })
     c.entry_at.new.conn entries entry_columns IsSoundEntered c.entry_at.result (IsFound (is_entry c.args.meter.now c.args.place) IsRow) c.entry_at.ensures.finds (FindsAt c.args.meter.now c.args.place) HasReadableMeters
     (λ zone facts content are. record {
       rows = are.entries.rows;
       there = are.entries.there;
-      tells = λ found is. record { lawful = are.lawful; table = are.entries.rows; each = are.entries.each; is = is };
+      reports = λ found is. record { lawful = are.lawful; table = are.entries.rows; each = are.entries.each; is = is };
       sound = λ s. by_meter IsSoundEntered are.entries.rows (λ meter. permuted IsSoundEntered (entries_of facts meter) _ (IsPermutation-sym _ _ (are.entries.each meter)) (s.entries meter));
     })

@@ -2,7 +2,7 @@ use Rattle.std.proofs.Common.{◌≡◌, [], Ok, Err, Some, None, IsUtf8, ap, �
 use Rattle.office_rules.specs.Meters.{entry_at, meter_of}
 use Rattle.store_queries.specs.Metering.Sound.{HasReadableMeters, HasReadableJournals}
 use Rattle.store_queries.specs.Metering.Entries.{FindsJournal}
-use Rattle.store_queries.proofs.FindingLemmas.Found.{answered, become, passed_on, finds_then, less_told, made, unnamed}
+use Rattle.store_queries.proofs.FindingLemmas.Found.{answered, become, passed_on, finds_then, less_reported, made, unnamed}
 use Rattle.store_queries.proofs.MeteringLemmas.Entering.{placed_is, no_entry, placed_fault}
 use Rattle.store_queries.proofs.metering.entries.entry.Goals as goal
 

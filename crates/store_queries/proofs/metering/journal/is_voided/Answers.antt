@@ -11,8 +11,8 @@ use Rattle.store_tables.specs.Entries.Rows.{IsSoundVoided}
 use Rattle.store_queries.specs.Metering.Entries.{IsFaultOfVoids}
 use Rattle.store_queries.proofs.metering.journal.is_voided.Goals as goal
 
-pub returns-then-branch-clause-told : goal.returns-then-branch-clause-told
-returns-then-branch-clause-told c = λ vs shown.
+pub returns-then-branch-clause-reported : goal.returns-then-branch-clause-reported
+returns-then-branch-clause-reported c = λ vs shown.
     let it = next_shown voided_shown vs c.args.voids.now c.loop-row.row-index c.row-item.result shown c.loop-row-test.true c.row-item.is in
     let at : c.in_ok-read_void.field-0 ≡ it.at.place = c.in_ok-read_void.ensures.read.read it.at it.seen in
     sym (here (names c.args.place) vs c.loop-row.row-index it.at it.more (eq-eqb c.args.place it.at.place (c.if-branch.true ∙ at)))

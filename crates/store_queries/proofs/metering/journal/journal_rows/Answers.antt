@@ -19,7 +19,7 @@ pub loop-row-preserved : goal.loop-row-preserved
 loop-row-preserved c = λ es vs shown void.
     let it = next_shown entry_shown es c.args.entries.now c.loop-row.row-index c.row-item.result shown c.loop-row-test.true c.row-item.is in
     one_more vs es c.loop-row.row-index it.at c.in_ok-entry.entry c.in_ok-struck.struck c.entry_row.result c.loop-row.rows.items c.add.new.rows.items it.more
-    (c.in_ok-entry.ensures.read.read it.at it.seen) (c.in_ok-struck.ensures.told vs void) c.entry_row.ensures (c.loop-row.invariant es vs shown void) c.in_ok-add.ensures.put
+    (c.in_ok-entry.ensures.read.read it.at it.seen) (c.in_ok-struck.ensures.reported vs void) c.entry_row.ensures (c.loop-row.invariant es vs shown void) c.in_ok-add.ensures.put
 
 pub returns-clause-journal : goal.returns-clause-journal
 returns-clause-journal c = λ es vs shown void.

@@ -4,7 +4,7 @@ use Rattle.store_tables.specs.Entries.Rows.{entry_columns, is_entry, IsRow, IsSo
 use Rattle.store_queries.specs.Metering.Meters.{FindsFirst}
 use Rattle.store_queries.proofs.MeteringLemmas.Found.{first_found}
 use Rattle.store_queries.specs.Metering.Sound.{HasReadableMeters}
-use Rattle.store_queries.proofs.FindingLemmas.Looking.{not_touched, told_of}
+use Rattle.store_queries.proofs.FindingLemmas.Looking.{not_touched, reported_of}
 use Rattle.store_queries.proofs.FindingLemmas.Greatest.{permuted}
 use Rattle.store_queries.proofs.FindingLemmas.Moments.{by_meter}
 use Rattle.std.proofs.lemmas.List.Sorted.{IsPermutation-sym}
@@ -18,6 +18,6 @@ returns-in_err-check_open g c =
 
 pub returns : goal.returns
 returns g c =
-    told_of g.S.Store c.args.conn.now c.check_open.new.conn (record { mode = c.in_ok-check_open.ensures.autocommit; opened = c.in_ok-check_open.ensures.opened; kept = c.in_ok-check_open.ensures.kept; survives = c.in_ok-check_open.ensures.survives })
+    reported_of g.S.Store c.args.conn.now c.check_open.new.conn (record { mode = c.in_ok-check_open.ensures.autocommit; opened = c.in_ok-check_open.ensures.opened; kept = c.in_ok-check_open.ensures.kept; survives = c.in_ok-check_open.ensures.survives })
     c.entry_at.new.conn entries entry_columns IsSoundEntered c.entry_at.result (IsFound (is_entry c.args.meter.now 1) IsRow) c.entry_at.ensures.finds (FindsFirst c.args.meter.now) HasReadableMeters
-    (λ zone facts content are. record { rows = are.entries.rows; there = are.entries.there; tells = first_found c.voids_leave_no_trace.ensures facts c.args.meter.now are.entries.rows are.lawful are.entries.each; sound = λ s. by_meter IsSoundEntered are.entries.rows (λ meter. permuted IsSoundEntered (entries_of facts meter) _ (IsPermutation-sym _ _ (are.entries.each meter)) (s.entries meter)) })
+    (λ zone facts content are. record { rows = are.entries.rows; there = are.entries.there; reports = first_found c.voids_leave_no_trace.ensures facts c.args.meter.now are.entries.rows are.lawful are.entries.each; sound = λ s. by_meter IsSoundEntered are.entries.rows (λ meter. permuted IsSoundEntered (entries_of facts meter) _ (IsPermutation-sym _ _ (are.entries.each meter)) (s.entries meter)) })

@@ -7,7 +7,7 @@ use Rattle.store_facts.specs.Rows.{ranged}
 use Rattle.store_queries.specs.Metering.Meters.{FindsRange}
 use Rattle.store_queries.proofs.MeteringLemmas.Found.{range_found}
 use Rattle.store_queries.specs.Metering.Sound.{HasReadableMeters}
-use Rattle.store_queries.proofs.FindingLemmas.Looking.{not_touched, told_of}
+use Rattle.store_queries.proofs.FindingLemmas.Looking.{not_touched, reported_of}
 use Rattle.store_queries.proofs.metering.rows.range.Goals as goal
 
 pub returns-in_err-check_open : goal.returns-in_err-check_open
@@ -17,6 +17,6 @@ returns-in_err-check_open g c =
 
 pub returns : goal.returns
 returns g c =
-    told_of g.S.Store c.args.conn.now c.check_open.new.conn (record { mode = c.in_ok-check_open.ensures.autocommit; opened = c.in_ok-check_open.ensures.opened; kept = c.in_ok-check_open.ensures.kept; survives = c.in_ok-check_open.ensures.survives })
+    reported_of g.S.Store c.args.conn.now c.check_open.new.conn (record { mode = c.in_ok-check_open.ensures.autocommit; opened = c.in_ok-check_open.ensures.opened; kept = c.in_ok-check_open.ensures.kept; survives = c.in_ok-check_open.ensures.survives })
     c.range_of.new.conn ranges ranged_columns IsSoundRanged c.range_of.result (IsFound (is_range_of c.args.meter.now) HasRange) c.range_of.ensures.finds (FindsRange c.args.meter.now) HasReadableMeters
-    (λ zone facts content are. record { rows = map ranged (openings_in facts); there = are.ranges; tells = range_found facts c.args.meter.now are.lawful; sound = λ s. s.ranges })
+    (λ zone facts content are. record { rows = map ranged (openings_in facts); there = are.ranges; reports = range_found facts c.args.meter.now are.lawful; sound = λ s. s.ranges })

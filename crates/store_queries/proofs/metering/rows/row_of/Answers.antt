@@ -6,7 +6,7 @@ use Rattle.store_facts.specs.Rows.{placed, installed_row}
 use Rattle.store_queries.specs.Metering.Meters.{FindsRow}
 use Rattle.store_queries.proofs.MeteringLemmas.Found.{row_found}
 use Rattle.store_queries.specs.Metering.Sound.{HasReadableMeters}
-use Rattle.store_queries.proofs.FindingLemmas.Looking.{not_touched, told_of}
+use Rattle.store_queries.proofs.FindingLemmas.Looking.{not_touched, reported_of}
 use Rattle.store_queries.proofs.metering.rows.row_of.Goals as goal
 
 pub returns-in_err-check_open : goal.returns-in_err-check_open
@@ -16,6 +16,6 @@ returns-in_err-check_open g c =
 
 pub returns : goal.returns
 returns g c =
-    told_of g.S.Store c.args.conn.now c.check_open.new.conn (record { mode = c.in_ok-check_open.ensures.autocommit; opened = c.in_ok-check_open.ensures.opened; kept = c.in_ok-check_open.ensures.kept; survives = c.in_ok-check_open.ensures.survives })
+    reported_of g.S.Store c.args.conn.now c.check_open.new.conn (record { mode = c.in_ok-check_open.ensures.autocommit; opened = c.in_ok-check_open.ensures.opened; kept = c.in_ok-check_open.ensures.kept; survives = c.in_ok-check_open.ensures.survives })
     c.installation_of.new.conn installations installed_columns IsSoundInstalled c.installation_of.result (IsFound (is_meter c.args.meter.now) IsInstalled) c.installation_of.ensures.finds (λ facts found. FindsRow facts (opening_of facts c.args.meter.now) found) HasReadableMeters
-    (λ zone facts content are. record { rows = placed (installed_row facts) (openings_in facts); there = are.installations; tells = row_found facts c.args.meter.now are.lawful; sound = λ s. s.installations })
+    (λ zone facts content are. record { rows = placed (installed_row facts) (openings_in facts); there = are.installations; reports = row_found facts c.args.meter.now are.lawful; sound = λ s. s.installations })

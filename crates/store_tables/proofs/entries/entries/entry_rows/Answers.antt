@@ -1,6 +1,6 @@
 use Rattle.sqlite.specs.Held.{state}
 use Rattle.store_tables.specs.Schema.{books_schema}
-use Rattle.store_tables.proofs.Failures.{told, query_fails}
+use Rattle.store_tables.proofs.Failures.{reported, query_fails}
 use Rattle.store_tables.proofs.StepLemmas.{asks}
 use Rattle.store_tables.proofs.EntriesLemmas.Texts as text
 use Rattle.store_tables.proofs.EntriesLemmas.Asks as asking
@@ -12,5 +12,5 @@ returns-clause-asks g c =
 
 pub returns-clause-shows : goal.returns-clause-shows
 returns-clause-shows g c clean content has xs are =
-    told c.query_all.result _ _ _ _ (λ rows h. asking.entry_rows c.args.meter.now (state g.S.Store c.args.conn.now) (state g.S.Store c.query_all.new.self) content xs rows.items has are (rw (c.params-to_sql.ensures) at h))
+    reported c.query_all.result _ _ _ _ (λ rows h. asking.entry_rows c.args.meter.now (state g.S.Store c.args.conn.now) (state g.S.Store c.query_all.new.self) content xs rows.items has are (rw (c.params-to_sql.ensures) at h))
     (λ e h. query_fails books_schema text.entry_rows _ (text.entry_rows_suits c.args.meter.now) (state g.S.Store c.args.conn.now) (state g.S.Store c.query_all.new.self) has.schema e (rw (c.params-to_sql.ensures) at h)) (c.query_all.ensures.ok clean) (c.query_all.ensures.err clean)

@@ -3,11 +3,11 @@ use Rattle.command_io.proofs.Printing.{input_prints, unread_prints}
 use Rattle.command_io.specs.Lines.{speaking_lines}
 use Rattle.command_io.specs.declared.status.ExitStatus.{ExitStatus}
 use Rattle.sunspec_text.specs.Chains.ChainText.{ChainPrints, LinesPrint}
-use Rattle.sunspec_text.specs.Chains.ImageLines.{nothing_read, words_told}
+use Rattle.sunspec_text.specs.Chains.ImageLines.{nothing_read, words_reported}
 use Rattle.sunspec_text.proofs.chains.chain_printout.chain_text.Goals as goal
 
 abbrev text_prints : List ℕ → List ℕ → ExitStatus → Type 0
-text_prints text printed status = LinesPrint (words_told nothing_read (speaking_lines text)) printed status
+text_prints text printed status = LinesPrint (words_reported nothing_read (speaking_lines text)) printed status
 
 pub returns-in-Ok : goal.returns-in-Ok
 returns-in-Ok g c =

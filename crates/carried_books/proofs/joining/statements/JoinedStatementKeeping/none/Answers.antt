@@ -7,5 +7,5 @@ returns c = λ register. record {
   zone_is = refl;
   meters = [];
   are = record { recorded = tt; joined = refl };
-  told = c.new.ensures.items;
+  reported = c.new.ensures.items;
 }

@@ -1,9 +1,9 @@
 -- The last reported number of each device and meter, so that no message repeats.
 use Rattle.std.specs.Prelude.{◌≡◌, ◌==◌, ℕ, Bool, true, false, ◌&&◌, List, [], ◌∷◌, ◌++◌, position, slice_get, slice_set, Option, Some, None, if◌then◌else◌}
 use Rattle.std.specs.Str.{bytes_eq}
-use Rattle.run_status.specs.declared.advice.told.ReportedNumber.{ReportedNumber}
-use Rattle.run_status.specs.declared.advice.told.Topic.{Topic}
-use Rattle.run_status.specs.declared.advice.told.Topic.TheVariants.{Connection, Round, Meter}
+use Rattle.run_status.specs.declared.advice.reported.ReportedNumber.{ReportedNumber}
+use Rattle.run_status.specs.declared.advice.reported.Topic.{Topic}
+use Rattle.run_status.specs.declared.advice.reported.Topic.TheVariants.{Connection, Round, Meter}
 
 -- The number of a topic, by which two topics are compared.
 abbrev pub topic_number : Topic → ℕ
@@ -12,8 +12,8 @@ topic_number Round = 2
 topic_number Meter = 3
 
 -- The entry of a number that was reported about a device or meter.
-abbrev pub told_number : Topic → (name : Option (List ℕ)) → (number : ℕ) → ReportedNumber
-told_number topic name number = record { topic = topic; name = name; number = number }
+abbrev pub reported_number : Topic → (name : Option (List ℕ)) → (number : ℕ) → ReportedNumber
+reported_number topic name number = record { topic = topic; name = name; number = number }
 
 -- True if two optional names are equal. Two missing names are also equal.
 abbrev pub is_same_name : Option (List ℕ) → Option (List ℕ) → Bool
@@ -26,9 +26,9 @@ is_same_name (Some a) (Some b) = bytes_eq a b
 abbrev pub are_of_same : ReportedNumber → ReportedNumber → Bool
 are_of_same a b = (topic_number a.topic == topic_number b.topic) && is_same_name a.name b.name
 
--- The index of the entry with the same topic and the same device or meter as `told`.
+-- The index of the entry with the same topic and the same device or meter as `reported`.
 abbrev pub place_of : ReportedNumber → List ReportedNumber → Option ℕ
-place_of told numbers = position (λ one. are_of_same one told) numbers
+place_of reported numbers = position (λ one. are_of_same one reported) numbers
 
 -- True if the number differs from the last reported number. False if no number was reported before.
 abbrev pub is_other : Option ReportedNumber → (number : ℕ) → Bool
@@ -39,42 +39,42 @@ is_other (Some before) number = if before.number == number then false else true
 -- list.
 abbrev pub changed_to : (other : Bool) → (place : ℕ) → ReportedNumber → List ReportedNumber
     → List ReportedNumber
-changed_to true place told numbers = slice_set numbers place told
-changed_to false place told numbers = numbers
+changed_to true place reported numbers = slice_set numbers place reported
+changed_to false place reported numbers = numbers
 
--- The entry at the index `place` gets the new number. `is_told` is true if the number differs and
--- must be reported.
-abbrev pub Changes : (place : ℕ) → ReportedNumber → (old new : List ReportedNumber) → (is_told : Bool)
+-- The entry at the index `place` gets the new number. `is_reported` is true if the number differs
+-- and must be reported.
+abbrev pub Changes : (place : ℕ) → ReportedNumber → (old new : List ReportedNumber) → (is_reported : Bool)
     → Type 0
-Changes place told old new is_told =
-    (is_told ≡ is_other (slice_get old place) told.number)
-    × (new ≡ changed_to is_told place told old)
+Changes place reported old new is_reported =
+    (is_reported ≡ is_other (slice_get old place) reported.number)
+    × (new ≡ changed_to is_reported place reported old)
 
 -- The list with a further reported number if `room` is true, otherwise the unchanged list.
 abbrev pub pushed : (room : Bool) → ReportedNumber → List ReportedNumber → List ReportedNumber
-pushed true told numbers = numbers ++ told ∷ []
-pushed false told numbers = numbers
+pushed true reported numbers = numbers ++ reported ∷ []
+pushed false reported numbers = numbers
 
--- If the list has room, then an entry is added to the list. `is_told` is true if the entry was
+-- If the list has room, then an entry is added to the list. `is_reported` is true if the entry was
 -- added, and its number must be reported.
-abbrev pub Adds : ReportedNumber → (old new : List ReportedNumber) → (is_told : Bool) → Type 0
-Adds told old new is_told = new ≡ pushed is_told told old
+abbrev pub Adds : ReportedNumber → (old new : List ReportedNumber) → (is_reported : Bool) → Type 0
+Adds reported old new is_reported = new ≡ pushed is_reported reported old
 
 -- The entry at the index gets the new number. Without an index, an entry with that number is added
 -- to the list.
-abbrev pub TellsNumberAt : (place : Option ℕ) → ReportedNumber → (old new : List ReportedNumber)
-    → (is_told : Bool) → Type 0
-TellsNumberAt None told old new is_told = Adds told old new is_told
-TellsNumberAt (Some place) told old new is_told = Changes place told old new is_told
+abbrev pub ReportsNumberAt : (place : Option ℕ) → ReportedNumber → (old new : List ReportedNumber)
+    → (is_reported : Bool) → Type 0
+ReportsNumberAt None reported old new is_reported = Adds reported old new is_reported
+ReportsNumberAt (Some place) reported old new is_reported = Changes place reported old new is_reported
 
--- `is_told` is true if a number about a device or meter must be reported. Then the last number on
--- the same topic was different or missing.
-abbrev pub TellsNumber : ReportedNumber → (old new : List ReportedNumber) → (is_told : Bool) → Type 0
-TellsNumber told old new is_told = TellsNumberAt (place_of told old) told old new is_told
+-- `is_reported` is true if a number about a device or meter must be reported. Then the last number
+-- on the same topic was different or missing.
+abbrev pub ReportsNumber : ReportedNumber → (old new : List ReportedNumber) → (is_reported : Bool) → Type 0
+ReportsNumber reported old new is_reported = ReportsNumberAt (place_of reported old) reported old new is_reported
 
 -- The entry of a device or meter about which no number was reported. Its number is 0.
 abbrev pub nothing_of : Topic → (name : Option (List ℕ)) → ReportedNumber
-nothing_of topic name = told_number topic name 0
+nothing_of topic name = reported_number topic name 0
 
 -- The entry at the index gets the number 0. Without an index, nothing changes.
 abbrev pub ForgetsAt : (place : Option ℕ) → ReportedNumber → (old new : List ReportedNumber) → Type 0

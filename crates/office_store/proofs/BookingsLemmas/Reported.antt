@@ -53,7 +53,7 @@ use Rattle.office_store.specs.declared.bookings.corrections.Correction.{Correcti
 use Rattle.office_store.specs.declared.bookings.corrections.Rejoined.{Rejoined}
 use Rattle.office_store.specs.declared.bookings.corrections.Rollover.{Rollover}
 use Rattle.office_store.specs.declared.bookings.surroundings.Surroundings.{Surroundings}
-use Rattle.store_queries.proofs.MeteringLemmas.Around.{AtRow, IsNextRow, AreStruck, names_are, entries_at_rows, stands_after_row, stood_around, next_around, none_next, all_places, all_of_meter, opening_alone, told_of, none_told}
+use Rattle.store_queries.proofs.MeteringLemmas.Around.{AtRow, IsNextRow, AreStruck, names_are, entries_at_rows, stands_after_row, stood_around, next_around, none_next, all_places, all_of_meter, opening_alone, reported_of, none_reported}
 use Rattle.office_store.proofs.BookingsLemmas.Left.{HasRolls, IsLeft, next_out, next_put}
 use Rattle.office_store.proofs.BookingsLemmas.Rolling as rolling
 
@@ -69,8 +69,8 @@ read_kind : (k : EntryKind) (e : Entry) → is_read k e ≡ true → is_reading 
 read_kind k e is = by_read (λ k e. is_reading k ≡ true) (λ at raw rolls. refl) k e is
 
 -- If a journal entry is read from a row of `entries`, it equals the recorded entry.
-told_entry : (row : stored.EntryRow) (e : Entry) (sf : ℤ) (is : EntryRow) → IsReadingOf row e → row ≡ entry_row sf is → is_read is.kind is.entry ≡ true → e ≡ is.entry
-told_entry row e sf is reading row_is read =
+reported_entry : (row : stored.EntryRow) (e : Entry) (sf : ℤ) (is : EntryRow) → IsReadingOf row e → row ≡ entry_row sf is → is_read is.kind is.entry ≡ true → e ≡ is.entry
+reported_entry row e sf is reading row_is read =
     reading.step ∙ ap (λ (r : stored.EntryRow). entry.Step r.moment r.raw r.rolls) row_is ∙ read_back is.kind is.entry read
 
 -- ---- the steps that a void removes and adds
@@ -174,7 +174,7 @@ module _ (v : VoidedEntry) (facts : List Fact) (lawful : AreLawful (fact.Void v 
   are = subst (λ (l : List Entered). IsPermutation (filter (is_of v.meter) table) l) (ap (entries_at facts) there) (a.entries.each v.meter)
 
   row : AtRow o v.place rows found.near.entry
-  row = told_of v.meter o rows table are (AtRow o v.place rows) v.place found.near.entry (entries_at_rows o v.place rows numbered late) (at.near.entry.there table a.entries.there)
+  row = reported_of v.meter o rows table are (AtRow o v.place rows) v.place found.near.entry (entries_at_rows o v.place rows numbered late) (at.near.entry.there table a.entries.there)
 
   abbrev around : Around
   around = row.around
@@ -198,7 +198,7 @@ module _ (v : VoidedEntry) (facts : List Fact) (lawful : AreLawful (fact.Void v 
         | inl first ↦ inl first
         | inr off ↦ inr (sym (named_at near.at) ∙ off)
       ] in
-      told_of v.meter o rows table are (λ e. counter_after e ≡ before) near.at found.near.before (stood_around o lines v.place near.at rows around numbered plains row.there b.lower (struck near.at v.place b.between) stands)
+      reported_of v.meter o rows table are (λ e. counter_after e ≡ before) near.at found.near.before (stood_around o lines v.place near.at rows around numbered plains row.there b.lower (struck near.at v.place b.between) stands)
       (near.there table a.entries.there)
 
   voidable : journals.is_voidable around.row around.next ≡ true
@@ -228,30 +228,30 @@ module _ (v : VoidedEntry) (facts : List Fact) (lawful : AreLawful (fact.Void v 
   range_is = let it = range_found facts lawful.1 v.meter o there HasRange found.standing.range (at.standing.range (map ranged (openings_in facts)) a.ranges) in it.1 ∙ it.2
 
   opened_is : found.opened ≡ o.at
-  opened_is = at.opened.moment ∙ told_of v.meter o rows table are (λ e. e.moment ≡ o.at) 1 at.opened.opening (opening_alone o rows numbered) (at.opened.finds.there table a.entries.there)
+  opened_is = at.opened.moment ∙ reported_of v.meter o rows table are (λ e. e.moment ≡ o.at) 1 at.opened.opening (opening_alone o rows numbered) (at.opened.finds.there table a.entries.there)
 
   module _ (made : Correction) (corrects : Corrects found made) where
     out_is : made.out ≡ step_to o.range before around.row.entry
     out_is =
         corrects.out ∙ ap (λ n. step_to n (counter_after found.near.before) corrects.entry) range_is ∙ ap (λ (l : Last). step_to o.range l corrects.entry) before_is
-        ∙ ap (step_to o.range before) (told_entry found.near.entry corrects.entry _ around.row corrects.reading row.is read)
+        ∙ ap (step_to o.range before) (reported_entry found.near.entry corrects.entry _ around.row corrects.reading row.is read)
 
     next_left : (next : Option stored.EntryRow) (joined : Option Rejoined) → RejoinsNext found.standing.range (counter_after found.near.before) (counter_after found.near.entry) next joined
         → HasEntry v.meter at.near.next.at next content → NextLeft o around made.out joined
     next_left None joined none has =
         let higher = at.near.next.stands vs a.voids in
         let mine : AllByRecursion (λ (e : Entered). is_of v.meter e ≡ true) (entered_rows o rows) = subst (λ m. AllByRecursion (λ (e : Entered). is_of m e ≡ true) (entered_rows o rows)) name (all_of_meter o rows (same_itself o.meter)) in
-        let beyond = all_places o at.near.next.at rows numbered (let up = higher.higher in omega (arith, up, late)) (none_told v.meter o rows table are at.near.next.at mine (has table a.entries.there)) in
+        let beyond = all_places o at.near.next.at rows numbered (let up = higher.higher in omega (arith, up, late)) (none_reported v.meter o rows table are at.near.next.at mine (has table a.entries.there)) in
         let no_next : around.next ≡ None = none_next o lines v.place rows around numbered plains row.there (λ q above under. struck v.place at.near.next.at higher.between q above (omega (arith, under, beyond))) in
         subst (NextLeft o around made.out) (sym none) (none_left o around made.out out_is no_next)
     next_left (Some e) None none has = absurd none
     next_left (Some e) (Some joined) joins has =
         let higher = at.near.next.stands vs a.voids in
-        let next = told_of v.meter o rows table are (IsNextRow o lines around) at.near.next.at e
+        let next = reported_of v.meter o rows table are (IsNextRow o lines around) at.near.next.at e
         (next_around o lines v.place at.near.next.at rows around numbered plains row.there higher.higher (struck v.place at.near.next.at higher.between) (sym (named_at at.near.next.at) ∙ higher.stands)) (has table a.entries.there) in
         let next_read : is_read next.row.kind next.row.entry ≡ true = subst (λ n. journals.is_free n ≡ true) next.next free in
         let it = rolling.next_there v.place rows around next.row numbered row.there next.next in
-        let entry_is : joins.entry ≡ next.row.entry = told_entry e joins.entry e.sf next.row joins.reading next.is next_read in
+        let entry_is : joins.entry ≡ next.row.entry = reported_entry e joins.entry e.sf next.row joins.reading next.is next_read in
         let place_is : e.place ≡ next.row.place = ap (λ (r : stored.EntryRow). r.place) next.is in
         one_left o around made.out next.row joined out_is next.next (ap₂ ◌&&◌ it.stands (read_kind next.row.kind next.row.entry next_read))
         (joins.rollover ∙ ap (λ n. let r : Rollover = record { place = n; rolls = rolls_of (with_rolls (counter_after found.near.before) joins.entry) } in r) place_is

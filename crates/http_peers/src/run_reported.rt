@@ -5,7 +5,7 @@ use run_status::{DeviceLack, RunMonitor};
 /// The counts and device states of `sunreg run`, what the devices lacked at the start, and the
 /// accounting registers of earlier files.
 #[derive(Clone, Copy)]
-pub struct RunTold<'a> {
+pub struct RunReported<'a> {
     pub monitor: &'a RunMonitor,
     pub lacks: &'a [DeviceLack],
     pub earlier: &'a EarlierFiles<'a>,

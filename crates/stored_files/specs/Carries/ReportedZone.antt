@@ -16,7 +16,8 @@ abbrev pub ShowsZone : {Z : Type 0} → Content → (old new : State) → Vec Ro
 ShowsZone content old new rows =
     IsUnchanged old new × ((m : Meta) → IsMarked m content → rows.items ≡ zone_shown m ∷ [])
 
--- States that `told` is the office's time zone `zone`, and that the query for it committed nothing.
-pub record TellsZone {Z : Type 0} (zone : List ℕ) (old new : State) (told : String Z) : Type 0 where
-  pub bytes : string_bytes told ≡ zone
+-- States that `reported` is the office's time zone `zone`, and that the query for it committed
+-- nothing.
+pub record ReportsZone {Z : Type 0} (zone : List ℕ) (old new : State) (reported : String Z) : Type 0 where
+  pub bytes : string_bytes reported ≡ zone
   pub same : new.committed ≡ old.committed

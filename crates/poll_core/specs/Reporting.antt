@@ -4,7 +4,7 @@ use Rattle.std.specs.declared.option.Option.{Option}
 use Rattle.std.specs.Option.{option_map}
 use Rattle.mb_wire.specs.Replies.{answer_of}
 use Rattle.mb_wire.specs.declared.replies.Reply.{Reply}
-use Rattle.poll_core.specs.Settling as told
+use Rattle.poll_core.specs.Settling as reported
 use Rattle.poll_core.specs.Settling.{Event, Piece, Settlement, moment_of, words_in}
 use Rattle.poll_core.specs.Standing.{State, Before, After, call_of}
 use Rattle.poll_core.specs.declared.outcome.Call.{Call}
@@ -21,11 +21,11 @@ lent_words (Some reply) = words_in (answer_of reply)
 
 -- The outcome that the session returns, together with the registers of its reply.
 abbrev pub outcome_of : plain.Outcome → Option Reply → Settlement
-outcome_of Answered reply = told.Answered (lent_words reply)
-outcome_of (Exception code) reply = told.Exception code
-outcome_of Silent reply = told.Silent
-outcome_of (Malformed malformation) reply = told.Malformed malformation
-outcome_of (Lost cause) reply = told.Lost cause
+outcome_of Answered reply = reported.Answered (lent_words reply)
+outcome_of (Exception code) reply = reported.Exception code
+outcome_of Silent reply = reported.Silent
+outcome_of (Malformed malformation) reply = reported.Malformed malformation
+outcome_of (Lost cause) reply = reported.Lost cause
 
 -- The number and the outcome of a completed poll.
 abbrev pub settled_of : Settled → ℕ × Settlement
@@ -47,35 +47,35 @@ IsCall call session moment =
 
 -- The effect of a call that processes an event, or more bytes of a chunk. `before` and `after`
 -- build the event from the bytes consumed. If the call reports an outcome, fewer polls are pending.
-pub record TellsOfCall (old new : State) (before after : List ℕ → Event)
+pub record ReportsOfCall (old new : State) (before after : List ℕ → Event)
     (settled : Option (ℕ × Settlement)) : Type 0 where
   pub timeout : new.timeout ≡ old.timeout
   pub window : new.window ≡ old.window
   pub last : new.last ≡ moment_of (after [])
   pub settling : new.settling ≡ (if is_some settled then call_of (after []) else None)
   pub less : is_some settled ≡ true → length new.polls < length old.polls
-  pub told : (events : List Event) (bytes : List ℕ) (told : List (ℕ × Settlement))
-      → Before old events (before bytes) told → After new events (after bytes) told settled
+  pub reported : (events : List Event) (bytes : List ℕ) (reported : List (ℕ × Settlement))
+      → Before old events (before bytes) reported → After new events (after bytes) reported settled
 
 -- The effect of a call of `next` at the time `moment` that consumes the bytes `taken` of a chunk.
-abbrev pub TellsPiece : State → State → ℕ → List ℕ → Option (ℕ × Settlement) → Type 0
-TellsPiece old new moment taken =
-    TellsOfCall old new (λ bytes. Piece moment bytes) (λ bytes. Piece moment (bytes ++ taken))
+abbrev pub ReportsPiece : State → State → ℕ → List ℕ → Option (ℕ × Settlement) → Type 0
+ReportsPiece old new moment taken =
+    ReportsOfCall old new (λ bytes. Piece moment bytes) (λ bytes. Piece moment (bytes ++ taken))
 
 -- The effect of a call that processes this event.
-abbrev pub TellsEvent : State → State → Event → Option (ℕ × Settlement) → Type 0
-TellsEvent old new event = TellsOfCall old new (λ _. event) (λ _. event)
+abbrev pub ReportsEvent : State → State → Event → Option (ℕ × Settlement) → Type 0
+ReportsEvent old new event = ReportsOfCall old new (λ _. event) (λ _. event)
 
 -- True if the call consumes bytes of the chunk, or returns `ClockBack` and changes nothing.
 abbrev pub TakesPiece : State → (moment : ℕ) → (piece : List ℕ) → Result Turn ClockBack → State
     → Type 0
 TakesPiece old moment piece result new =
     OnErr result (new ≡ old)
-    × IfOk result (λ turn. TellsPiece old new moment (take turn.taken piece)
+    × IfOk result (λ turn. ReportsPiece old new moment (take turn.taken piece)
     (option_map settled_of turn.settled))
 
 -- True if the call processes the event, or returns `ClockBack` and changes nothing.
 abbrev pub TakesEvent : State → Event → Result (Option Settled) ClockBack → State → Type 0
 TakesEvent old event result new =
     OnErr result (new ≡ old)
-    × IfOk result (λ settled. TellsEvent old new event (option_map settled_of settled))
+    × IfOk result (λ settled. ReportsEvent old new event (option_map settled_of settled))

@@ -19,13 +19,13 @@ counts : (n : ℕ) → n < 2 ^ 64 → counted n ≡ n
 counts n few = min-eq_left (let fits : n ≤ 18446744073709551615 = omega (arith, few) in fits)
 
 -- The days that the writer of a report received, with the last line, equal the report.
-pub reported : {S : Type 0} (takes : S → DayTotal → S → Type 0) (zone : Zone) (past : History) (register : Option (List ℕ))
+pub as_reported : {S : Type 0} (takes : S → DayTotal → S → Type 0) (zone : Zone) (past : History) (register : Option (List ℕ))
     (before after : Failures) (from to : S) (reply : Result (Unit {0}) Refusal)
     → HandsDays takes zone (facts_of past) register before after from to reply
     → (shown : List DayTotal) × TakesAll takes from shown to
     × IsReport zone past register reply (flat_map day_line shown ++ last_line (counted (length shown)) reply)
-reported takes zone past register before after from to (Ok done) hands =
+as_reported takes zone past register before after from to (Ok done) hands =
     let days = hands.whole.days in
     let text = ap (λ n. flat_map day_line days ++ end_line n) (counts (length days) hands.whole.few) in
     (days, hands.whole.took, (days, hands.whole.are, text))
-reported takes zone past register before after from to (Err why) hands = ([], hands.none, refl)
+as_reported takes zone past register before after from to (Err why) hands = ([], hands.none, refl)

@@ -6,8 +6,8 @@ pub not_both : {Z E : Type 0} (zone : Z) (fault : E) → Ok zone ≡ Err fault �
 not_both zone fault both = cc
 
 -- If two error results are equal, then their faults are equal.
-pub same_fault : {Z Y E : Type 0} (told meant : E) → (let r : Result Z E = Err told in r) ≡ Err meant
-    → (let r : Result Y E = Err told in r) ≡ Err meant
-same_fault {Y = Y} {E = E} told meant same =
-    let is : told ≡ meant = cc in
+pub same_fault : {Z Y E : Type 0} (reported meant : E) → (let r : Result Z E = Err reported in r) ≡ Err meant
+    → (let r : Result Y E = Err reported in r) ≡ Err meant
+same_fault {Y = Y} {E = E} reported meant same =
+    let is : reported ≡ meant = cc in
     ap (λ e. let r : Result Y E = Err e in r) is

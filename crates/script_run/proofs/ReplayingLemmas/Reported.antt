@@ -15,7 +15,7 @@ use Rattle.office_core.specs.Standing.{Stands}
 use Rattle.office_books.specs.declared.failures.Failures.{Failures}
 use Rattle.office_core.specs.Taking.{failures_of}
 use Rattle.office_core.specs.declared.office.Office.{Office}
-use Rattle.script_run.specs.Replaying.Asked.{AreDaysTold, IsAnswered, RowPrints, RowsPrint, last_line, row_text}
+use Rattle.script_run.specs.Replaying.Asked.{AreDaysReported, IsAnswered, RowPrints, RowsPrint, last_line, row_text}
 use Rattle.energy_report.specs.RowLines.{counted}
 use Rattle.script_run.specs.Replaying.TextRun.{IsCarriedOut, stage_of}
 use Rattle.script_run.specs.Replaying.Stages.{Stage}
@@ -29,19 +29,19 @@ stays past office office' reply asks = same_stage past _ _ _ _ asks.stays asks.z
 
 pub is_answered : {T : Type 0} (past : History) (office office' : Office ListBooks) (found : Option T) (reply : Result T Refusal)
     (takes_memory : Type 0) → IsFound takes_memory found (failures_of ledger_of office) (failures_of ledger_of office') reply → OnlyAsks ledger_of office office' reply → IsAnswered (stage_of past office) found reply
-is_answered past office office' found reply takes_memory told asks =
-    record { answer = right_or_fails takes_memory _ _ reply _ refl refl told; stops = asks.stopped }
+is_answered past office office' found reply takes_memory reported asks =
+    record { answer = right_or_fails takes_memory _ _ reply _ refl refl reported; stops = asks.stopped }
 
-pub row_told : {T : Type 0} (find : Stage → Option T) (row_line : T → List ℕ) (past : History) (office office' : Office ListBooks)
+pub row_reported : {T : Type 0} (find : Stage → Option T) (row_line : T → List ℕ) (past : History) (office office' : Office ListBooks)
     (reply : Result T Refusal) (result : Result (Unit {0}) Error) (o o' : Option (List ℕ)) → IsRowFound (find (stage_of past office)) (failures_of ledger_of office) (failures_of ledger_of office') reply
     → OnlyAsks ledger_of office office' reply → Stands ledger_of past office → GotText result (row_text row_line reply) o o'
     → IsCarriedOut (λ now printed next. RowPrints now (find now) row_line printed next) past office office' result o o'
-row_told find row_line past office office' reply result o o' told asks stands got = record {
+row_reported find row_line past office office' reply result o o' reported asks stands got = record {
   printed = row_text row_line reply;
   after = past;
   prints = record {
     reply = reply;
-    is = is_answered past office office' (find (stage_of past office)) reply ⊥ told asks;
+    is = is_answered past office office' (find (stage_of past office)) reply ⊥ reported asks;
     text = refl;
     same = stays past office office' reply asks;
   };
@@ -49,20 +49,20 @@ row_told find row_line past office office' reply result o o' told asks stands go
   stands = asks.stands past stands;
 }
 
-pub rows_told : {T : Type 0} (there : Stage → Option (Unit {0})) (AreTold : Stage → List T → Result (Unit {0}) Refusal → Type 0)
+pub rows_reported : {T : Type 0} (there : Stage → Option (Unit {0})) (AreReported : Stage → List T → Result (Unit {0}) Refusal → Type 0)
     (row_line : T → List ℕ) (past : History) (office office' : Office ListBooks) (rows : List T) (reply : Result (Unit {0}) Refusal)
     (result : Result (Unit {0}) Error) (o o' : Option (List ℕ)) (takes_memory : Type 0) → IsFound takes_memory (there (stage_of past office)) (failures_of ledger_of office) (failures_of ledger_of office') reply
-    → AreTold (stage_of past office) rows reply → OnlyAsks ledger_of office office' reply → Stands ledger_of past office
+    → AreReported (stage_of past office) rows reply → OnlyAsks ledger_of office office' reply → Stands ledger_of past office
     → GotText result (flat_map row_line rows ++ last_line (counted (length rows)) reply) o o'
-    → IsCarriedOut (λ now printed next. RowsPrint now (there now) (AreTold now) row_line printed next) past office office' result o o'
-rows_told there AreTold row_line past office office' rows reply result o o' takes_memory found told asks stands got = record {
+    → IsCarriedOut (λ now printed next. RowsPrint now (there now) (AreReported now) row_line printed next) past office office' result o o'
+rows_reported there AreReported row_line past office office' rows reply result o o' takes_memory found reported asks stands got = record {
   printed = flat_map row_line rows ++ last_line (counted (length rows)) reply;
   after = past;
   prints = record {
     rows = rows;
     reply = reply;
     is = is_answered past office office' (there (stage_of past office)) reply takes_memory found asks;
-    told = told;
+    reported = reported;
     text = refl;
     same = stays past office office' reply asks;
   };
@@ -82,7 +82,7 @@ handed takes rows before after from to (Err why) hands = (take hands.begun.0 (ro
 pub handed_days : {S : Type 0} (takes : S → DayTotal → S → Type 0) (now : Stage) (register : Option (List ℕ))
     (before after : Failures) (from to : S) (reply : Result (Unit {0}) Refusal)
     → HandsDays takes now.zone (facts_of now.past) register before after from to reply
-    → (shown : List DayTotal) × TakesAll takes from shown to × AreDaysTold now register shown reply
+    → (shown : List DayTotal) × TakesAll takes from shown to × AreDaysReported now register shown reply
 handed_days takes now register before after from to (Ok done) hands =
     (hands.whole.days, hands.whole.took, record { whole = hands.whole.are; none = tt })
 handed_days takes now register before after from to (Err why) hands = ([], hands.none, record { whole = tt; none = refl })

@@ -20,7 +20,7 @@ use Rattle.store_tables.specs.Failing.{IsStoreError, StateAfterCall}
 use Rattle.store_tables.proofs.Failures.{later_failed}
 use Rattle.store_tables.proofs.StepLemmas.{kept_then}
 use Rattle.store_files.specs.Faults.{fault_of, IsOwnFault}
-use Rattle.store_files.specs.OpenedFile.{ReadsMeta, TellsOpening}
+use Rattle.store_files.specs.OpenedFile.{ReadsMeta, ReportsOpening}
 
 apart_from : (e d f g : OpenFault) → (e ≡ d) ⊎ (e ≡ f) → d ≢ g → f ≢ g → e ≢ g
 apart_from e d f g (inl is) off away same = off (sym is ∙ same)
@@ -55,8 +55,8 @@ later_own a b c NoZone goes own = absurd own
 
 -- If the database itself fails, the result of opening says nothing about the file's version or time
 -- zone.
-pub tells_fault : (version : ℕ) (m : Meta) (a b : State) (e : OpenFault) → IsOwnFault a b e → KeepsCommit a b → TellsOpening version m a b (Err e)
-tells_fault version m a b e own kept =
+pub reports_fault : (version : ℕ) (m : Meta) (a b : State) (e : OpenFault) → IsOwnFault a b e → KeepsCommit a b → ReportsOpening version m a b (Err e)
+reports_fault version m a b e own kept =
     let is = own_kind a b e own in
     let no_zone : e ≢ NoZone = apart_from e Store Memory NoZone is (λ s. absurd cc) (λ s. absurd cc) in
     record {
@@ -69,15 +69,15 @@ tells_fault version m a b e own kept =
       kept = kept;
     }
 
-pub tells_err : (version : ℕ) (m : Meta) (a b : State) (e : OpenFault) (r : Result Zone OpenFault) → IsErrAnd r (λ d. d ≡ e) → TellsOpening version m a b (Err e) → TellsOpening version m a b r
-tells_err version m a b e (Ok z) fails it = absurd fails
-tells_err version m a b e (Err d) fails it = subst (λ f. TellsOpening version m a b (Err f)) (sym fails) it
+pub reports_err : (version : ℕ) (m : Meta) (a b : State) (e : OpenFault) (r : Result Zone OpenFault) → IsErrAnd r (λ d. d ≡ e) → ReportsOpening version m a b (Err e) → ReportsOpening version m a b r
+reports_err version m a b e (Ok z) fails it = absurd fails
+reports_err version m a b e (Err d) fails it = subst (λ f. ReportsOpening version m a b (Err f)) (sym fails) it
 
 -- If the database fails after the file was accepted, the result of opening the file is the
 -- database's fault.
-pub tells_later : (version : ℕ) (m : Meta) (a b c : State) (z : Zone) (e : OpenFault) (r : Result Zone OpenFault) → (version ≡ 3 → ⊥) → TellsOpening version m a b (Ok z) → (e ≡ Store) ⊎ (e ≡ Memory) → IsErrAnd r (λ d. d ≡ e) → KeepsCommit a c → TellsOpening version m a c r
-tells_later version m a b c z e (Ok y) earlier it is fails kept = absurd fails
-tells_later version m a b c z e (Err d) earlier it is fails kept =
+pub reports_later : (version : ℕ) (m : Meta) (a b c : State) (z : Zone) (e : OpenFault) (r : Result Zone OpenFault) → (version ≡ 3 → ⊥) → ReportsOpening version m a b (Ok z) → (e ≡ Store) ⊎ (e ≡ Memory) → IsErrAnd r (λ d. d ≡ e) → KeepsCommit a c → ReportsOpening version m a c r
+reports_later version m a b c z e (Ok y) earlier it is fails kept = absurd fails
+reports_later version m a b c z e (Err d) earlier it is fails kept =
     let kind : (d ≡ Store) ⊎ (d ≡ Memory) = subst (λ f. (f ≡ Store) ⊎ (f ≡ Memory)) (sym fails) is in
     record {
       other = λ off. absurd (it.other off).0;
@@ -89,8 +89,8 @@ tells_later version m a b c z e (Err d) earlier it is fails kept =
       kept = kept;
     }
 
-pub tells_well : (version : ℕ) (m : Meta) (a b c : State) (z : Zone) → TellsOpening version m a b (Ok z) → TellsOpening version m a c (Ok z)
-tells_well version m a b c z it = record {
+pub reports_well : (version : ℕ) (m : Meta) (a b c : State) (z : Zone) → ReportsOpening version m a b (Ok z) → ReportsOpening version m a c (Ok z)
+reports_well version m a b c z it = record {
   other = λ off. ((it.other off).0, tt);
   ours = λ same. tt;
   zone = it.zone;
@@ -101,8 +101,8 @@ tells_well version m a b c z it = record {
 }
 
 -- If a call runs before the query of `meta`, the result of opening the file stays the same.
-pub tells_since : (version : ℕ) (m : Meta) (a b c : State) (r : Result Zone OpenFault) → StateAfterCall a b → KeepsCommit a b → TellsOpening version m b c r → TellsOpening version m a c r
-tells_since version m a b c (Ok z) goes kept it = record {
+pub reports_since : (version : ℕ) (m : Meta) (a b c : State) (r : Result Zone OpenFault) → StateAfterCall a b → KeepsCommit a b → ReportsOpening version m b c r → ReportsOpening version m a c r
+reports_since version m a b c (Ok z) goes kept it = record {
   other = λ off. ((it.other off).0, tt);
   ours = λ same. tt;
   zone = it.zone;
@@ -111,7 +111,7 @@ tells_since version m a b c (Ok z) goes kept it = record {
   sound = λ same last text zone. tt;
   kept = tt;
 }
-tells_since version m a b c (Err e) goes kept it = record {
+reports_since version m a b c (Err e) goes kept it = record {
   other = λ off. (tt, elim (it.other off).1 [ inl is ↦ inl is | inr own ↦ inr (later_own a b c e goes own) ]);
   ours = it.ours;
   zone = tt;
@@ -127,8 +127,8 @@ memory_or : (a b : State) (e : OpenFault) → (e ≡ NoZone) ⊎ (e ≡ Memory) 
 memory_or a b e (inl is) = inl is
 memory_or a b e (inr is) = inr (subst (IsOwnFault a b) (sym is) tt)
 
-pub tells_meta : (version : ℕ) (m : Meta) (a b : State) (r : Result Zone OpenFault) → KeepsCommit a b → ReadsMeta version m r → TellsOpening version m a b r
-tells_meta version m a b (Ok z) kept it = record {
+pub reports_meta : (version : ℕ) (m : Meta) (a b : State) (r : Result Zone OpenFault) → KeepsCommit a b → ReadsMeta version m r → ReportsOpening version m a b r
+reports_meta version m a b (Ok z) kept it = record {
   other = λ off. (let e = it.other off in cc, tt);
   ours = λ same. tt;
   zone = it.zone;
@@ -137,7 +137,7 @@ tells_meta version m a b (Ok z) kept it = record {
   sound = λ same last text zone. tt;
   kept = tt;
 }
-tells_meta version m a b (Err e) kept it = record {
+reports_meta version m a b (Err e) kept it = record {
   other = λ off. (tt, inl (let f = it.other off in cc));
   ours = λ same. apart_from e NoZone Memory NotOurs (it.ours same) (λ s. absurd cc) (λ s. absurd cc);
   zone = tt;
@@ -153,9 +153,9 @@ none_of P Q (Err e) out h = tt
 
 -- If `meta` has the expected version, the result is the file's time zone, or a fault about the time
 -- zone.
-pub tells_zone : (version : ℕ) (m : Meta) (r : Result Zone OpenFault) → m.version ≡ version → IfErr r (λ e. (e ≡ NoZone) ⊎ (e ≡ Memory)) → IfOk r (λ z. HasRule m.zone z × IsZone m.zone)
+pub reports_zone : (version : ℕ) (m : Meta) (r : Result Zone OpenFault) → m.version ≡ version → IfErr r (λ e. (e ≡ NoZone) ⊎ (e ≡ Memory)) → IfOk r (λ z. HasRule m.zone z × IsZone m.zone)
     → (IsUtf8 m.zone → IsZone m.zone → IfErr r (λ e. e ≢ NoZone)) → ReadsMeta version m r
-tells_zone version m r same fault zone rule = record {
+reports_zone version m r same fault zone rule = record {
   other = λ off. absurd (off same);
   ours = λ is. fault;
   zone = IfOk-weaker r _ _ (λ z h. h.0) zone;
@@ -191,19 +191,19 @@ one_layout Third Third same = refl
 
 -- If the upgrade of a file fails, the file keeps its committed rows.
 pub kept_of : (layout : Layout) (m : Meta) (content : Content) (a b c : State) (z : Zone) → IsTrue a.is_open → a.now ≡ a.committed → AreTablesIn (schema_of layout) a.now content → IsMarked m content
-    → TellsOpening (version_of layout) m a b (Ok z) → KeepsCommit a b → IsUnchanged a b → (IsOpenTo layout m.zone content b → KeepsCommit b c) → KeepsCommit a c
-kept_of layout m content a b c z is_open settled has marked told kept same brings =
+    → ReportsOpening (version_of layout) m a b (Ok z) → KeepsCommit a b → IsUnchanged a b → (IsOpenTo layout m.zone content b → KeepsCommit b c) → KeepsCommit a c
+kept_of layout m content a b c z is_open settled has marked reported kept same brings =
     kept_then a b c kept (brings (record {
       is_open = same.0.is_open;
       settled = same.0.now_is ∙ settled ∙ sym same.0.committed_is;
       file = record {
         tables = subst (λ d. AreTablesIn (schema_of layout) d content) (sym (same.0.committed_is ∙ sym settled)) has;
-        marked = subst (λ v. IsMarked (record { version = v; zone = m.zone }) content) (this_version layout m told) marked;
+        marked = subst (λ v. IsMarked (record { version = v; zone = m.zone }) content) (this_version layout m reported) marked;
       };
     }))
   where
-    this_version : (layout : Layout) (m : Meta) → TellsOpening (version_of layout) m a b (Ok z) → m.version ≡ version_of layout
-    this_version layout m told = elim (cases_Bool (m.version == version_of layout)) [
+    this_version : (layout : Layout) (m : Meta) → ReportsOpening (version_of layout) m a b (Ok z) → m.version ≡ version_of layout
+    this_version layout m reported = elim (cases_Bool (m.version == version_of layout)) [
       | inl is ↦ eqb-true m.version (version_of layout) is
-      | inr off ↦ absurd (told.other (λ e. absurd (let f : false ≡ true = sym off ∙ eq-eqb m.version (version_of layout) e in cc))).0
+      | inr off ↦ absurd (reported.other (λ e. absurd (let f : false ≡ true = sym off ∙ eq-eqb m.version (version_of layout) e in cc))).0
     ]

@@ -1,12 +1,12 @@
 //! Remembers the last reported problem of each device and meter, so that no message repeats.
 ghost use Rattle.std.specs.Prelude.{◌≡◌};
-ghost use Rattle.run_status.specs.Advice.Told as specs;
+ghost use Rattle.run_status.specs.Advice.Reported as specs;
 
 use office_events::Name;
 use std::alloc::{AllocError, Global};
 
 /// The most devices and meters whose last reported number is remembered.
-pub const MOST_TOLD: usize = 512;
+pub const MOST_REPORTED: usize = 512;
 
 /// The subject of a reported number.
 #[derive(Clone, Copy, Debug, PartialEq, Eq)]
@@ -21,7 +21,7 @@ pub enum Topic {
 
 impl Topic {
     ghost use Rattle.std.specs.Prelude.{◌≡◌};
-    ghost use Rattle.run_status.specs.Advice.Told.{topic_number};
+    ghost use Rattle.run_status.specs.Advice.Reported.{topic_number};
 
     // Returns the number of a topic, by which two topics are compared.
     fn number(self) -> u8
@@ -57,7 +57,7 @@ fn is_same_name(a: &Option<Name>, b: &Option<Name>) -> bool
 
 impl ReportedNumber {
     ghost use Rattle.std.specs.Prelude.{◌≡◌};
-    ghost use Rattle.run_status.specs.Advice.Told as specs;
+    ghost use Rattle.run_status.specs.Advice.Reported as specs;
 
     // Returns whether two entries have the same topic and the same device or meter.
     fn is_of_same(&self, other: &ReportedNumber) -> bool
@@ -70,34 +70,34 @@ impl ReportedNumber {
 /// The last reported number of each device and meter. A number is reported only if it differs from
 /// the last reported number.
 #[derive(Drop)]
-pub struct Told {
+pub struct Reported {
     pub numbers: Vec<ReportedNumber>,
 }
 
-impl Told {
+impl Reported {
     ghost use Rattle.std.specs.Prelude.{◌≡◌, [], is_ok};
-    ghost use Rattle.run_status.specs.Advice.Told as specs;
+    ghost use Rattle.run_status.specs.Advice.Reported as specs;
 
     /// Makes a list without any reported number.
-    pub fn new(alloc: Global) -> Told
+    pub fn new(alloc: Global) -> Reported
         ensures { result.numbers.items ≡ [] }
     {
-        Told {
+        Reported {
             numbers: Vec::new(alloc),
         }
     }
 
-    // Returns the index of the entry with the same topic and the same device or meter as `told`.
-    fn place_of(&self, told: &ReportedNumber) -> Option<usize>
-        ensures { result ≡ specs.place_of told.now self.now.numbers.items }
+    // Returns the index of the entry with the topic and the device or meter of `reported`.
+    fn place_of(&self, reported: &ReportedNumber) -> Option<usize>
+        ensures { result ≡ specs.place_of reported.now self.now.numbers.items }
     {
-        self.numbers.iter().position(|one| one.is_of_same(told))
+        self.numbers.iter().position(|one| one.is_of_same(reported))
     }
 
     // Adds an entry for a device or meter if memory suffices.
     fn push(&mut self, topic: Topic, name: Option<Name>, number: u8) -> Result<(), AllocError>
         ensures { self.new.numbers.items
-            ≡ specs.pushed (is_ok result) (specs.told_number topic name number)
+            ≡ specs.pushed (is_ok result) (specs.reported_number topic name number)
             self.old.numbers.items }
     {
         self.numbers.push(ReportedNumber {
@@ -109,24 +109,27 @@ impl Told {
     }
 
     // Adds an entry for a device or meter, and returns whether the list had room.
-    fn add(&mut self, told: ReportedNumber) -> bool
-        ensures { specs.Adds told self.old.numbers.items self.new.numbers.items result }
+    fn add(&mut self, reported: ReportedNumber) -> bool
+        ensures { specs.Adds reported self.old.numbers.items self.new.numbers.items result }
     {
-        self.numbers.len() < MOST_TOLD && self.push(told.topic, told.name, told.number).is_ok()
+        self.numbers.len() < MOST_REPORTED
+            && self
+                .push(reported.topic, reported.name, reported.number)
+                .is_ok()
     }
 
     // Replaces the number of the entry at an index, and returns whether the new number is
     // different.
-    fn change(&mut self, place: usize, told: ReportedNumber) -> bool
-        ensures { specs.Changes place told self.old.numbers.items self.new.numbers.items result }
+    fn change(&mut self, place: usize, reported: ReportedNumber) -> bool
+        ensures { specs.Changes place reported self.old.numbers.items self.new.numbers.items result }
     {
         if place >= self.numbers.len() {
             return false;
         }
-        if self.numbers[place].number == told.number {
+        if self.numbers[place].number == reported.number {
             return false;
         }
-        self.numbers[place] = told;
+        self.numbers[place] = reported;
         true
     }
 
@@ -134,12 +137,12 @@ impl Told {
     ///
     /// A number is reported if it differs from the last number on the same topic. If the list has
     /// no room for a device or meter, then no number about that device or meter is reported.
-    pub fn report_once(&mut self, told: ReportedNumber) -> bool
-        ensures { specs.TellsNumber told self.old.numbers.items self.new.numbers.items result }
+    pub fn report_once(&mut self, reported: ReportedNumber) -> bool
+        ensures { specs.ReportsNumber reported self.old.numbers.items self.new.numbers.items result }
     {
-        match self.place_of(&told) {
-            Some(place) => self.change(place, told),
-            None => self.add(told),
+        match self.place_of(&reported) {
+            Some(place) => self.change(place, reported),
+            None => self.add(reported),
         }
     }
 

@@ -12,15 +12,15 @@ use Rattle.office_core.specs.Refusing.Asking.{IsOfSession}
 
 -- True if the result, computed from the slots and the store, is the refusal of the event. This
 -- requires that no wrong result of the store went undetected.
-abbrev pub TellsWhy : (old new : Ledger) → List Slot → (latest at : ℕ) → Event
+abbrev pub ReportsWhy : (old new : Ledger) → List Slot → (latest at : ℕ) → Event
     → Result (Option Refusal) BooksFault → Type 0
-TellsWhy old new kept latest at e result =
+ReportsWhy old new kept latest at e result =
     (past : History) → latest ≡ latest_of past → KeepsSlots kept (slots_of past)
     → old.holds (facts_of past) → new.is_clean → IfOk result (λ r. r ≡ refusal_of past at e)
 
 -- True if the result is the refusal of a device event, computed from the slots only. The reason is
 -- one of the four reasons of `IsOfSession`.
-pub record TellsAlone (kept : List Slot) (latest at : ℕ) (e : Event)
+pub record ReportsAlone (kept : List Slot) (latest at : ℕ) (e : Event)
     (result : Result (Option Refusal) BooksFault) : Type 0 where
   pub why : (past : History) → latest ≡ latest_of past → KeepsSlots kept (slots_of past)
       → IfOk result (λ r. r ≡ refusal_of past at e)
