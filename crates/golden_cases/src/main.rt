@@ -1,6 +1,7 @@
 //! Runs the golden tests below the folder that the first argument names, by default the working
-//! directory. A golden test is an input and the expected output: a script of a command, or HTTP
-//! requests. The program reports each test that differs, and at the end how many agree.
+//! directory. A golden test has an input and its expected output. The input is a script for a
+//! command, or HTTP requests. The program reports each test that differs, and at the end how many
+//! tests agree.
 #![tactic(auto)]
 
 mod comparing;
@@ -45,7 +46,8 @@ fn main(rt: HostRuntime) -> ExitCode {
     }
 }
 
-// Runs the golden tests in all folders of folders.
+// Runs the golden tests two levels below the top folder: each subfolder is for one form of input,
+// and has a folder for each subject.
 fn play_all(rt: &HostRuntime) -> io::Result<Tally> {
     let mut tally = Tally {
         agree: 0,

@@ -1,4 +1,4 @@
-//! Runs the requests of a golden test with a store in memory.
+//! Runs the requests of a golden test against a store in memory.
 use crate::responses::{run, serve};
 use crate::spelled::decode;
 use interval_core::Zone;
@@ -11,8 +11,8 @@ use std::alloc::{AllocError, Global};
 
 type MemoryOffice = Office<ListBooks>;
 
-/// Returns the responses to the requests of a golden test, each followed by a line feed. The
-/// command `serve` reads a request in pieces of `piece` bytes.
+/// Returns the responses to the requests of a golden test, each followed by a line feed. Requests
+/// to the command `serve` arrive in chunks of `piece` bytes.
 pub(crate) fn play(alloc: Global, text: &str, piece: usize) -> Result<Vec<u8>, AllocError> {
     match open_office(alloc) {
         Some(mut office) => play_blocks(alloc, &mut office, text, piece),

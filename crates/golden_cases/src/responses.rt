@@ -1,23 +1,22 @@
-//! Makes the responses of the commands `serve` and `run` in golden tests.
-use http_peers::reply_site_over;
+//! Produces the responses of the commands `serve` and `run` for golden tests.
+use http_peers::{EarlierFiles, Now, RunContext, respond};
+use interval_core::Zone;
 use mb_wire::MemoryLink;
 use memory_books::ListBooks;
 use office_core::Office;
 use office_http::handle_named;
-use run_http::{
-    ClientResponse, RunRoute, ask, for_browsers, reply_energy, reply_entries, reply_intervals,
-    reply_meters, reply_metrics, reply_status, reply_voids, run_route,
-};
-use run_status::Counts;
+use run_http::{ClientResponse, RunRoute, ask, for_browsers, run_route};
+use run_status::RunMonitor;
 use std::alloc::{AllocError, Global};
 
-// The host name that the option `--host-name` would add.
+// The host names that requests may use, as if the option `--host-name` had added them.
 static NAMES: [&str; 1] = ["office.example"];
 
-// The text that golden tests expect instead of a response.
+// The text that golden tests expect after whatever was sent, if the command fails or sends no
+// response.
 static NO_REPLY: &[u8] = b"no reply";
 
-/// Appends the response of `sunreg serve` to a request, which is read in pieces of `piece` bytes.
+/// Appends the response of `sunreg serve` to a request that arrives in chunks of `piece` bytes.
 pub(crate) fn serve(
     alloc: Global,
     office: &mut Office<ListBooks>,
@@ -36,8 +35,8 @@ pub(crate) fn serve(
     }
 }
 
-/// Appends the response that `sunreg run` sends to a request, with the headers for browsers. Either
-/// a route of `sunreg run` or `office_http` makes the response.
+/// Appends the response of `sunreg run` to a request, with the headers for browsers. Either a route
+/// of `sunreg run` or `office_http` produces the response.
 pub(crate) fn run(
     alloc: Global,
     office: &mut Office<ListBooks>,
@@ -45,41 +44,43 @@ pub(crate) fn run(
     request: &[u8],
     printed: &mut Vec<u8>,
 ) -> Result<(), AllocError> {
-    let mut reply = Vec::new(alloc);
-    match run_route(&NAMES, request) {
-        Some(route) => reply_of_run(alloc, office, at, &route, &mut reply)?,
-        None => match ask(alloc, request, office, at) {
-            ClientResponse::Replied(replied) => reply = replied,
-            ClientResponse::Open | ClientResponse::Failed => return printed.extend_from_slice(
-                NO_REPLY,
-            ),
-        },
+    let answered = match run_route(&NAMES, request) {
+        Some(route) => respond_alone(alloc, office, &route, at)?,
+        None => ask(alloc, request, office, at),
+    };
+    match answered {
+        ClientResponse::Replied(reply) => {
+            let sent = for_browsers(alloc, &NAMES, request, &reply)?;
+            printed.extend_from_slice(&sent)
+        }
+        ClientResponse::Open | ClientResponse::Failed => printed.extend_from_slice(NO_REPLY),
     }
-    let reported = for_browsers(alloc, &NAMES, request, &reply)?;
-    printed.extend_from_slice(&reported)
 }
 
-// Appends the response of a route of `sunreg run`. All counts of events are 0, and there are no
-// earlier files.
-fn reply_of_run(
+// Returns the response of a route of `sunreg run` without devices and without earlier files.
+fn respond_alone(
     alloc: Global,
     office: &mut Office<ListBooks>,
-    at: u64,
     route: &RunRoute,
-    printed: &mut Vec<u8>,
-) -> Result<(), AllocError> {
-    match route {
-        RunRoute::Own(own) => reply_status(alloc, printed, *own, &Counts::new(), &[], &[]),
-        RunRoute::Metrics => reply_metrics(alloc, printed, office, &Counts::new(), &[]),
-        RunRoute::Site => reply_site_over(alloc, printed, office, &[], at),
-        RunRoute::Intervals { meter, span } => {
-            reply_intervals(alloc, printed, office, meter, *span)
-        }
-        RunRoute::Entries { meter, from } => reply_entries(alloc, printed, office, meter, *from),
-        RunRoute::Voids { meter } => reply_voids(alloc, printed, office, meter),
-        RunRoute::Meters { register } => reply_meters(alloc, printed, office, register),
-        RunRoute::Energy { register, form } => {
-            reply_energy(alloc, printed, office, register, form)
-        }
-    }
+    at: u64,
+) -> Result<ClientResponse, AllocError> {
+    let monitor = RunMonitor::new(alloc, &[])?;
+    let Ok(zone) = Zone::read("UTC0") else {
+        return Ok(ClientResponse::Failed);
+    };
+    let earlier = EarlierFiles {
+        zone,
+        registers: &[],
+    };
+    let context = RunContext {
+        names: &NAMES,
+        monitor: &monitor,
+        lacks: &[],
+        earlier: &earlier,
+        at: Now {
+            time: at,
+            moment: at,
+        },
+    };
+    Ok(respond(alloc, office, route, &context))
 }

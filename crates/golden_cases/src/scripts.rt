@@ -1,4 +1,4 @@
-//! Runs the golden tests of commands that read a text.
+//! Runs the golden tests of commands that read a text from standard input.
 use crate::kinds::{Command, Script};
 use command_io::ExitStatus;
 use interval_core::Zone;
@@ -6,8 +6,8 @@ use script_run::{Loopback, loop_text, replay};
 use std::io::{self, ErrorKind, Write};
 use sunspec_text::{chain_text, plan_text};
 
-/// Returns the output of a golden test, for the complete file or for each line after the first as
-/// an input. For `plan`, the first line is not part of the input.
+/// Returns the output of a golden test. If `by_lines` is set, each line after the first is a
+/// separate input. Otherwise the complete file is the input, but for `plan` without its first line.
 pub(crate) fn play<'r>(
     rt: &'r HostRuntime,
     loopback: &mut Loopback<'r, HostRuntime>,

@@ -1,9 +1,9 @@
 //! Decodes the requests of golden tests.
 use std::alloc::{AllocError, Global};
 
-/// Decodes a request from the text of a golden test. Each line of the text ends with CR LF, unless
-/// the line's last character is `~`. In a line, `~N;` is the byte N, and `~N*COUNT;` is the byte N,
-/// COUNT times.
+/// Decodes a request from the text of a golden test. Each line is sent with CR LF at its end, or
+/// without if its last character is `~`. In a line, `~N;` is the byte N, and `~N*COUNT;` is the
+/// byte N, COUNT times.
 pub(crate) fn decode(alloc: Global, text: &str) -> Result<Vec<u8>, AllocError> {
     let mut bytes = Vec::new(alloc);
     for line in text.split('\n') {

@@ -1,2 +1,2 @@
-pub mod PeersAsking
+pub mod ServingClients
 pub mod OverLemmas

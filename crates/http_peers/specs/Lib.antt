@@ -2,5 +2,6 @@ pub mod EnergyOver
 pub mod SiteOver
 pub mod KeptRoom
 pub mod Outbox
-pub mod PeersAsk
+pub mod Clients
 pub mod Repeats
+pub mod Responses

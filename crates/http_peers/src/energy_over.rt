@@ -1,5 +1,7 @@
 //! The energy of an accounting register over earlier files of the store and the current file.
-ghost use Rattle.std.specs.Prelude.{◌≡◌, ◌++◌, ◌<◌, IfSome, OnOk, length, position};
+ghost use Rattle.std.specs.Prelude.{◌≡◌, ◌++◌, OnOk};
+ghost use Rattle.std.specs.List.{find};
+ghost use Rattle.std.specs.Option.{option_copied};
 ghost use Rattle.energy_report.specs.Texts.{report_text};
 ghost use Rattle.office_rules.specs.Facts.{is_named};
 ghost use Rattle.http_peers.specs.EnergyOver.{AsksEnergyOver, RepliesEnergyOver};
@@ -58,7 +60,7 @@ fn write_energy_over<B: Books>(
 /// days of earlier files and of the current file, in the site's time zone. If the report's range
 /// has both ends, only the quarter hours of the range and of two days on each side are read. If
 /// memory runs out, a part of the response is appended.
-pub fn reply_energy_over<B: Books>(
+pub(crate) fn reply_energy_over<B: Books>(
     alloc: Global,
     text: &mut Vec<u8>,
     office: &mut Office<B>,
@@ -86,19 +88,13 @@ fn is_of(it: &EarlierRegister, register: &Option<Name>) -> bool
     }
 }
 
-// Returns the index of the first accounting register with this name among the registers of earlier
-// files.
-fn first_of(registers: &[EarlierRegister], register: &Option<Name>) -> Option<usize>
-    ensures { result ≡ position (λ it. is_named register.now it.name) registers.now }
+/// Returns the first accounting register with this name among the registers of earlier files.
+pub(crate) fn earlier_named<'a>(
+    registers: &'a [EarlierRegister],
+    register: &Option<Name>,
+) -> Option<&'a EarlierRegister>
+    ensures { option_copied result
+        ≡ find (λ it. is_named register.now it.name) registers.now }
 {
-    registers.iter().position(|it| is_of(it, register))
-}
-
-/// Returns the index of the first accounting register with this name among the registers of earlier
-/// files. Returns `None` if the earlier files do not have the register.
-pub fn place_among(registers: &[EarlierRegister], register: &Option<Name>) -> Option<usize>
-    ensures first { result ≡ position (λ it. is_named register.now it.name) registers.now }
-    ensures within { IfSome result (λ place. place < length registers.now) }
-{
-    first_of(registers, register)
+    registers.iter().find(|it| is_of(it, register))
 }

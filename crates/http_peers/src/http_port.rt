@@ -1,31 +1,28 @@
 //! The HTTP port of `sunreg run`, and its connections.
-ghost use Rattle.std.specs.Prelude.{◌≡◌, ◌⊎◌, ℕ, false, true, List};
+ghost use Rattle.std.specs.Prelude.{◌≡◌, ◌⊎◌, false, true};
 ghost use Rattle.http_request.specs.Hosts.{texts};
-ghost use Rattle.http_peers.specs.PeersAsk.{PeersAsk};
+ghost use Rattle.http_peers.specs.Clients.{OnlyQueries, ServesClients};
+ghost use Rattle.http_peers.specs.Responses.{ExecutesOnly, ExecutesUnlessRejected, RespondsTo};
 
 use crate::clients::Client;
-use crate::interval_answers::{answer_span, append_piece, begin_all};
+use crate::interval_answers::{append_piece, begin_all};
 use crate::kept_room::{KeptRoom, is_acknowledged, is_command};
-use crate::moments::{Now, even_milliseconds};
+use crate::moments::even_milliseconds;
 use crate::repeats::Repeats;
-use crate::route_answers::{
-    answer_days, answer_entries, answer_meters, answer_metrics, answer_site, answer_status,
-    answer_voids,
-};
-use crate::run_reported::{RunReported, RunSystem};
+use crate::responses::{begin_response, unavailable};
+use crate::run_context::{RunContext, RunSystem};
 use crate::slots::{
     empty_slots, has_rows_left, held_bytes, is_attended, is_done, is_ready, open_slots,
     record_state,
 };
-use http_request::{Route, Status, router};
+use http_request::{Route, router};
 use matchit::Router;
 use mio::net::{TcpListener, TcpStream};
 use mio::{Interest, Registry, Token};
 use office_books::Books;
 use office_core::Office;
 use run_http::{
-    ClientResponse, RemainingRows, RunRoute, StatusRoute, ask, asks_energy, for_browsers, may_void,
-    run_route,
+    ClientResponse, RemainingRows, ask, asks_energy, for_browsers, may_void, run_route,
 };
 use run_schedule::{
     MOST_CLIENTS, PEER_SECONDS, Peers, TurnShare, choose_slot, may_reply, place_at,
@@ -257,74 +254,72 @@ impl HttpPort {
         }
     }
 
-    // Routes a complete request and makes its response. `rows` receives the rows that later chunks
-    // send. The host is tested first, and then the limit for stored commands.
-    #[tactic(auto, using(crate::proofs::PeersAsking::nobody_asks, crate::proofs::PeersAsking::both_ask))]
-    fn reply<B: Books>(
+    // Executes a request that no route of `sunreg run` matches, or rejects it as a command that may
+    // not be stored. `rows` receives the rows that later chunks send.
+    fn execute<B: Books>(
         &self,
-        names: &[&str],
         request: &[u8],
         office: &mut Office<B>,
-        reported: &RunReported<'_>,
-        now: Now,
+        moment: u64,
         rows: &mut Option<RemainingRows>,
     ) -> ClientResponse
-        ensures { PeersAsk (texts names.now) now.moment B.ledger office.old office.new }
+        ensures { ExecutesUnlessRejected B.ledger moment office.old office.new
+            self.now.router self.now.room.left self.now.is_lost request.now
+            rows.old rows.new result }
     {
         let alloc = self.alloc;
-        match run_route(names, request) {
-            Some(RunRoute::Own(route)) => answer_status(alloc, route, reported),
-            Some(RunRoute::Metrics) => answer_metrics(alloc, office, reported),
-            Some(RunRoute::Site) => answer_site(
-                alloc,
-                office,
-                reported.earlier.registers,
-                now.moment,
-            ),
-            Some(RunRoute::Intervals { meter, span }) => {
-                answer_span(alloc, office, &meter, span, rows)
-            }
-            Some(RunRoute::Entries { meter, from }) => answer_entries(alloc, office, &meter, from),
-            Some(RunRoute::Voids { meter }) => answer_voids(alloc, office, &meter),
-            Some(RunRoute::Energy { register, form }) => {
-                answer_days(alloc, office, reported.earlier, &register, &form)
-            }
-            Some(RunRoute::Meters { register }) => answer_meters(alloc, office, &register),
-            None => {
-                if self.room.rejects(request, self.is_lost) {
-                    return answer_status(
-                        alloc,
-                        StatusRoute::Rejected(Status::Unavailable),
-                        reported,
-                    );
-                }
-                match begin_all(alloc, &self.router, request, office, rows) {
-                    Some(begun) => begun,
-                    None => ask(alloc, request, office, now.moment),
-                }
-            }
+        if self.room.rejects(request, self.is_lost) {
+            return unavailable(alloc);
+        }
+        match begin_all(alloc, &self.router, request, office, rows) {
+            Some(begun) => begun,
+            None => ask(alloc, request, office, moment),
+        }
+    }
+
+    // Makes the response to a complete request: that of its route, complete or its first chunk.
+    // `rows` receives the rows that later chunks send.
+    fn reply<B: Books>(
+        &self,
+        request: &[u8],
+        office: &mut Office<B>,
+        context: &RunContext<'_>,
+        rows: &mut Option<RemainingRows>,
+    ) -> ClientResponse
+        ensures serves { ServesClients (texts context.now.names.now) context.now.at.moment
+            B.ledger office.old office.new }
+        ensures executes { ExecutesOnly B.ledger context.now.at.moment office.old office.new request.now }
+        ensures responds { RespondsTo B.ledger office.old office.new
+            request.now context.now
+            (ExecutesUnlessRejected B.ledger context.now.at.moment office.old office.new
+            self.now.router self.now.room.left self.now.is_lost request.now
+            rows.old rows.new result) rows.old rows.new result }
+    {
+        match run_route(context.names, request) {
+            Some(route) => { begin_response(self.alloc, office, &route, context, rows) }
+            None => self.execute(request, office, context.at.moment, rows),
         }
     }
 
     // Returns the stored response if the request is equal to the stored request and nothing was
     // recorded since. Otherwise makes a new response.
-    #[tactic(auto, using(crate::proofs::PeersAsking::nobody_asks))]
+    #[tactic(auto, using(crate::proofs::ServingClients::nobody_asks, crate::proofs::ServingClients::executes_nothing))]
     fn reply_again<B: Books>(
         &mut self,
-        names: &[&str],
         request: &[u8],
         office: &mut Office<B>,
-        reported: &RunReported<'_>,
-        now: Now,
+        context: &RunContext<'_>,
         rows: &mut Option<RemainingRows>,
     ) -> ClientResponse
-        ensures { PeersAsk (texts names.now) now.moment B.ledger office.old office.new }
+        ensures serves { ServesClients (texts context.now.names.now) context.now.at.moment
+            B.ledger office.old office.new }
+        ensures executes { ExecutesOnly B.ledger context.now.at.moment office.old office.new request.now }
     {
         if let Some(reply) = self.repeats.again(self.alloc, request) {
             return ClientResponse::Replied(reply);
         }
-        let asked = self.reply(names, request, office, reported, now, rows);
-        self.keep_reply(names, request, &asked);
+        let asked = self.reply(request, office, context, rows);
+        self.keep_reply(context.names, request, &asked);
         asked
     }
 
@@ -432,7 +427,6 @@ impl HttpPort {
         rt: &R,
         request: &[u8],
         asked: ClientResponse,
-        reported: &RunReported<'_>,
     ) -> ClientResponse
         ensures { (result ≡ asked) ⊎ (self.new.is_lost ≡ true) }
     {
@@ -440,11 +434,7 @@ impl HttpPort {
             return asked;
         }
         self.lose_files();
-        answer_status(
-            self.alloc,
-            StatusRoute::Rejected(Status::Unavailable),
-            reported,
-        )
+        unavailable(self.alloc)
     }
 
     // Makes the response to the complete request of a client.
@@ -453,26 +443,27 @@ impl HttpPort {
         rt: &R,
         slot: usize,
         client: &mut Client,
-        names: &[&str],
         office: &mut Office<B>,
-        reported: &RunReported<'_>,
-        now: Now,
+        context: &RunContext<'_>,
     )
-        ensures { PeersAsk (texts names.now) now.moment B.ledger office.old office.new }
+        ensures serves { ServesClients (texts context.now.names.now) context.now.at.moment
+            B.ledger office.old office.new }
+        ensures executes { ExecutesOnly B.ledger context.now.at.moment office.old office.new
+            client.old.request.items }
     {
         let begun = even_milliseconds(rt);
         let mut rows = None;
-        let asked = self.reply_again(names, &client.request, office, reported, now, &mut rows);
-        let asked = self.confirmed(rt, &client.request, asked, reported);
+        let asked = self.reply_again(&client.request, office, context, &mut rows);
+        let asked = self.confirmed(rt, &client.request, asked);
         let took = even_milliseconds(rt).saturating_sub(begun);
         self.count_reply(slot, &client.request, &asked, took);
         self.keep_first(slot, rows.is_some());
-        let asked = self.add_browser_headers(names, &client.request, asked);
+        let asked = self.add_browser_headers(context.names, &client.request, asked);
         client.start_reply(asked, rows);
     }
 
     // Sends the next chunk of a client's response.
-    #[tactic(auto, using(crate::proofs::PeersAsking::nobody_asks))]
+    #[tactic(auto, using(crate::proofs::ServingClients::queries_nothing))]
     fn send_piece<R: std::rt::Clock, B: Books>(
         &mut self,
         rt: &R,
@@ -480,7 +471,7 @@ impl HttpPort {
         client: &mut Client,
         office: &mut Office<B>,
     )
-        ensures { (names : List (List ℕ)) (at : ℕ) → PeersAsk names at B.ledger office.old office.new }
+        ensures { OnlyQueries B.ledger office.old office.new }
     {
         let Some(rows) = &mut client.rows else {
             return;
@@ -505,16 +496,16 @@ impl HttpPort {
         slot: usize,
         client: &mut Client,
         office: &mut Office<B>,
-        now: Now,
+        time: u64,
     )
-        ensures { (names : List (List ℕ)) (at : ℕ) → PeersAsk names at B.ledger office.old office.new }
+        ensures { OnlyQueries B.ledger office.old office.new }
     {
         for _piece in 0..MOST_PIECES {
             if !client.wants_rows() || self.share.is_over() {
                 return;
             }
             self.send_piece(rt, slot, client, office);
-            client.write_reply(now.time);
+            client.write_reply(time);
         }
     }
 
@@ -524,38 +515,36 @@ impl HttpPort {
         rt: &R,
         slot: usize,
         client: &mut Client,
-        names: &[&str],
         office: &mut Office<B>,
-        reported: &RunReported<'_>,
-        now: Now,
+        context: &RunContext<'_>,
     )
-        ensures { PeersAsk (texts names.now) now.moment B.ledger office.old office.new }
+        ensures { ServesClients (texts context.now.names.now) context.now.at.moment
+            B.ledger office.old office.new }
     {
         if client.read_request(&self.router) {
-            self.answer_request(rt, slot, client, names, office, reported, now);
+            self.answer_request(rt, slot, client, office, context);
             return;
         }
-        self.send_pieces(rt, slot, client, office, now);
+        self.send_pieces(rt, slot, client, office, context.at.time);
     }
 
     /// Serves the connection in a slot, if the connection is ready and the limits of this iteration
     /// allow it.
-    #[tactic(auto, using(crate::proofs::PeersAsking::nobody_asks, crate::proofs::PeersAsking::both_ask))]
+    #[tactic(auto, using(crate::proofs::ServingClients::nobody_asks))]
     pub fn attend<R: RunSystem, B: Books>(
         &mut self,
         rt: &R,
         slot: usize,
-        names: &[&str],
         office: &mut Office<B>,
-        reported: &RunReported<'_>,
-        now: Now,
+        context: &RunContext<'_>,
     )
-        ensures { PeersAsk (texts names.now) now.moment B.ledger office.old office.new }
+        ensures { ServesClients (texts context.now.names.now) context.now.at.moment
+            B.ledger office.old office.new }
     {
         let Some(mut client) = self.take_ready(slot) else {
             return;
         };
-        self.serve_client(rt, slot, &mut client, names, office, reported, now);
-        self.return_client(slot, client, now.time);
+        self.serve_client(rt, slot, &mut client, office, context);
+        self.return_client(slot, client, context.at.time);
     }
 }

@@ -1,6 +1,8 @@
-//! Makes responses with many quarter hours, which are sent in chunks.
-ghost use Rattle.std.specs.Prelude.{ℕ, List};
-ghost use Rattle.http_peers.specs.PeersAsk.{PeersAsk};
+//! Begins responses with many quarter hours, which are sent in chunks.
+ghost use Rattle.std.specs.Prelude.{[]};
+ghost use Rattle.http_peers.specs.Clients.{OnlyQueries};
+ghost use Rattle.run_http.specs.Pieces.{with_rows};
+ghost use Rattle.http_peers.specs.Responses.{IsBegunWith, MayBeginAll, MayBeginRoute, MayBeginRows};
 
 use http_request::Route;
 use matchit::Router;
@@ -8,8 +10,8 @@ use office_books::{Books, Span};
 use office_core::Office;
 use office_events::{Name, Refusal};
 use run_http::{
-    ClientResponse, RemainingRows, all_rows_asked, begin_all_intervals, begin_intervals, has_more,
-    is_long_response, reply_intervals, write_last_rows, write_next_rows,
+    ClientResponse, RemainingRows, RunRoute, all_rows_asked, begin_all_intervals, begin_intervals,
+    has_more, is_long_response, write_last_rows, write_next_rows,
 };
 use std::alloc::{AllocError, Global};
 
@@ -17,30 +19,15 @@ use std::alloc::{AllocError, Global};
 /// each.
 const PIECE_SECONDS: u64 = 900_000;
 
-// Makes the complete response with the quarter hours of a time span.
-#[tactic(auto, using(crate::proofs::PeersAsking::asks_rows))]
-fn answer_intervals<B: Books>(
-    alloc: Global,
-    office: &mut Office<B>,
-    meter: &Option<Name>,
-    span: Span,
-) -> ClientResponse
-    ensures { (names : List (List ℕ)) (at : ℕ) → PeersAsk names at B.ledger office.old office.new }
-{
-    let mut text = Vec::new(alloc);
-    match reply_intervals(alloc, &mut text, office, meter, span) {
-        Ok(()) => ClientResponse::Replied(text),
-        Err(_) => ClientResponse::Failed,
-    }
-}
-
 // Returns the response whose first chunk was written. Returns `None` if the program refused the
 // query; the caller then makes a complete response.
 fn begun_answer(
     text: Vec<u8>,
     begun: Result<Result<RemainingRows, Refusal>, AllocError>,
     rows: &mut Option<RemainingRows>,
-) -> Option<ClientResponse> {
+) -> Option<ClientResponse>
+    ensures { IsBegunWith text begun rows.old rows.new result }
+{
     match begun {
         Ok(Ok(left)) => {
             *rows = Some(left);
@@ -51,20 +38,19 @@ fn begun_answer(
     }
 }
 
-// Begins the response with the quarter hours of a time span, if they exceed one chunk.
-#[tactic(auto, using(crate::proofs::PeersAsking::nobody_asks, crate::proofs::PeersAsking::only_asks))]
-fn begin_span<B: Books>(
+// Begins the response with the quarter hours of a meter from `from` until `till`, if they exceed
+// one chunk.
+fn begin_rows<B: Books>(
     alloc: Global,
     office: &mut Office<B>,
     meter: &Option<Name>,
-    span: Span,
+    from: u64,
+    till: u64,
     rows: &mut Option<RemainingRows>,
 ) -> Option<ClientResponse>
-    ensures { (names : List (List ℕ)) (at : ℕ) → PeersAsk names at B.ledger office.old office.new }
+    ensures { MayBeginRows B.ledger office.old office.new meter.now from till (with_rows [])
+        rows.old rows.new result }
 {
-    let Span::Between { from, till } = span else {
-        return None;
-    };
     let Ok(it) = office.meter(meter) else {
         return None;
     };
@@ -76,25 +62,27 @@ fn begin_span<B: Books>(
     begun_answer(text, begun, rows)
 }
 
-/// Makes the response with the quarter hours of a time span: complete, or its first chunk.
-pub(crate) fn answer_span<B: Books>(
+/// Begins the response of a route with the quarter hours of a time span, if they exceed one chunk.
+/// `rows` receives the rows of the later chunks. Returns `None` for any other route.
+pub(crate) fn begin_route<B: Books>(
     alloc: Global,
     office: &mut Office<B>,
-    meter: &Option<Name>,
-    span: Span,
+    route: &RunRoute,
     rows: &mut Option<RemainingRows>,
-) -> ClientResponse
-    ensures { (names : List (List ℕ)) (at : ℕ) → PeersAsk names at B.ledger office.old office.new }
+) -> Option<ClientResponse>
+    ensures { MayBeginRoute B.ledger office.old office.new route.now rows.old rows.new result }
 {
-    match begin_span(alloc, office, meter, span, rows) {
-        Some(begun) => begun,
-        None => answer_intervals(alloc, office, meter, span),
-    }
+    let RunRoute::Intervals { meter, span } = route else {
+        return None;
+    };
+    let Span::Between { from, till } = *span else {
+        return None;
+    };
+    begin_rows(alloc, office, meter, from, till, rows)
 }
 
 /// Begins the response with all quarter hours of a meter, if the request asks for them and they
-/// exceed one chunk.
-#[tactic(auto, using(crate::proofs::PeersAsking::nobody_asks, crate::proofs::PeersAsking::only_asks))]
+/// exceed one chunk. `rows` receives the rows of the later chunks.
 pub(crate) fn begin_all<B: Books>(
     alloc: Global,
     router: &Router<Route>,
@@ -102,7 +90,8 @@ pub(crate) fn begin_all<B: Books>(
     office: &mut Office<B>,
     rows: &mut Option<RemainingRows>,
 ) -> Option<ClientResponse>
-    ensures { (names : List (List ℕ)) (at : ℕ) → PeersAsk names at B.ledger office.old office.new }
+    ensures { MayBeginAll B.ledger office.old office.new router.now request.now
+        rows.old rows.new result }
 {
     let Some(meter) = all_rows_asked(router, request) else {
         return None;
@@ -120,14 +109,14 @@ pub(crate) fn begin_all<B: Books>(
 
 /// Appends the next chunk of a response or the end of the response, and returns whether it was the
 /// end. Returns `None` if the store failed or memory ran out.
-#[tactic(auto, using(crate::proofs::PeersAsking::nobody_asks, crate::proofs::PeersAsking::asks_reported))]
+#[tactic(auto, using(crate::proofs::ServingClients::queries_nothing, crate::proofs::ServingClients::queries_reported))]
 pub(crate) fn append_piece<B: Books>(
     alloc: Global,
     text: &mut Vec<u8>,
     rows: &mut RemainingRows,
     office: &mut Office<B>,
 ) -> Option<bool>
-    ensures { (names : List (List ℕ)) (at : ℕ) → PeersAsk names at B.ledger office.old office.new }
+    ensures { OnlyQueries B.ledger office.old office.new }
 {
     if !has_more(rows) {
         return match write_last_rows(text, rows) {

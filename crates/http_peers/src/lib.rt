@@ -1,5 +1,5 @@
-//! The HTTP port of `sunreg run`: its connections, the order in which clients are served, and the
-//! responses of its routes.
+//! The HTTP port of `sunreg run`: the response of each route, the connections, and the order in
+//! which clients are served.
 #![tactic(auto)]
 
 mod clients;
@@ -10,15 +10,15 @@ mod kept_room;
 mod moments;
 mod outbox;
 mod repeats;
-mod route_answers;
-mod run_reported;
+mod responses;
+mod run_context;
 mod site_over;
 mod slots;
 
-pub use energy_over::{EarlierFiles, place_among, reply_energy_over};
+pub use energy_over::EarlierFiles;
 pub use http_port::{HttpPort, PORT_TOKEN};
 pub use kept_room::KeptRoom;
 pub use moments::{Now, even_milliseconds};
 pub use outbox::{Outbox, Went, went_by};
-pub use run_reported::{RunReported, RunSystem};
-pub use site_over::reply_site_over;
+pub use responses::respond;
+pub use run_context::{RunContext, RunSystem};

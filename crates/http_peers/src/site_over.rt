@@ -82,7 +82,7 @@ fn append_answer(
 /// Appends the response of `/site`: each accounting register with its latest meter in the current
 /// and earlier files. `moment` is in seconds since 1970-01-01 UTC. If memory runs out, a part of
 /// the response is appended.
-pub fn reply_site_over<B: Books>(
+pub(crate) fn reply_site_over<B: Books>(
     alloc: Global,
     text: &mut Vec<u8>,
     office: &mut Office<B>,

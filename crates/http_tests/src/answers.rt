@@ -1,4 +1,4 @@
-//! Tests of the statuses and bodies of those responses that no other test produces.
+//! Tests of the HTTP statuses and bodies of those responses that no other test produces.
 use energy_core::Cause;
 use http_answer::{done_body, fault_body, kind_answered, refused_body, status_of};
 use http_request::Status;
@@ -50,7 +50,7 @@ static KINDS: [(CommandKind, &[u8]); 11] = [
     (CommandKind::Start, b"{\"done\":\"start\"}"),
 ];
 
-// The response body has the kind of the command, whether the command was executed now or for an
+// The response body states the kind of the command, whether the command was executed now or by an
 // earlier request.
 #[test]
 fn each_kind_of_command_has_a_body(rt: HostRuntime) {

@@ -47,8 +47,8 @@ fn serve_all<B: Books>(rt: &impl Abort, alloc: Global, books: B, cases: &[Case<'
     office.into_books()
 }
 
-// Serves the requests repeatedly. Repetition N makes call N of the store fail. The repetitions end
-// when the requests make fewer than N calls.
+// Serves all requests repeatedly. In repetition N, call N of the store fails. The repetitions end
+// when the requests need fewer than N calls.
 fn fail_each(rt: &impl Abort, alloc: Global, cases: &[Case<'_>]) {
     for failing in 1..1000 {
         let books = FailingBooks::new(polled_store(rt, alloc), failing);

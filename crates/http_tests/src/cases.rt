@@ -1,4 +1,4 @@
-//! Requests that the tests of HTTP serve, and the bytes of their responses.
+//! Helpers that serve HTTP requests in tests, and that return the bytes of the expected responses.
 use mb_wire::MemoryLink;
 use office_books::Books;
 use office_core::Office;
@@ -16,14 +16,15 @@ pub(crate) struct Case<'c> {
     pub(crate) body: &'static str,
 }
 
-/// The result of serving a request, and the bytes that were written.
+/// The result of serving a request, and the bytes of the response that were written.
 #[derive(Drop)]
 pub(crate) struct Served {
     pub(crate) handled: Result<(), HandleFault>,
     pub(crate) given: Vec<u8>,
 }
 
-/// Returns the bytes of a response with Content-Length, whose body is JSON or plain text.
+/// Returns the bytes of a response with a Content-Length header. Its body is JSON if it begins with
+/// `{`, otherwise plain text.
 pub(crate) fn sized_reply(alloc: Global, status: &str, body: &str) -> Result<String, AllocError> {
     let size = body.len();
     let kind = if body.starts_with('{') {
@@ -36,7 +37,8 @@ pub(crate) fn sized_reply(alloc: Global, status: &str, body: &str) -> Result<Str
     )
 }
 
-/// Returns the bytes of a response: JSON with Content-Length, or plain text without Content-Length.
+/// Returns the bytes of a response. A JSON body has a Content-Length header. A plain text has none,
+/// and ends where the connection ends.
 pub(crate) fn reply(alloc: Global, status: &str, body: &str) -> Result<String, AllocError> {
     if body.starts_with('{') {
         return sized_reply(alloc, status, body);
@@ -46,8 +48,8 @@ pub(crate) fn reply(alloc: Global, status: &str, body: &str) -> Result<String, A
     )
 }
 
-/// Serves a request over a link that transfers at most this number of bytes in a call, and fails at
-/// one call.
+/// Serves a request over a link that transfers at most `piece` bytes in a call. If `failing` has a
+/// number, the call with this number fails.
 pub(crate) fn serve_over<B: Books>(
     alloc: Global,
     office: &mut Office<B>,
@@ -82,7 +84,7 @@ pub(crate) fn assert_reply(rt: &impl Abort, alloc: Global, case: &Case<'_>, serv
     assert!(rt; served.given.as_slice() == want.as_bytes());
 }
 
-/// Serves a request over a link that transfers at most this number of bytes in a call. Asserts the
+/// Serves a request over a link that transfers at most `piece` bytes in a call, and asserts the
 /// expected response.
 pub(crate) fn assert_served<B: Books>(
     rt: &impl Abort,

@@ -1,4 +1,4 @@
-//! Tests of point lists in the bodies of requests, and of the commands to which they parse.
+//! Tests of point lists in the bodies of requests, and of the commands that are parsed from them.
 use http_answer::{CommandFault, command_in};
 use http_request::Route;
 use office_events::{Command, Name};

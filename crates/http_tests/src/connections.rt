@@ -12,7 +12,7 @@ use std::net::{Shutdown, TcpListener, TcpStream};
 use std::test::Fail;
 use std::time::Duration;
 
-/// The bytes that a client sends, whether it then ends its stream, and the response that it
+/// The bytes that a client sends, whether it then closes its sending side, and the response that it
 /// expects.
 struct Client {
     bytes: &'static [u8],
@@ -47,8 +47,8 @@ static ASKING: [Client; 3] = [
     },
 ];
 
-// Three clients. The first ends its stream inside the request, the second times out, and the third
-// is served.
+// Three clients. The first closes its stream in the middle of the request, the second times out,
+// and the third is served.
 static FAILING: [Client; 3] = [
     Client {
         bytes: b"POST /registers/main",
@@ -70,8 +70,8 @@ static FAILING: [Client; 3] = [
 const TURNED_AWAY: &[u8] =
     b"HTTP/1.1 421 Misdirected Request\r\nContent-Type: application/json\r\nContent-Length: 13\r\nConnection: close\r\n\r\n{\"fault\":421}";
 
-// Three clients. The first request comes from a page of an unauthorized host, and the second from a
-// page of an accepted host. The third client retries the second request.
+// Three clients. The first request has the Host header of an unauthorized host, and the second that
+// of an accepted host. The third client retries the second request.
 static NAMED: [Client; 3] = [
     Client {
         bytes: b"POST /registers/main/exchange HTTP/1.1\r\nHost: evil.example:80\r\nContent-Length: 68\r\nOffice-Caller: desk\r\nOffice-Request: 7\r\n\r\n{\"ceiling\":100000,\"last\":5301,\"meter\":\"m2\",\"raw\":0,\"rolls\":0,\"sf\":0}",
@@ -130,7 +130,7 @@ fn are_replied(alloc: Global, streams: &mut [TcpStream], clients: &[Client]) -> 
     Ok(true)
 }
 
-/// Returns the energy of the meter `m1` in mWh, if the meter was closed.
+/// Returns the energy of the meter `m1` in mWh, or `None` unless the meter was closed.
 pub(crate) fn energy_of_ended(office: &mut Office<ListBooks>) -> Option<u64> {
     match office.meter(&Name::new(b"m1")) {
         Ok(row) if row.ended => Some(row.total),
@@ -166,9 +166,9 @@ impl std::rt::Clock for Stepping {
     }
 }
 
-// Returns whether this number of clients are served without an error. The clock for their deadlines
-// advances by `step` seconds each time that it is read. Without `step`, `serve_on` serves the
-// clients.
+// Returns whether `clients` clients are served without an error. With `step`, each client has a
+// deadline, whose clock advances by `step` seconds each time that it is read. Without `step`,
+// `serve_on` serves the clients.
 fn serves(
     alloc: Global,
     listener: &TcpListener,

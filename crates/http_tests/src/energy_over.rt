@@ -1,18 +1,16 @@
-//! Tests of the energy of an accounting register by day and month, over earlier files of the store
-//! and the current file.
+//! Tests of the energy of an accounting register by day and month, summed over earlier files and
+//! the current file.
 use crate::cases::sized_reply;
-use crate::office::{polled, unmetered, utc};
+use crate::office::{polled, responded, unmetered, utc};
 use carried_books::{EarlierDays, EarlierRegister, JoinedDays};
-use http_peers::{place_among, reply_energy_over};
 use interval_core::Share;
 use office_books::{Books, RowSink};
 use office_core::Office;
 use office_events::{Installation, Name};
-use run_http::{RunRoute, run_route};
 use std::alloc::Global;
 use std::process::Abort;
 
-// Returns the daily sums of the energy of quarter hours.
+// Returns the energy of each day, summed from quarter hours.
 fn days_of(rt: &impl Abort, alloc: Global, rows: &[Share]) -> EarlierDays {
     let mut days = JoinedDays::new(alloc, utc(rt));
     for row in rows {
@@ -21,42 +19,27 @@ fn days_of(rt: &impl Abort, alloc: Global, rows: &[Share]) -> EarlierDays {
     EarlierDays::new(days)
 }
 
-/// Returns an accounting register of earlier files, with its meters and without energy.
+/// Returns an accounting register of earlier files, with its meters and quarter hours.
 pub(crate) fn earlier_register(
     rt: &impl Abort,
     alloc: Global,
     name: &[u8],
     meters: &[Installation],
+    rows: &[Share],
 ) -> EarlierRegister {
     EarlierRegister {
         name: Name::new(name).expect(rt, "no name"),
         meters: meters.to_vec(alloc).expect(rt, "no memory"),
-        days: days_of(rt, alloc, &[]),
+        days: days_of(rt, alloc, rows),
     }
-}
-
-// Appends the response to a request for energy, over the current file and these days of earlier
-// files.
-fn write_energy<B: Books>(
-    rt: &impl Abort,
-    alloc: Global,
-    text: &mut Vec<u8>,
-    office: &mut Office<B>,
-    earlier: &EarlierDays,
-    request: &[u8],
-) {
-    let Some(RunRoute::Energy { register, form }) = run_route(&[], request) else {
-        panic!(rt; "no energy");
-    };
-    let name = register.expect(rt, "no name");
-    reply_energy_over(alloc, text, office, utc(rt), earlier, &name, &form).expect(rt, "no memory");
 }
 
 // A request for energy, and the status and the body of its response.
 type Asked = (&'static [u8], &'static str, &'static str);
 
-// Asserts the responses to requests for energy, over the current file and these quarter hours of an
-// earlier file.
+// Asserts the responses to requests for energy. The energy is that of the current file and of
+// earlier files. Of the two registers `main` in the earlier files, only the first has energy: the
+// quarter hours `rows`.
 fn assert_energy<B: Books>(
     rt: &impl Abort,
     alloc: Global,
@@ -64,10 +47,16 @@ fn assert_energy<B: Books>(
     rows: &[Share],
     asked: &[Asked],
 ) {
-    let earlier = days_of(rt, alloc, rows);
+    let names: [&[u8]; 3] = [b"spare", b"main", b"main"];
+    let mut registers = Vec::new(alloc);
+    for name in names {
+        let rows = if registers.len() == 1 { rows } else { &[] };
+        registers
+            .push(earlier_register(rt, alloc, name, &[], rows))
+            .expect(rt, "no memory");
+    }
     for (request, status, body) in asked {
-        let mut text = Vec::new(alloc);
-        write_energy(rt, alloc, &mut text, office, &earlier, request);
+        let text = responded(rt, alloc, office, &registers, request);
         let wanted = sized_reply(alloc, status, body).expect(rt, "no memory");
         assert!(rt; text.as_slice() == wanted.as_bytes(), "{body}");
     }
@@ -75,9 +64,9 @@ fn assert_energy<B: Books>(
 
 static EARLIER: [Share; 2] = [Share { start: 0, mwh: 5 }, Share { start: 900, mwh: 7 }];
 
-// Requests for energy and their responses. The current file has energy in the quarter hours from
-// 900 and 1800 s. The earlier file also has the quarter hour from 900 s: the two energies are
-// added, and the quarter hour counts once.
+// Requests for energy and their responses. The current file has energy in the quarter hours that
+// begin at 900 s and at 1800 s. The earlier file also has energy in the quarter hour from 900 s:
+// the two energies are added, and the quarter hour counts once.
 static OF_BOTH: [Asked; 5] = [
     (
         b"GET /registers/main/days/1970-01-01/1970-01-02 HTTP/1.1\r\n\r\n",
@@ -122,8 +111,8 @@ static OF_LATE: [Asked; 1] = [(
     "{\"refused\":13}",
 )];
 
-// The daily energy of an accounting register is summed over all files. Damaged rows, whose times go
-// back, get 503.
+// The daily energy of an accounting register is summed over all files. If damaged rows have times
+// that go back, the response is 503.
 #[test]
 fn days_are_those_of_all_files(rt: HostRuntime) {
     let files: [(bool, &[Share], &[Asked]); 3] = [
@@ -139,18 +128,4 @@ fn days_are_those_of_all_files(rt: HostRuntime) {
         };
         assert_energy(&rt, rt.alloc(), &mut office, rows, asked);
     }
-}
-
-// The first accounting register with a name is found among several registers.
-#[test]
-fn a_register_is_found_among_others(rt: HostRuntime) {
-    let names: [&[u8]; 3] = [b"spare", b"main", b"main"];
-    let mut registers = Vec::new(rt.alloc());
-    for name in names {
-        let register = earlier_register(&rt, rt.alloc(), name, &[]);
-        registers.push(register).expect(&rt, "no memory");
-    }
-    assert!(rt; place_among(&registers, &Name::new(b"main")) == Some(1));
-    assert!(rt; place_among(&registers, &Name::new(b"far")) == None);
-    assert!(rt; place_among(&registers, &None) == None);
 }

@@ -10,7 +10,8 @@ use office_rounds::RoundFault;
 use socket_link::FixedClock;
 use std::alloc::{AllocError, Global};
 
-/// A source of input that has no files and no counter values.
+/// A replacement for the files and devices that input lines can name. It has no files and no
+/// counter values.
 #[derive(Clone, Copy)]
 pub(crate) struct NoFiles;
 
@@ -24,8 +25,9 @@ impl NamedFiles for NoFiles {
     }
 }
 
-// If the store fails while it is opened or while an entry above the meter's ceiling is checked, the
-// line is refused. The command does not ask for confirmation of the entry.
+// If the store fails while it is opened, or while an entry with more energy than the meter's
+// ceiling allows is checked, the line is refused. The command does not ask for confirmation of the
+// entry.
 #[test]
 fn a_line_over_a_failing_store_is_refused(rt: HostRuntime) {
     for failing in 1..12 {

@@ -1,10 +1,11 @@
-//! Calls the theorems about copies, chunks and inputs that no other code calls.
+//! Calls the theorems that no other code calls. They are about copies of a meter's rows, chunks of
+//! responses, retried requests and entered inputs.
 use crate::failing_commands::NoFiles;
 use office_program::{MOST_FILE, inputs_act_once, requests_are_repeated};
 use run_http::{chunks_form_response, entries_come_after, rows_before_stay, text_stays};
 
-// The theorems about chunks of responses, copies of rows, and entered inputs can be called as
-// functions.
+// The theorems about copies of rows, chunks of responses, retried requests and entered inputs can
+// be called as functions.
 #[test]
 fn theorems_are_called(rt: HostRuntime) {
     rows_before_stay();

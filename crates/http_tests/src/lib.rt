@@ -9,6 +9,8 @@ mod book_failures;
 #[cfg(test)]
 mod cases;
 #[cfg(test)]
+mod clients;
+#[cfg(test)]
 mod commands;
 #[cfg(test)]
 mod connections;
@@ -28,8 +30,6 @@ mod links;
 mod office;
 #[cfg(test)]
 mod office_requests;
-#[cfg(test)]
-mod peers;
 #[cfg(test)]
 mod pieces;
 #[cfg(test)]

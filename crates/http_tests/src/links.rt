@@ -13,8 +13,9 @@ static REQUEST: &[u8] =
 // The length in bytes of the tested request, including its body.
 const WHOLE: usize = 89;
 
-// Reads a part of the request in chunks of ten bytes, over a link that ends or fails. Asserts that
-// the request is incomplete, the fault, and the bytes that were read.
+// Reads the first `end` bytes of the request in chunks of ten bytes, over a link that ends or
+// fails. Asserts that the request counts as incomplete. Also asserts the reported fault, and the
+// bytes that were read.
 fn assert_unread(
     rt: &impl Abort,
     alloc: Global,
@@ -89,7 +90,8 @@ fn nothing_is_written_after_a_failed_write(rt: HostRuntime) {
     assert!(rt; link.failures() == 1);
 }
 
-// If the link fails, then a client of an unauthorized host gets no response.
+// If the link fails, a request with an unauthorized Host header gets no response, and the failure
+// is reported.
 #[test]
 fn a_link_that_fails_rejects_nobody(rt: HostRuntime) {
     let mut output = [0; 400];

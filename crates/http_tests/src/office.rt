@@ -1,12 +1,16 @@
 //! `Office` values over stores in memory, for tests. Their device is `inv`, its accounting register
 //! is `main`, and the meter at this register is `m1`.
 use crate::cases::serve;
+use carried_books::EarlierRegister;
+use http_peers::{EarlierFiles, Now, RunContext, respond};
 use interval_core::Zone;
 use mb_wire::ReadSpan;
 use memory_books::ListBooks;
 use office_books::Books;
 use office_core::Office;
 use office_events::{Command, Event, Name, Piece, StartPoll};
+use run_http::{ClientResponse, RunRoute, run_route};
+use run_status::RunMonitor;
 use std::alloc::Global;
 use std::process::Abort;
 
@@ -21,9 +25,51 @@ static REQUESTS: [&[u8]; 3] = [
 // factor 0.
 static FRAME: &[u8] = b"\x00\x00\x00\x00\x00\x09\x01\x03\x06\x00\x00\x14\x50\x00\x00";
 
-/// Returns the time zone of the test values of `Office`.
+/// Returns the time zone of the stores in these tests: UTC.
 pub(crate) fn utc(rt: &impl Abort) -> Zone {
     Zone::read("UTC0").expect(rt, "no zone")
+}
+
+/// Returns the response of a route of `sunreg run` at time 2800 s. The response covers the
+/// accounting registers `registers` of earlier files, and the current file.
+pub(crate) fn response_of<B: Books>(
+    rt: &impl Abort,
+    alloc: Global,
+    office: &mut Office<B>,
+    registers: &[EarlierRegister],
+    route: &RunRoute,
+) -> Vec<u8> {
+    let monitor = RunMonitor::new(alloc, &[]).expect(rt, "no memory");
+    let earlier = EarlierFiles {
+        zone: utc(rt),
+        registers,
+    };
+    let context = RunContext {
+        names: &[],
+        monitor: &monitor,
+        lacks: &[],
+        earlier: &earlier,
+        at: Now {
+            time: 2800,
+            moment: 2800,
+        },
+    };
+    match respond(alloc, office, route, &context) {
+        ClientResponse::Replied(text) => text,
+        ClientResponse::Open | ClientResponse::Failed => panic!(rt; "no memory"),
+    }
+}
+
+/// Returns the response to a request of a route of `sunreg run`, as [`response_of`] does.
+pub(crate) fn responded<B: Books>(
+    rt: &impl Abort,
+    alloc: Global,
+    office: &mut Office<B>,
+    registers: &[EarlierRegister],
+    request: &[u8],
+) -> Vec<u8> {
+    let route = run_route(&[], request).expect(rt, "no route");
+    response_of(rt, alloc, office, registers, &route)
 }
 
 // Returns the name of the test device.
@@ -45,8 +91,8 @@ pub(crate) fn poll(rt: &impl Abort, alloc: Global) -> [Event; 3] {
     ]
 }
 
-// Returns an `Office` over an empty store, after these requests at time 1000 and the events of a
-// poll at these times, in seconds.
+// Returns an `Office` over the store `books`, after it served these requests at time 1000 and
+// processed the events of a poll at `times`, all in seconds.
 fn built<B: Books>(
     rt: &impl Abort,
     alloc: Global,
@@ -69,8 +115,8 @@ fn built<B: Books>(
     office
 }
 
-// Returns an `Office` over a store in memory, after these requests at time 1000 and the events of a
-// poll at these times, in seconds.
+// Returns an `Office` over a store in memory, after it served these requests at time 1000 and
+// processed the events of a poll at `times`, all in seconds.
 fn built_in_memory(
     rt: &impl Abort,
     alloc: Global,
@@ -85,7 +131,7 @@ pub(crate) fn unmetered(rt: &impl Abort, alloc: Global) -> Office<ListBooks> {
     built_in_memory(rt, alloc, &REQUESTS[..2], &[])
 }
 
-/// Returns an `Office` whose meter had the counter value 5000 at time 1000 s.
+/// Returns an `Office` with a meter that was installed at time 1000 s, with the counter value 5000.
 pub(crate) fn metered(rt: &impl Abort, alloc: Global) -> Office<ListBooks> {
     built_in_memory(rt, alloc, &REQUESTS, &[])
 }

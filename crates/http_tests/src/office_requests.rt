@@ -8,7 +8,7 @@ use office_http::HandleFault;
 use std::alloc::Global;
 use std::process::Abort;
 
-// A request with more bytes after its body.
+// A request that is followed by more bytes after its body, which are ignored.
 static LONGER: Case<'static> = Case {
     at: 2800,
     request: b"POST /devices HTTP/1.1\r\nContent-Length: 45\r\nOffice-Caller: anna\r\nOffice-Request: 7\r\n\r\n{\"name\":\"b\",\"unit\":2,\"timeout\":5,\"window\":16} and more",
@@ -29,7 +29,7 @@ fn cut_off<B: Books>(rt: &impl Abort, alloc: Global, office: &mut Office<B>, cas
 }
 
 // Returns whether a fault reports a failed read or write of the link. After a failed read, nothing
-// is written. After a failed write, the response is cut off.
+// may have been written. After a failed write, the written bytes must be a prefix of the response.
 fn is_reported(fault: HandleFault, given: &[u8], reply: &[u8]) -> bool {
     match fault {
         HandleFault::Read => given.is_empty(),
@@ -38,8 +38,8 @@ fn is_reported(fault: HandleFault, given: &[u8], reply: &[u8]) -> bool {
     }
 }
 
-// Makes each call of the link fail in turn, until the request makes no more calls. A retry of an
-// executed command gets the stored response.
+// Makes each call of the link fail in turn, until serving the request takes fewer calls. A retry of
+// an executed command gets the stored response.
 fn fail_each<B: Books>(rt: &impl Abort, alloc: Global, office: &mut Office<B>, case: &Case<'_>) {
     let want = reply(alloc, case.status, case.body).expect(rt, "no memory");
     for call in 1..100 {

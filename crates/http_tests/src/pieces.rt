@@ -1,4 +1,4 @@
-//! Tests of responses with quarter hours that are sent in chunks, and of the requests for them.
+//! Tests of long responses, whose quarter hours are sent in chunks, and of the requests for them.
 use crate::cases::{serve, sized_reply};
 use crate::office::polled;
 use http_request::router;
@@ -12,7 +12,7 @@ use run_http::{
 use std::alloc::Global;
 use std::process::Abort;
 
-// Returns the meter as the program reports it, after readings at times 1000 and 1900 s.
+// Returns the meter `m1`, which was read at times 1000 s and 1900 s.
 fn meter<B: Books>(rt: &impl Abort, office: &mut Office<B>) -> Installation {
     match office.meter(&Name::new(b"m1")) {
         Ok(it) => it,
@@ -20,8 +20,8 @@ fn meter<B: Books>(rt: &impl Abort, office: &mut Office<B>) -> Installation {
     }
 }
 
-// Writes the head of a response with the rows in a time span, or with all rows. Returns the
-// remaining part of the response.
+// Writes the head of a response with the rows in a time span, or with all rows. Returns the rows
+// that remain to be written.
 fn begun<B: Books>(
     rt: &impl Abort,
     alloc: Global,
@@ -40,8 +40,8 @@ fn begun<B: Books>(
     }
 }
 
-// Writes the rest of a response in chunks, each with the rows of a number of seconds. Returns the
-// number of chunks.
+// Writes the remaining rows of a response in chunks, each with the rows of `seconds` seconds.
+// Returns the number of chunks.
 fn write_rest<B: Books>(
     rt: &impl Abort,
     alloc: Global,
@@ -62,7 +62,7 @@ fn write_rest<B: Books>(
     count
 }
 
-// Returns a response that is written in chunks, each with the rows of a number of seconds.
+// Returns a response that is written in chunks, each with the rows of `seconds` seconds.
 fn in_chunks<B: Books>(
     rt: &impl Abort,
     alloc: Global,
@@ -85,8 +85,8 @@ static SPANS: [(u64, u64); 6] = [
     (1801, 900),
 ];
 
-// Asserts that the chunks of a response together are the response that is written at once. The
-// chunks have one quarter hour, less than one quarter hour, or several quarter hours.
+// Asserts that the chunks of a response together equal the response that is written at once. A
+// chunk covers less than one quarter hour, one quarter hour, or several.
 fn assert_spans<B: Books>(rt: &impl Abort, alloc: Global, office: &mut Office<B>) {
     for (from, till) in SPANS {
         let mut whole = Vec::new(alloc);
@@ -104,8 +104,8 @@ fn assert_spans<B: Books>(rt: &impl Abort, alloc: Global, office: &mut Office<B>
 
 static ALL_ROWS: &[u8] = b"GET /meters/m1/intervals HTTP/1.1\r\nHost: localhost\r\n\r\n";
 
-// A reading by hand that is entered after the response began. A later response then has more energy
-// in the last row, and one more row.
+// A request that enters a reading by hand after a response began. In a later response, the last row
+// has more energy, and there is one more row.
 static LATER: &[u8] =
     b"POST /registers/main/manual HTTP/1.1\r\nContent-Length: 22\r\nOffice-Caller: desk\r\nOffice-Request: 4\r\n\r\n{\"raw\":5500,\"rolls\":0}";
 
@@ -141,8 +141,8 @@ fn assert_chunks<B: Books>(rt: &impl Abort, alloc: Global, office: &mut Office<B
     assert_earlier_rows(rt, alloc, office);
 }
 
-// The chunks of a response together are the response that is written at once, even if the meter is
-// read between chunks.
+// The chunks of a response together equal the response that is written at once, even if a reading
+// is entered between the chunks.
 #[test]
 fn chunks_make_up_the_reply(rt: HostRuntime) {
     let mut office = polled(&rt, rt.alloc());

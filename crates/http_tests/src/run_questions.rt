@@ -1,33 +1,16 @@
 //! Tests of the responses of `sunreg run` while its store fails, and of a query for entries from
 //! the greatest index on.
 use crate::cases::sized_reply;
-use crate::office::{polled, polled_store};
+use crate::office::{polled, polled_store, responded, response_of};
 use failing_books::FailingBooks;
-use http_peers::reply_site_over;
 use office_books::Books;
 use office_core::Office;
 use office_events::Name;
-use run_http::{RunRoute, reply_entries, reply_meters, reply_metrics, run_route};
-use run_status::Counts;
-use std::alloc::{AllocError, Global};
+use run_http::RunRoute;
+use std::alloc::Global;
 use std::process::Abort;
 
-// Appends the response to one of the tested requests at time 2800 s.
-fn append_reply<B: Books>(
-    alloc: Global,
-    text: &mut Vec<u8>,
-    office: &mut Office<B>,
-    request: &[u8],
-) -> Result<(), AllocError> {
-    match run_route(&[], request) {
-        Some(RunRoute::Metrics) => reply_metrics(alloc, text, office, &Counts::new(), &[]),
-        Some(RunRoute::Site) => reply_site_over(alloc, text, office, &[], 2800),
-        Some(RunRoute::Meters { register }) => reply_meters(alloc, text, office, &register),
-        _ => Ok(()),
-    }
-}
-
-// Returns the response of an `Office` over a store, if the `Office` can be opened.
+// Returns the response of an `Office` over a store, or `None` if the `Office` cannot be opened.
 fn replied_over<B: Books>(
     rt: &impl Abort,
     alloc: Global,
@@ -37,12 +20,11 @@ fn replied_over<B: Books>(
     let Ok(mut office) = Office::open(alloc, books, 2800) else {
         return None;
     };
-    let mut text = Vec::new(alloc);
-    append_reply(alloc, &mut text, &mut office, request).expect(rt, "no memory");
-    Some(text)
+    Some(responded(rt, alloc, &mut office, &[], request))
 }
 
-// Returns the response over a store whose call number `failing` fails. For 0, no call fails.
+// Returns the response if call number `failing` of the store fails. If `failing` is 0, no call
+// fails.
 fn replied(rt: &impl Abort, alloc: Global, failing: u64, request: &[u8]) -> Option<Vec<u8>> {
     let books = FailingBooks::new(polled_store(rt, alloc), failing);
     replied_over(rt, alloc, books, request)
@@ -76,7 +58,7 @@ fn calls_that_fail(rt: &impl Abort, alloc: Global, request: &[u8]) -> u8 {
     count
 }
 
-// If the store fails, the response is 503, and never a part of a response.
+// If the store fails, the response is 503, and never an incomplete response.
 #[test]
 fn a_failing_store_is_unavailable(rt: HostRuntime) {
     for (request, wanted) in &FAILING {
@@ -89,15 +71,11 @@ fn a_failing_store_is_unavailable(rt: HostRuntime) {
 #[test]
 fn entries_from_the_greatest_index_on_are_none(rt: HostRuntime) {
     let mut office = polled(&rt, rt.alloc());
-    let mut text = Vec::new(rt.alloc());
-    reply_entries(
-        rt.alloc(),
-        &mut text,
-        &mut office,
-        &Name::new(b"m1"),
-        u64::MAX,
-    )
-    .expect(&rt, "no memory");
+    let route = RunRoute::Entries {
+        meter: Name::new(b"m1"),
+        from: u64::MAX,
+    };
+    let text = response_of(&rt, rt.alloc(), &mut office, &[], &route);
     let wanted = sized_reply(rt.alloc(), "200 OK", "end 0\n").expect(&rt, "no memory");
     assert!(rt; text.as_slice() == wanted.as_bytes());
 }

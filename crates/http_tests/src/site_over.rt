@@ -1,9 +1,8 @@
-//! Tests of `/site` over earlier files of the store and the current file.
+//! Tests of `/site`, which shows the energy of earlier files and of the current file.
 use crate::cases::sized_reply;
 use crate::energy_over::earlier_register;
-use crate::office::{polled, unmetered};
+use crate::office::{polled, responded, unmetered};
 use energy_core::Last;
-use http_peers::reply_site_over;
 use office_books::Books;
 use office_core::Office;
 use office_events::{Installation, Name, Opening};
@@ -22,7 +21,7 @@ type Case = (
     &'static str,
 );
 
-// Cases for the meter `m1` of the current file, whose counter shows 5200 after 200 Wh.
+// Cases in which the current file has the meter `m1`, whose counter shows 5200 after 200 Wh.
 static OF_A_METER: [Case; 7] = [
     (
         "an open meter has the energy of all files",
@@ -78,7 +77,7 @@ static OF_NO_METER: [Case; 2] = [
     ("no file may have a meter", b"main", &[], "null"),
 ];
 
-// Returns the meter as earlier files have it.
+// Returns a meter of earlier files, with its total energy.
 fn earlier_meter(rt: &impl Abort, it: &Earlier) -> Installation {
     let (meter, total, ended) = *it;
     let opening = Opening {
@@ -103,8 +102,8 @@ fn earlier_meter(rt: &impl Abort, it: &Earlier) -> Installation {
     }
 }
 
-// Returns the response of `/site` at time 2800 s, over the current file and these meters of earlier
-// files.
+// Returns the response of `/site` at time 2800 s, if the earlier files have the meters `meters` at
+// the accounting register `register`.
 fn replied<B: Books>(
     rt: &impl Abort,
     alloc: Global,
@@ -116,10 +115,8 @@ fn replied<B: Books>(
     for it in meters {
         listed.push(earlier_meter(rt, it)).expect(rt, "no memory");
     }
-    let earlier = [earlier_register(rt, alloc, register, &listed)];
-    let mut text = Vec::new(alloc);
-    reply_site_over(alloc, &mut text, office, &earlier, 2800).expect(rt, "no memory");
-    text
+    let earlier = [earlier_register(rt, alloc, register, &listed, &[])];
+    responded(rt, alloc, office, &earlier, b"GET /site HTTP/1.1\r\n\r\n")
 }
 
 // Asserts the response of `/site` in each case.

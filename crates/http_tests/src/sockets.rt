@@ -11,8 +11,8 @@ fn link_of(listener: &TcpListener) -> io::Result<SocketLink<TcpStream>> {
     SocketLink::new(listener.accept()?.0)
 }
 
-// Returns whether a link reads what its client sent, times out, and writes what the client reads.
-// The client then closes the connection.
+// Returns whether a link reads the bytes that its client sent, then times out, and then writes
+// bytes that the client reads. Afterwards the client closes the connection.
 fn is_read_and_written(link: &mut SocketLink<TcpStream>, mut client: TcpStream) -> bool {
     let mut piece = [0; 16];
     let mut answer = [0; 3];
@@ -65,8 +65,8 @@ fn a_link_fails_after_its_deadline(rt: HostRuntime) {
     assert!(rt; inner.given() == b"you".as_slice());
 }
 
-// A fixed clock repeats the last of its times. The system's clock shows a time after the first
-// second of 2020.
+// A fixed clock returns its times in order, and then repeats the last one. The system clock shows a
+// time after the first second of 2020.
 #[test]
 fn clocks_have_times(rt: HostRuntime) {
     let mut clock = FixedClock::new(&[5, 3]);

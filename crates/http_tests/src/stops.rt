@@ -12,7 +12,7 @@ use std::process::Abort;
 
 static INTERVALS: &[u8] = b"GET /meters/m1/intervals HTTP/1.1\r\n\r\n";
 
-// Returns the bytes of a response that is cut off because the store fails.
+// Returns the bytes of the response that were written, if it is cut off because the store fails.
 fn cut<B: Books>(rt: &impl Abort, alloc: Global, books: B) -> Option<Vec<u8>> {
     let Ok(mut office) = Office::open(alloc, books, 1900) else {
         return None;
@@ -42,7 +42,8 @@ fn a_text_that_is_cut_off_has_no_end(rt: HostRuntime) {
     assert!(rt; cuts == 1);
 }
 
-// Returns an `Office` that has stopped, because its store failed while a poll ended.
+// Returns an `Office` that has stopped because its store failed while a poll ended. Returns `None`
+// if the store does not fail at that point.
 fn stopped<B: Books>(rt: &impl Abort, alloc: Global, books: B) -> Option<Office<B>> {
     let Ok(mut office) = Office::open(alloc, books, 1900) else {
         return None;
@@ -57,7 +58,8 @@ fn stopped<B: Books>(rt: &impl Abort, alloc: Global, books: B) -> Option<Office<
     None
 }
 
-// Returns whether an `Office` over this store stops, and each request then gets 503.
+// Returns whether an `Office` over this store stops. Asserts that it then responds to each request
+// with 503.
 fn is_unavailable<B: Books>(rt: &impl Abort, alloc: Global, books: B) -> bool {
     let Some(mut office) = stopped(rt, alloc, books) else {
         return false;

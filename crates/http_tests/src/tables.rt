@@ -2,7 +2,8 @@
 //! `http/office/questions` and `http/office/commands` of `golden_cases` have the same requests.
 use crate::cases::Case;
 
-/// Queries, requests whose heads fail a test, and a meter exchange with its retry.
+/// Queries, requests whose request line or headers are rejected, and a meter exchange with its
+/// retry.
 pub(crate) static QUESTIONS: [Case<'static>; 22] = [
     Case {
         at: 2800,

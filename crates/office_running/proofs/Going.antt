@@ -14,8 +14,8 @@ use Rattle.office_core.specs.EventRun.{Answered}
 use Rattle.office_core.specs.Standing.{After, Stands, books_in}
 use Rattle.office_core.specs.Taking.{Ends}
 use Rattle.office_core.specs.declared.office.Office.{Office}
-use Rattle.http_peers.specs.PeersAsk as peers
-use Rattle.http_peers.specs.PeersAsk.{PeersAsk}
+use Rattle.http_peers.specs.Clients as clients
+use Rattle.http_peers.specs.Clients.{ServesClients}
 use Rattle.office_http.specs.Connections.Connections as connections
 use Rattle.office_http.specs.Connections.Connections.{Connection}
 use Rattle.office_http.specs.Serving.{with_asked}
@@ -39,7 +39,7 @@ use Rattle.office_running.specs.Runs.{AreAt, BooksRun, Goes, IsOfRound, ReadsClo
 
 -- ---- Steps of a run at one timestamp
 
--- If a run leaves its office unchanged, then it has made no step.
+-- An unchanged office has made zero steps, which counts as a list of steps at any timestamp.
 pub goes_none : {B : Type 0} (names : List (List ℕ)) (at : ℕ) (ledger : B → Ledger) (office : Office B) → Goes names at ledger office office
 goes_none names at ledger office = record {
   stands = λ past stands clean. record { steps = []; each = tt; stands = stands };
@@ -56,7 +56,7 @@ each_of_both : {names : List (List ℕ)} (at : ℕ) (later earlier : List (Step 
 each_of_both at [] earlier a b = b
 each_of_both at (one ∷ later) earlier a b = (a.0, each_of_both at later earlier a.1 b)
 
--- If steps at a timestamp are followed by more steps at this timestamp, then all are steps at this
+-- Steps at a timestamp and further steps at the same timestamp are together steps at this
 -- timestamp.
 pub goes_both : {B : Type 0} (names : List (List ℕ)) (at : ℕ) (ledger : B → Ledger) (a b c : Office B) → Goes names at ledger a b → Goes names at ledger b c
     → Goes names at ledger a c
@@ -85,7 +85,7 @@ after_events : (names : List (List ℕ)) (past : History) (fed : List Answered) 
 after_events names past [] = refl
 after_events names past (one ∷ earlier) = ap (λ h. with_answer h one.at one.event one.result) (after_events names past earlier)
 
--- If a polling round requests an event, then the event belongs to a polling round.
+-- An event that a polling round requests, if any, belongs to a polling round.
 abbrev WishesOfRound : Option Event → Type 0
 WishesOfRound None = Unit {0}
 WishesOfRound (Some e) = IsOfRound e
@@ -196,11 +196,11 @@ after_connections : (names : List (List ℕ)) (past : History) (asked : List (Co
 after_connections names past [] = refl
 after_connections names past (one ∷ earlier) = ap (λ h. with_asked h one.at one.asked) (after_connections names past earlier)
 
-each_asked : (names : List (List ℕ)) (at : ℕ) (asked : List (Connection names)) → peers.AreAt at asked → AreAt at (of_connections names asked)
+each_asked : (names : List (List ℕ)) (at : ℕ) (asked : List (Connection names)) → clients.AreAt at asked → AreAt at (of_connections names asked)
 each_asked names at [] h = tt
 each_asked names at (one ∷ earlier) h = (h.0, each_asked names at earlier h.1)
 
-pub goes_asked : {B : Type 0} (names : List (List ℕ)) (at : ℕ) (ledger : B → Ledger) (old new : Office B) → PeersAsk names at ledger old new
+pub goes_asked : {B : Type 0} (names : List (List ℕ)) (at : ℕ) (ledger : B → Ledger) (old new : Office B) → ServesClients names at ledger old new
     → Goes names at ledger old new
 goes_asked names at ledger old new ask = record {
   stands = λ past stands clean.
@@ -226,8 +226,8 @@ no_turns names ledger first begun office = record {
   zone = refl;
 }
 
--- If the clock is read and then steps happen at its latest time, then these steps are one more turn
--- of the event loop.
+-- A reading of the clock, and then steps at the latest time that the clock has returned, are one
+-- more turn of the event loop.
 one_turn : {B : Type 0} (names : List (List ℕ)) (ledger : B → Ledger) (first before latest : ℕ) (begun between now : Option (List ℕ)) (a b c : Office B)
     → TakesTurns names ledger first before begun between a b → ReadsClock before latest between now → Goes names latest ledger b c
     → TakesTurns names ledger first latest begun now a c
@@ -264,7 +264,7 @@ first_begins names ledger first latest begun now office reads = record {
   reads = reads;
 }
 
--- After steps at the latest time of the clock, the next turn of the event loop is complete.
+-- Steps at the latest time that the clock has returned complete the turn that this reading began.
 pub turn_ends : {B : Type 0} (names : List (List ℕ)) (ledger : B → Ledger) (first latest at : ℕ) (begun now : Option (List ℕ)) (a b c : Office B)
     → at ≡ latest → Begins names ledger first latest begun now a b → Goes names at ledger b c → TakesTurns names ledger first latest begun now a c
 turn_ends names ledger first latest at begun now a b c same begins goes =
@@ -281,8 +281,8 @@ next_begins names ledger first latest later at begun now after a b c d same begi
   reads = reads;
 }
 
--- If an office is only queried before turns of the event loop, then it processed these turns and
--- nothing else.
+-- A query of the office before some turns of the event loop changes nothing: the office processed
+-- these turns and nothing else.
 pub turns_after_asking : {B T : Type 0} (names : List (List ℕ)) (ledger : B → Ledger) (first : ℕ) (begun now : Option (List ℕ)) (a b c : Office B)
     (answer : Result T Refusal) → OnlyAsks ledger a b answer → TurnsFrom names ledger first begun now b c → TurnsFrom names ledger first begun now a c
 turns_after_asking names ledger first begun now a b c answer asks goes = record {

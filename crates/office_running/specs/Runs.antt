@@ -23,12 +23,13 @@ use Rattle.office_running.specs.declared.leftovers.Left.{Left}
 -- One step of a run: the office processed an event of a device's polling round, or answered the
 -- requests on a client's connection.
 --
--- `names` are the host names that requests may name.
+-- `names` are the host names that the `Host` header of a request may have.
 pub data Step (names : List (List ℕ)) : Type 0 where
   Fed : Answered → Step names
   Asks : Connection names → Step names
 
--- The command starts the Modbus reads of a device, so a polling round may request it.
+-- The command starts the Modbus reads of a device. It is the only command that a polling round may
+-- request.
 abbrev pub StartsRound : Command → Type 0
 StartsRound (command.StartRound start) = Unit {0}
 StartsRound _ = ⊥
@@ -54,26 +55,26 @@ abbrev pub AreAt : {names : List (List ℕ)} → (at : ℕ) → List (Step names
 AreAt at [] = Unit {0}
 AreAt at (one ∷ earlier) = IsStepAt at one × AreAt at earlier
 
--- The history of the office after it made one more step of a run.
+-- The history of the office's accepted events after one more step of a run.
 abbrev pub with_step : {names : List (List ℕ)} → History → Step names → History
 with_step past (Fed fed) = with_answer past fed.at fed.event fed.result
 with_step past (Asks one) = with_asked past one.at one.asked
 
--- The history of the office after it made several steps of a run; the list has the latest step
--- first.
+-- The history of the office's accepted events after several steps of a run. The list has the latest
+-- step first.
 abbrev pub history_with : {names : List (List ℕ)} → (past : History) → List (Step names)
     → History
 history_with past [] = past
 history_with past (one ∷ earlier) = with_step (history_with past earlier) one
 
--- The office is in the state after it made some steps of a run, all at timestamp `at`.
+-- The office is in the state that follows from some steps of a run, all at timestamp `at`.
 pub record StandsAfterSteps {B : Type 0} (names : List (List ℕ)) (at : ℕ) (ledger : B → Ledger)
     (past : History) (office : Office B) : Type 0 where
   pub steps : List (Step names)
   pub each : AreAt at steps
   pub stands : Stands ledger (history_with past steps) office
 
--- Whatever the sockets deliver, the office processes only events of polling rounds and requests of
+-- Whatever bytes arrive, the office processes only events of polling rounds and requests of
 -- clients, all at timestamp `at`.
 --
 -- If a store is clean after the call (no wrong result of it was used), then the store was clean
@@ -86,8 +87,8 @@ pub record Goes {B : Type 0} (names : List (List ℕ)) (at : ℕ) (ledger : B �
 
 -- ---- Turns of the event loop, from timestamp to timestamp
 
--- The clock was read once. `latest` is the later of the time that the clock returned and the
--- earlier latest timestamp.
+-- The clock was read once. `latest` is the maximum of the time that the clock returned and the
+-- latest timestamp before, `before`.
 pub record ReadsClock (before latest : ℕ) (begun now : Option (List ℕ)) : Type 0 where
   pub reported : ℕ
   pub reports : ReportsMoment begun now reported
@@ -99,7 +100,7 @@ pub record Turn (names : List (List ℕ)) : Type 0 where
   pub reported : ℕ
   pub steps : List (Step names)
 
--- The latest time that the clock has returned in a list of turns of the event loop. It is at least
+-- The latest time that the clock returned in a list of turns of the event loop, but at least
 -- `first`, the timestamp before these turns.
 abbrev pub latest_of : {names : List (List ℕ)} → (first : ℕ) → List (Turn names) → ℕ
 latest_of first [] = first
@@ -119,8 +120,8 @@ abbrev pub steps_of : {names : List (List ℕ)} → List (Turn names) → List (
 steps_of [] = []
 steps_of (turn ∷ earlier) = turn.steps ++ steps_of earlier
 
--- The office is in the state after some turns of the event loop. `latest` is the latest time that
--- the clock has returned.
+-- The office is in the state that follows from some turns of the event loop. `latest` is the latest
+-- time that the clock has returned.
 pub record StandsAfterTurns {B : Type 0} (names : List (List ℕ)) (first latest : ℕ)
     (begun now : Option (List ℕ)) (ledger : B → Ledger) (past : History)
     (office : Office B) : Type 0 where
@@ -146,7 +147,8 @@ pub record TurnsFrom {B : Type 0} (names : List (List ℕ)) (ledger : B → Ledg
   pub latest : ℕ
   pub turns : TakesTurns names ledger first latest begun now old new
 
--- After the clock was read, the office processed some turns of the event loop.
+-- The clock was read and returned the timestamp `first`. Then the office processed some turns of
+-- the event loop.
 pub record RunsOn {B : Type 0} (names : List (List ℕ)) (ledger : B → Ledger)
     (begun now : Option (List ℕ)) (old new : Office B) : Type 0 where
   pub first : ℕ
@@ -157,7 +159,7 @@ pub record RunsOn {B : Type 0} (names : List (List ℕ)) (ledger : B → Ledger)
 -- ---- A complete run, from the opening of the office to the end
 
 -- The store has the records of an opening of the office, and of the turns of the event loop after
--- this opening. The opening has a time that the clock returned.
+-- it. The timestamp of the opening is a time that the clock returned.
 pub record StandAfterOpening (names : List (List ℕ)) (begun now : Option (List ℕ))
     (ledger : Ledger) (past : History) : Type 0 where
   pub at : ℕ
@@ -170,8 +172,8 @@ pub record StandAfterOpening (names : List (List ℕ)) (begun now : Option (List
   pub are : AreTurns first between now turns
   pub stand : BooksStand ledger (history_with (Opened at ∷ past) (steps_of turns))
 
--- The store is in its state before the run, or has the records of the run. These are the records of
--- an opening of the office and of the turns of the event loop after this opening.
+-- The store has the records from before the run, with or without those of the run. The records of
+-- the run are those of an opening of the office and of the turns of the event loop after it.
 abbrev pub BooksRun : (names : List (List ℕ)) → (begun now : Option (List ℕ)) → Ledger
     → (past : History) → Type 0
 BooksRun names begun now ledger past =

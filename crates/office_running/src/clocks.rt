@@ -9,7 +9,8 @@ use run_schedule::{RunTime, SteadyClock};
 use socket_link::Clock;
 use std::time::{SystemTime, UNIX_EPOCH};
 
-// Returns the milliseconds that have passed since the system clock's present second began.
+// Returns the milliseconds since the present second of the system clock began; 0 if the clock
+// cannot be read.
 fn part_of_second<R: std::rt::Clock>(rt: &R) -> u64 {
     let Ok(now) = SystemTime::now(rt) else {
         return 0;
@@ -20,7 +21,7 @@ fn part_of_second<R: std::rt::Clock>(rt: &R) -> u64 {
     }
 }
 
-/// Returns the time of a run that begins now.
+/// Starts the run's own time, which measures timeouts. `moment` is the present timestamp.
 ///
 /// The run's time is one millisecond late, since both clocks return whole milliseconds. Each second
 /// of the run therefore begins after the system clock returns that second's timestamp. Otherwise an
@@ -39,11 +40,11 @@ pub(crate) fn to_next_second<R: std::rt::Clock>(rt: &R, time: &mut RunTime) -> u
     time.to_next_second()
 }
 
-/// Returns the timestamp of the next events: the system clock's time, or the latest timestamp of
-/// the run if the clock is earlier.
+/// Returns the timestamp for the next events. It is the time of the system clock, or the run's
+/// latest timestamp if the clock is behind it. Timestamps therefore never decrease.
 ///
-/// Reports once if the clock was set back, and once if the clock jumped ahead by more than a
-/// minute.
+/// Reports, once for each occurrence, that the clock was set back, or that it jumped ahead by more
+/// than a minute.
 pub(crate) fn read_clock<C: Clock>(
     steady: &mut SteadyClock,
     clock: &mut C,
@@ -64,7 +65,7 @@ pub(crate) fn read_clock<C: Clock>(
     reading.moment
 }
 
-/// Returns the present time of the run, in seconds.
+/// Returns the run's own time, in seconds since 1970-01-01 UTC. It follows the monotonic clock.
 pub(crate) fn read_time<R: std::rt::Clock>(rt: &R, time: &mut RunTime) -> u64 {
     time.read(even_milliseconds(rt));
     time.seconds()

@@ -1,23 +1,26 @@
-//! Determines how many file descriptors a run of `sunreg run` may open.
+//! Finds how many HTTP clients a run of `sunreg run` can serve at once within the limit on open
+//! file descriptors.
 use mio::Poll;
 use run_schedule::{MOST_CLIENTS, clients_for, needed_limit, wanted_descriptors};
 use std::alloc::{AllocError, Global};
 use std::net::Net;
 
-/// The recommended limit of file descriptors suffices for at least this number of devices.
+/// The recommended limit on open file descriptors suffices for this number of devices, even if the
+/// run has fewer.
 const MOST_DEVICES: usize = 64;
 
-/// The number of clients that a run accepts at once, if the limit of file descriptors leaves some
-/// client slots unused.
+/// The number of clients that a run accepts at once, if there are too few file descriptors for all
+/// client slots.
 #[derive(Clone, Copy)]
 pub(crate) struct FewClients {
     pub(crate) clients: usize,
-    /// The limit of file descriptors that would allow a client in each client slot.
+    /// The recommended limit on open file descriptors (`ulimit -n`), with which all client slots
+    /// can be used.
     pub(crate) limit: usize,
 }
 
-// Counts the file descriptors that the process may still open, up to `most`, by opening and closing
-// them.
+// Counts the file descriptors that the process may still open, up to `most`. It opens that many and
+// closes them again.
 fn count_descriptors<R: Net>(rt: &R, alloc: Global, most: usize) -> Result<usize, AllocError> {
     let mut opened = Vec::new(alloc);
     for _descriptor in 0..most {
@@ -31,8 +34,9 @@ fn count_descriptors<R: Net>(rt: &R, alloc: Global, most: usize) -> Result<usize
 
 /// Returns the number of clients that a run with `devices` devices accepts at once.
 ///
-/// If this number leaves client slots unused, the function also returns the recommended limit of
-/// file descriptors. Call this function when everything but devices and clients is open.
+/// If that number is less than the number of client slots, the function also returns the
+/// recommended limit on open file descriptors. Call this function after everything but devices and
+/// clients is open.
 pub(crate) fn find_clients<R: Net>(
     rt: &R,
     alloc: Global,

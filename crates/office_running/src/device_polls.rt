@@ -16,14 +16,14 @@ use run_schedule::Phase;
 use std::alloc::{AllocError, Global};
 use std::net::Net;
 
-/// The largest number of chunks that are read from a device before the run's time advances. The
-/// pending responses of a device have fewer chunks.
+/// The maximum number of chunks that are read from a device at the end of one turn of the event
+/// loop. The responses to a device's pending polls always fit in fewer chunks.
 const MOST_PIECES: u32 = 64;
 
-// Passes the office's answer and notifications for a device's bytes to the polling rounds.
+// Passes to the polling rounds the office's answer and notifications after bytes from a device.
 //
-// The round of the device gets the answer only while it waits for responses. A round that is about
-// to start reads would take the answer for that of its start.
+// The device's round gets the answer only while it waits for responses. A round that is about to
+// start reads would mistake this answer for the answer to that start.
 fn pass_answer_to_rounds(
     rounds: &mut [Round],
     place: usize,
@@ -38,7 +38,7 @@ fn pass_answer_to_rounds(
     }
 }
 
-/// The devices of a run: the connection to each, and the state of its polling round.
+/// The devices of a run: for each, its connection and the state of its polling round.
 #[derive(Drop)]
 pub(crate) struct Polling {
     every: u64,
@@ -73,19 +73,21 @@ impl Polling {
         self.slots.len()
     }
 
-    /// Marks the device in a slot as ready, because it may have sent bytes.
+    /// Marks the connection in a slot as ready: it may have bytes, or may have been established or
+    /// ended.
     pub(crate) fn mark(&mut self, place: usize) {
         if place < self.slots.len() {
             self.slots[place].ready = true;
         }
     }
 
-    /// Returns whether any device is marked as ready, because it may have sent bytes.
+    /// Returns whether any device's connection is marked as ready.
     pub(crate) fn is_ready(&self) -> bool {
         self.slots.iter().any(|slot| slot.ready)
     }
 
-    // Marks the connection to the device in a slot as failed, and reports the failure.
+    // Closes the connection to the device in a slot after a failure to connect. Prints that the
+    // device is unreachable, unless it was unreachable before.
     fn fail(&mut self, place: usize, voice: &mut Voice, now: Now) {
         if place < self.slots.len() {
             let every = self.every;
@@ -98,7 +100,7 @@ impl Polling {
         }
     }
 
-    // Begins a connection to the device in a slot, if its polling round is due.
+    // Begins to connect to the device in a slot, if its next polling round is due.
     fn begin<R: Net>(
         &mut self,
         rt: &R,
@@ -117,7 +119,7 @@ impl Polling {
         }
     }
 
-    /// Begins the connections to all devices whose polling rounds are due. The socket token of the
+    /// Begins to connect to each device whose next polling round is due. The socket token of the
     /// first device is `first`.
     pub(crate) fn begin_all<R: Net>(
         &mut self,
@@ -132,7 +134,7 @@ impl Polling {
         }
     }
 
-    // Reports the outcome of the polling round in a slot, and closes its connection.
+    // Prints the outcome of the completed polling round of a device, and closes the connection.
     fn finish(&mut self, place: usize, voice: &mut Voice, now: Now) {
         if place < self.slots.len() && place < self.rounds.len() {
             let sum = self.rounds[place].sum;
@@ -144,7 +146,8 @@ impl Polling {
         }
     }
 
-    // Sends the pending frames to a device, or closes its connection if its polling round is over.
+    // Sends the requests that the office has for a device. If the device's polling round is over,
+    // closes the connection instead.
     fn settle(&mut self, place: usize, voice: &mut Voice, now: Now) {
         if place < self.slots.len() && place < self.rounds.len() {
             if self.slots[place].timing.phase != Phase::Polling {
@@ -165,7 +168,8 @@ impl Polling {
         }
     }
 
-    /// Feeds a device event to the office, and then the events that the polling rounds request.
+    /// Feeds a device event to the office, and then each event that the polling rounds request
+    /// after it.
     pub(crate) fn feed<B: Books>(
         &mut self,
         device_event: DeviceEvent,
@@ -180,7 +184,9 @@ impl Polling {
         self.settle_all(voice, now);
     }
 
-    // Handles the state of a new connection in a slot. Returns the event for the office, if any.
+    // Handles what a check of a pending connection found: begins the polling round if the
+    // connection is established, or closes it if it failed. Returns the event for the office, if
+    // any.
     fn joined(
         &mut self,
         place: usize,
@@ -204,8 +210,8 @@ impl Polling {
         }
     }
 
-    // Checks the connection in a slot for bytes, its establishment or its end. Returns the event
-    // for the office, if any.
+    // Checks whether the connection in a slot has bytes, was established, or has ended. Returns the
+    // event for the office, if any.
     fn look(&mut self, place: usize, voice: &mut Voice, now: Now) -> Option<DeviceEvent> {
         if place >= self.slots.len() {
             return None;
@@ -223,8 +229,8 @@ impl Polling {
         }
     }
 
-    // Handles a device whose connection or polling round exceeded its time limit. Returns the event
-    // for the office, if any.
+    // Handles a device that took too long to connect or to complete its polling round. Returns the
+    // event for the office, if any.
     fn expire(&mut self, place: usize, voice: &mut Voice, now: Now) -> Option<DeviceEvent> {
         if place < self.slots.len() && self.slots[place].timing.phase == Phase::Connecting {
             self.fail(place, voice, now);
@@ -247,8 +253,8 @@ impl Polling {
         None
     }
 
-    // Returns the name of the device in a slot, if the device's polling round waits for responses
-    // or is about to start more reads.
+    // Returns the name of the device in a slot, if its polling round waits for responses or is
+    // about to start more reads. The inner `None` is a device without a valid name.
     fn waiting_at(&self, place: usize) -> Option<Option<Name>> {
         if place >= self.rounds.len() {
             return None;
@@ -259,8 +265,8 @@ impl Polling {
         }
     }
 
-    /// Marks a device with pending responses as ready, even if the system reported no event of its
-    /// socket.
+    /// Marks the connection of a device with pending responses as ready, even if the system has not
+    /// reported that its socket is readable.
     pub(crate) fn mark_waiting(&mut self, place: usize) {
         if self.waiting_at(place).is_some() {
             self.mark(place);
@@ -280,8 +286,8 @@ impl Polling {
 
     // Feeds the bytes of one device to the office.
     //
-    // The events that its polling round then requests wait for the next turn: a read that started
-    // at an earlier time would have a shorter timeout.
+    // The events that the device's polling round then requests wait for the next turn. A read that
+    // started with the timestamp of this turn would have a shorter timeout.
     fn hear<B: Books>(
         &mut self,
         place: usize,
@@ -330,8 +336,8 @@ impl Polling {
         }
     }
 
-    /// Feeds the bytes that a device with pending responses has sent to the office, before the time
-    /// advances.
+    /// Feeds to the office the bytes that a device with pending responses has sent, with the
+    /// timestamp of this turn. The bytes therefore count as received before the next timer event.
     pub(crate) fn hear_device<B: Books>(
         &mut self,
         place: usize,

@@ -12,10 +12,10 @@ use std::alloc::Global;
 use std::io::Read;
 use std::net::Net;
 
-/// The event that a check of a connection to a device finds.
+/// What a check of the connection to a device finds.
 #[derive(Drop)]
 pub(crate) enum Seen {
-    /// Nothing has happened on the connection yet.
+    /// Nothing has happened on the connection since the previous check.
     Nothing,
     /// The connection to the device is established.
     Stands,
@@ -32,14 +32,15 @@ pub(crate) enum Seen {
 pub(crate) struct Slot {
     pub(crate) site: Site,
     pub(crate) timing: Timing,
-    /// Whether the device may have sent bytes that were not read yet.
+    /// Whether the connection must be checked: bytes may have arrived, or it may have been
+    /// established or ended.
     pub(crate) ready: bool,
     pub(crate) standing: Standing,
     alloc: Global,
     stream: Option<TcpStream>,
     unsent: Outbox,
-    /// The reason why the connection ended, if the end of the connection was noticed but not yet
-    /// reported to the office.
+    /// How the connection ended, if `listen` found its end. The next check of the connection
+    /// reports it to the office.
     ended: Option<Closing>,
 }
 
@@ -87,7 +88,7 @@ impl Slot {
         }
     }
 
-    // Begins a connection to the device. Returns whether the attempt succeeded.
+    // Begins to connect to the device. Returns false if the attempt failed at once.
     fn connect<R: Net>(&mut self, rt: &R, registry: &Registry, token: Token) -> bool {
         let Ok(mut stream) = TcpStream::connect(rt, self.site.addr) else {
             return false;
@@ -101,8 +102,8 @@ impl Slot {
         true
     }
 
-    /// Begins a connection to the device, and starts the time limit of the connection at `time`.
-    /// Returns whether the attempt succeeded.
+    /// Begins to connect to the device, and starts the time limit for this at `time`. Returns false
+    /// if the attempt failed at once.
     pub(crate) fn begin<R: Net>(
         &mut self,
         rt: &R,
@@ -131,7 +132,7 @@ impl Slot {
         self.timing.rest(spacing(every), bounded(time));
     }
 
-    /// Handles a failed connection. The next attempt to connect follows after a pause that grows
+    /// Closes the connection after a failure to connect. The pause before the next attempt grows
     /// with each failure.
     pub(crate) fn fail(&mut self, every: u64, time: u64) {
         self.close();
@@ -150,7 +151,8 @@ impl Slot {
         }
     }
 
-    // Returns a copy of bytes that arrived from the device.
+    // Returns a finding with a copy of the bytes that arrived from the device. Without memory for a
+    // copy, the connection counts as failed.
     fn piece(&self, bytes: &[u8]) -> Seen {
         match bytes.to_vec(self.alloc) {
             Ok(bytes) => Seen::Bytes(bytes),
@@ -181,8 +183,8 @@ impl Slot {
         }
     }
 
-    // Sends the unsent bytes, as far as the socket accepts them. Returns whether the connection
-    // still works.
+    // Sends as many of the unsent bytes as the socket accepts. Returns whether the connection still
+    // works.
     fn send(&mut self) -> bool {
         match &self.stream {
             Some(stream) => self.unsent.write_all(stream) != Went::Over,
@@ -199,8 +201,8 @@ impl Slot {
         }
     }
 
-    // Returns the event on the connection: bytes arrived, or the connection was established or has
-    // ended.
+    // Checks whether bytes arrived, or the connection was established or has ended. Also sends
+    // unsent bytes.
     fn see(&mut self) -> Seen {
         match self.ended {
             Some(Closing::Gone) => return Seen::Closed,
@@ -220,16 +222,16 @@ impl Slot {
         }
     }
 
-    /// Returns the event on the connection. The device stays marked as ready if bytes arrived or
-    /// the connection was established.
+    /// Checks the connection, as `see` does. The device stays marked as ready if bytes arrived or
+    /// the connection was established, because more bytes may follow.
     pub(crate) fn look(&mut self) -> Seen {
         let seen = self.see();
         self.ready = matches!(seen, Seen::Stands | Seen::Bytes(_));
         seen
     }
 
-    /// Reads at most one chunk from a device that is being polled. If the connection has ended, the
-    /// next check of the connection reports the end.
+    /// Returns at most one chunk of bytes from a device that is being polled. If the connection has
+    /// ended, the next check of the connection reports the end.
     pub(crate) fn listen(&mut self) -> Option<Vec<u8>> {
         if !self.ready || self.timing.phase != Phase::Polling {
             return None;

@@ -1,5 +1,5 @@
-//! The event loop of a run of `sunreg run`. A turn of the loop handles the clock, a timer event,
-//! devices, clients and output, and waits for sockets.
+//! The event loop of a run of `sunreg run`. Each turn of the loop processes at most one event of
+//! each device, serves the clients, prints output, and waits for sockets.
 ghost use Rattle.std.specs.Prelude.{◌≡◌, ℕ, List};
 ghost use Rattle.http_request.specs.Hosts.{texts};
 ghost use Rattle.office_running.specs.Runs.{Goes, ReadsClock, RunsOn, TakesTurns, TurnsFrom};
@@ -13,7 +13,7 @@ use crate::leftovers::{Left, print_left};
 use crate::outlet::Outlet;
 use crate::settings::{Settings, Site};
 use crate::voice::Voice;
-use http_peers::{EarlierFiles, HttpPort, KeptRoom, Now, PORT_TOKEN, RunReported};
+use http_peers::{EarlierFiles, HttpPort, KeptRoom, Now, PORT_TOKEN, RunContext};
 use interval_core::Zone;
 use mio::net::TcpListener;
 use mio::{Events, Interest, Poll, Registry, Token};
@@ -31,13 +31,15 @@ use std::os::fd::RawFd;
 use std::rt::Files;
 use std::time::Duration;
 
-/// The socket token of the first device.
+/// The number that identifies the first device's socket in the event queue. The sockets of the
+/// other devices have the next numbers.
 const FIRST_DEVICE: usize = PORT_TOKEN + 1;
 
-/// The number of milliseconds after a failed accept until the next try.
+/// The maximum number of milliseconds to wait while a new connection may be waiting to be accepted.
 const RETRY: u64 = 100;
 
-// The time when a run ends, in seconds: a time of the run, or a timestamp of the system clock.
+// When a run ends: at `time` of the run's own time, or at `moment` of the system clock, whichever
+// is first. Both are in seconds since 1970-01-01 UTC.
 #[derive(Clone, Copy)]
 struct End {
     time: u64,
@@ -57,22 +59,21 @@ struct Running {
     polling: Polling,
     port: HttpPort,
     voice: Voice,
-    /// The queued output: lines that report events, and messages on standard error.
+    /// The queued output: `lines` for standard output, and `sayings` for standard error.
     lines: Outlet,
     sayings: Outlet,
     files: FileWatch,
-    /// The time of the run at which a file of the office was found missing; `None` if no file is
-    /// missing.
+    /// The time of the turn that found a file of the office to be lost; `None` if no file is lost.
     lost_at: Option<u64>,
-    /// The time of the present turn of the event loop, in seconds since the run began.
+    /// The run's own time in the present turn of the event loop, in seconds since 1970-01-01 UTC.
     time: u64,
-    /// Whether the present turn of the event loop has a timer event. It has one if a second has
-    /// passed since the previous turn, or the clock returned a later time.
+    /// Whether the present turn feeds a timer event to the office. It does if the run's time or the
+    /// timestamp has increased since the previous turn.
     ticks: bool,
 }
 
-// Creates the observer of the office for the devices in `sites`, and reports what the devices lack,
-// such as a point list.
+// Creates the observer of the office's events for the devices in `sites`, and reports what the
+// devices lack, such as a point list.
 fn voice_of(
     alloc: Global,
     sites: &[Site],
@@ -96,7 +97,7 @@ fn descriptors_of(settings: &Settings<'_>) -> (Option<RawFd>, Option<RawFd>) {
     }
 }
 
-// Opens a TCP port, and registers the port so that new connections wake the event loop.
+// Listens on a TCP port. A new connection to the port wakes the event loop.
 fn listen<R: Net>(rt: &R, registry: &Registry, addr: SocketAddr) -> Result<TcpListener, RunFault> {
     let Ok(mut listener) = TcpListener::bind(rt, addr) else {
         return Err(RunFault::Port);
@@ -107,9 +108,10 @@ fn listen<R: Net>(rt: &R, registry: &Registry, addr: SocketAddr) -> Result<TcpLi
     }
 }
 
-// Creates the HTTP port over a listening socket.
+// Creates the HTTP server on a listening socket.
 //
-// The port accepts `clients` clients at once, and keeps as many requests as the settings allow.
+// The server accepts `clients` clients at once. The settings limit the total size of the commands
+// that it stores.
 fn port_of(
     alloc: Global,
     listener: TcpListener,
@@ -121,7 +123,8 @@ fn port_of(
 }
 
 impl Running {
-    // Opens the HTTP port of a run, and creates its devices, which rest until they are due.
+    // Opens the HTTP port of a run, and creates its devices, which are not connected until their
+    // first polling round is due.
     fn open<R: Net + Files>(
         rt: &R,
         alloc: Global,
@@ -157,8 +160,8 @@ impl Running {
         })
     }
 
-    // Prints the queued lines and messages without waiting for a reader. Errors while writing to
-    // standard error are ignored.
+    // Prints queued lines and messages without blocking. Ignores a failure to write to standard
+    // error.
     fn print<W: Write, E: Write>(
         &mut self,
         now: Now,
@@ -177,8 +180,8 @@ impl Running {
         }
     }
 
-    // Checks whether a file of the office is missing, and reports a missing file. After a file is
-    // missing, no command is executed.
+    // Checks whether a file of the office was removed, replaced or cut short, and reports such a
+    // loss. After a loss, the run executes no command.
     fn find_loss<R: Files>(&mut self, rt: &R) {
         if let Some(lost) = self.files.look(rt) {
             self.voice.say_lost(self.files.path(lost.index), lost.loss);
@@ -191,9 +194,9 @@ impl Running {
         }
     }
 
-    // Checks that the files of the office still exist.
+    // Checks that no file of the office was removed, replaced or cut short.
     //
-    // If a file is missing, the run ends a second or two later, so that clients that have just
+    // After such a loss, the run ends a second or two later, so that clients that have just
     // connected still get a response.
     fn look_at_files<R: Files>(&mut self, rt: &R) {
         match self.lost_at {
@@ -206,13 +209,15 @@ impl Running {
         }
     }
 
-    // Performs the once-a-second work that does not involve the office.
+    // Drops client connections that are complete or overdue, and begins to connect to devices whose
+    // polling round is due.
     fn begin_second<R: Net>(&mut self, rt: &R, now: Now) {
         self.port.sweep(now.time);
         self.polling.begin_all(rt, self.poll.registry(), FIRST_DEVICE, &mut self.voice, now);
     }
 
-    // Performs the once-a-second work, if it is due.
+    // If this turn has a timer event, feeds the event to the office, and does the work that is done
+    // once a second.
     #[tactic(auto, using(crate::proofs::Going::goes_none, crate::proofs::Going::goes_both))]
     fn tick<R: Net, B: Books>(&mut self, rt: &R, office: &mut Office<B>, now: Now)
         ensures { (names : List (List ℕ))
@@ -226,12 +231,12 @@ impl Running {
         }
     }
 
-    // Serves each client connection, including new ones.
-    fn attend_peers<R: std::rt::Clock + Files, B: Books>(
+    // Accepts new client connections, and serves each connection that is ready.
+    fn attend_clients<'x, R: std::rt::Clock + Files, B: Books>(
         &mut self,
         rt: &R,
-        names: &[&str],
-        earlier: &EarlierFiles<'_>,
+        names: &'x [&'x str],
+        earlier: &'x EarlierFiles<'x>,
         office: &mut Office<B>,
         now: Now,
     )
@@ -242,27 +247,29 @@ impl Running {
         let system = Watching::new(rt, !self.files.is_lost(rt));
         for step in 0..MOST_CLIENTS {
             let place = place_at(first, step);
-            let reported = RunReported {
+            let context = RunContext {
+                names: &*names,
                 monitor: &self.voice.monitor,
                 lacks: &self.voice.lacks,
                 earlier: &*earlier,
+                at: now,
             };
-            self.port
-                .attend(&system, place, names, office, &reported, now);
+            self.port.attend(&system, place, office, &context);
         }
     }
 
-    // Discards cached responses after a device event, because the event may have changed the store.
+    // Discards cached HTTP responses after a device event, because the event may have changed the
+    // store.
     fn note_fed(&mut self, has_fed: bool) {
         if has_fed {
             self.port.forget_replies();
         }
     }
 
-    // Processes the next event of the device in a slot.
+    // Processes the next event of the device in a slot, if any.
     //
-    // If the device had an event, the function also serves the clients. A client therefore waits
-    // for at most one event of a device.
+    // After an event, the function also serves the clients. A client therefore waits for at most
+    // one event of a device.
     fn attend_device<R: std::rt::Clock + Files, B: Books>(
         &mut self,
         rt: &R,
@@ -278,11 +285,11 @@ impl Running {
         let has_fed = self.polling.attend(place, office, &mut self.voice, now);
         self.note_fed(has_fed);
         if has_fed && self.look(events, 0).is_ok() {
-            self.attend_peers(rt, names, earlier, office, now);
+            self.attend_clients(rt, names, earlier, office, now);
         }
     }
 
-    // Processes the next event of each device.
+    // Processes the next event of each device, if any. Serves the clients after each event.
     fn attend_devices<R: std::rt::Clock + Files, B: Books>(
         &mut self,
         rt: &R,
@@ -314,10 +321,10 @@ impl Running {
         self.port.begin_turn();
         self.tick(rt, office, now);
         self.attend_devices(rt, names, earlier, events, office, now);
-        self.attend_peers(rt, names, earlier, office, now);
+        self.attend_clients(rt, names, earlier, office, now);
     }
 
-    // Ends the polling rounds that are in progress.
+    // Ends the polling rounds that are in progress, as if the devices had closed their connections.
     fn end_rounds<B: Books>(&mut self, office: &mut Office<B>, now: Now)
         ensures { (names : List (List ℕ))
             → Goes names now.moment B.ledger office.old office.new }
@@ -354,8 +361,8 @@ impl Running {
         true
     }
 
-    // Returns the number of milliseconds to wait for the sockets; 0 if a second has passed in this
-    // turn of the event loop.
+    // Returns the maximum number of milliseconds to wait for sockets: until the next second begins.
+    // Returns 0 if there is work to do, or if a new second has begun.
     fn patience<R: std::rt::Clock>(&self, rt: &R, time: &mut RunTime) -> u64 {
         if self.polling.is_ready() || self.port.is_ready() {
             return 0;
@@ -393,7 +400,7 @@ impl Running {
         Ok(())
     }
 
-    // Waits until a socket is ready, or the next second begins.
+    // Waits until a socket is ready, but at most until the next second begins.
     fn wait<R: std::rt::Clock>(
         &mut self,
         rt: &R,
@@ -404,7 +411,8 @@ impl Running {
         self.look(events, milliseconds)
     }
 
-    // Prints the queued output, and waits for the sockets unless the run's time is up.
+    // Prints the queued output. Then waits for the sockets, unless the run is over or must stop
+    // because a file was lost or the office stopped.
     fn rest<R: std::rt::Clock + Files, W: Write, E: Write>(
         &mut self,
         rt: &R,
@@ -426,8 +434,8 @@ impl Running {
         self.wait(rt, time, events)
     }
 
-    // Feeds the bytes that devices have sent to the office. Only bytes of devices with pending
-    // responses are read.
+    // Feeds to the office the bytes that devices have sent. Only devices with pending responses are
+    // read.
     fn hear_devices<B: Books>(&mut self, office: &mut Office<B>, now: Now)
         ensures { (names : List (List ℕ))
             → Goes names now.moment B.ledger office.old office.new }
@@ -461,11 +469,12 @@ impl Running {
         Ok(is_over)
     }
 
-    // Returns the timestamp of the next turn of the event loop.
+    // Ends a turn of the event loop, and returns the timestamp of the next turn.
     //
-    // The clocks are read first. If the next turn has a timer event, the function then feeds the
-    // bytes that devices have sent, with the timestamp of the present turn. A response that arrived
-    // before its deadline is therefore never a timeout, even if the process was delayed.
+    // The clocks are read first. If the next turn has a timer event, the function then feeds to the
+    // office the bytes that devices have sent, with the timestamp of the present turn. A response
+    // that arrived before its deadline therefore never counts as a timeout, even if the process was
+    // delayed.
     #[tactic(auto, using(crate::proofs::Going::goes_none))]
     fn end_turn<R: std::rt::Clock, B: Books, C: Clock>(
         &mut self,
@@ -527,7 +536,7 @@ impl Running {
     }
 }
 
-// Returns the time when a run that begins now ends.
+// Returns when a run ends that begins when its own time is `now`.
 fn end_of(settings: &Settings<'_>, now: u64) -> End {
     End {
         time: match settings.lasts {
@@ -538,8 +547,8 @@ fn end_of(settings: &Settings<'_>, now: u64) -> End {
     }
 }
 
-// Opens the HTTP port for an open office. Reports the pending polls of the office's store, and the
-// port.
+// Opens the HTTP port for an open office. Prints the latest record and the pending polls that the
+// store had before the run, and the port.
 fn open<R: Net + Files, W: Write>(
     rt: &R,
     alloc: Global,
@@ -607,8 +616,8 @@ fn run_from<R: Net + std::rt::Clock + Files, B: Books, C: Clock, W: Write, E: Wr
     )
 }
 
-/// Polls the devices of an open office and serves HTTP, until the run's time is up. Reports the
-/// pending polls of the store first.
+/// Polls the devices of an open office and serves HTTP, until the run's time is up. First prints
+/// the latest record and the pending polls that the store had before the run.
 ///
 /// The first query of the web page is made once at the beginning. A store that caches lookups can
 /// later answer this query from its cache, so no device waits for the query.

@@ -13,12 +13,12 @@ pub enum RunFault {
     Unopened(ExitStatus),
     /// The HTTP port cannot be opened.
     Port,
-    /// The system cannot report which sockets are ready.
+    /// The system could not create or operate the queue that reports which sockets are ready.
     Sockets,
-    /// Printing the lines of the run failed.
+    /// Writing to standard output failed.
     Output,
-    /// The office has stopped because its store failed, or memory ran out, while it processed an
-    /// event of a device.
+    /// The run stopped because a file of the office was lost. Or the office stopped because its
+    /// store failed or memory ran out while it processed an event of a device.
     Stopped,
     /// Memory ran out.
     Memory,

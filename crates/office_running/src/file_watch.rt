@@ -1,5 +1,5 @@
-//! Watches the files that the office has open, to detect whether each path still leads to the same
-//! file.
+//! Watches the office's open files, to detect when one was removed, replaced or cut short. Records
+//! that are written to it afterwards would be lost.
 use http_peers::RunSystem;
 use run_schedule::{FileLoss, FileMark, file_loss};
 use std::alloc::{AllocError, Global};
@@ -9,28 +9,29 @@ use std::os::unix::fs::MetadataExt;
 use std::rt::Files;
 use std::time::Duration;
 
-/// A file that the office has open, with its identity at the last check.
+/// A file that the office has open: its path, and its device, inode and size at the last check.
 #[derive(Drop)]
 struct WatchedFile {
     path: String,
     mark: FileMark,
 }
 
-/// The files that the office has open, with their identities.
+/// The files that the office has open.
 #[derive(Drop)]
 pub(crate) struct FileWatch {
     files: Vec<WatchedFile>,
 }
 
-/// A lost file: its index in the list of watched files, and the way in which the file was lost.
+/// A lost file: its index in the list of watched files, and whether it was removed, replaced or cut
+/// short.
 #[derive(Clone, Copy)]
 pub(crate) struct LostFile {
     pub(crate) index: usize,
     pub(crate) loss: FileLoss,
 }
 
-// Returns the identity of the file at a path; `None` if no file exists there. Fails if the system
-// cannot check the path.
+// Returns the device, inode and size of the file at a path; `None` if no file exists there. Fails
+// if the system cannot check the path.
 fn mark_at<R: Files>(rt: &R, path: &str) -> io::Result<Option<FileMark>> {
     match fs::metadata(rt, path) {
         Ok(found) => Ok(Some(FileMark {
@@ -46,8 +47,9 @@ fn mark_at<R: Files>(rt: &R, path: &str) -> io::Result<Option<FileMark>> {
     }
 }
 
-// Returns the identity of an open file. If no file exists at the path now, the returned identity
-// differs from the identity of each file found at the path later.
+// Returns the device, inode and size of an open file. If the path has no file or cannot be checked,
+// the result matches no file. Any file that is found at the path later then counts as a
+// replacement.
 fn first_mark<R: Files>(rt: &R, path: &str) -> FileMark {
     match mark_at(rt, path) {
         Ok(Some(mark)) => mark,
@@ -67,8 +69,8 @@ impl WatchedFile {
         })
     }
 
-    // Returns the way in which the file at the path was lost. Returns `None` if the file was not
-    // lost, or if the system cannot check the path.
+    // Returns whether the file at the path was removed, replaced or cut short. Returns `None` if it
+    // was not, or if the system cannot check the path.
     fn loss<R: Files>(&self, rt: &R) -> Option<FileLoss> {
         match mark_at(rt, self.path.as_str()) {
             Ok(found) => file_loss(self.mark, found),
@@ -76,8 +78,8 @@ impl WatchedFile {
         }
     }
 
-    // Returns the way in which the file at the path was lost, as `loss` does. Stores the new
-    // identity of a file that still exists.
+    // Returns how the file at the path was lost, as `loss` does. Otherwise records the file's
+    // present size, so that a file that later becomes shorter counts as cut short.
     fn look<R: Files>(&mut self, rt: &R) -> Option<FileLoss> {
         let found = match mark_at(rt, self.path.as_str()) {
             Ok(found) => found,
@@ -92,7 +94,7 @@ impl WatchedFile {
 }
 
 impl FileWatch {
-    /// Begins to watch the files at the paths in `paths`, which the office has open.
+    /// Begins to watch the office's open files, whose paths are `paths`.
     pub(crate) fn open<R: Files>(
         rt: &R,
         alloc: Global,
@@ -131,7 +133,8 @@ impl FileWatch {
     }
 }
 
-/// The clocks of the system, and whether the office's files existed at the last check.
+/// What the HTTP port asks of the system: its clocks, and whether the office's files were there at
+/// the last check.
 #[derive(Drop)]
 pub(crate) struct Watching<'r, R: std::rt::Clock> {
     rt: &'r R,

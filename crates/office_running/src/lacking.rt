@@ -1,4 +1,5 @@
-//! Finds what the devices lack when a run of `sunreg run` begins, such as a point list.
+//! Finds what the devices lack when a run of `sunreg run` begins. For example, a device may have no
+//! point list in the store, and can't be polled then.
 ghost use Rattle.office_core.specs.Leaving.{BooksStand};
 ghost use Rattle.office_rules.specs.History.{History};
 ghost use Rattle.office_program.specs.Texts.Passing.{Lasts};
@@ -9,15 +10,15 @@ use office_books::Books;
 use run_status::{DeviceLack, add_lacks};
 use std::alloc::Global;
 
-// Adds what a device lacks to the findings. If the store or memory fails, the earlier findings
-// remain.
+// Appends what a device lacks to `lacks`. If the store or memory fails, the earlier items of
+// `lacks` remain.
 fn add_of_site<B: Books>(lacks: &mut Vec<DeviceLack>, books: &mut B, site: &Site)
     ensures { LooksUp (B.ledger books.old) (B.ledger books.new) }
 {
     let _found = add_lacks(lacks, books, &site.name);
 }
 
-/// Returns what the devices lack, such as a point list, according to the records of the store.
+/// Returns what each device lacks, such as a point list, according to the records of the store.
 pub(crate) fn lacks_in<B: Books>(alloc: Global, books: &mut B, sites: &[Site]) -> Vec<DeviceLack>
     ensures stands { (past : History) → BooksStand (B.ledger books.old) past
         → BooksStand (B.ledger books.new) past }

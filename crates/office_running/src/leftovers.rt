@@ -1,4 +1,5 @@
-//! The pending polls of a store before an office is opened over it.
+//! What earlier runs left in a store: the latest record, and pending polls. A run reads them before
+//! it opens the office, because the opening records each pending poll as lost.
 ghost use Rattle.std.specs.Prelude.{◌≡◌, false, nat_lt, IfSome};
 ghost use Rattle.office_core.specs.Leaving.{BooksStand};
 ghost use Rattle.office_rules.specs.History.{History};
@@ -10,16 +11,17 @@ use office_books::Books;
 use socket_link::Clock;
 use std::io::Write;
 
-/// The latest record and the pending polls of a store.
+/// The timestamp of a store's latest record, and the number of the store's pending polls.
 #[derive(Clone, Copy, Debug, PartialEq, Eq)]
 pub(crate) struct Left {
     /// The timestamp of the latest record, in seconds since 1970-01-01 UTC.
     pub(crate) latest: u64,
-    /// The number of the store's pending polls.
+    /// The number of polls whose outcome the store does not have.
     pub(crate) waiting: usize,
 }
 
-/// Returns the latest record and the pending polls of a store; `None` if the store fails.
+/// Returns the timestamp of a store's latest record and the number of its pending polls; `None` if
+/// the store fails.
 pub(crate) fn left_in<B: Books>(books: &mut B) -> Option<Left>
     ensures stands { (past : History) → BooksStand (B.ledger books.old) past
         → BooksStand (B.ledger books.new) past }
@@ -39,7 +41,8 @@ pub(crate) fn left_in<B: Books>(books: &mut B) -> Option<Left>
     }
 }
 
-/// Prints the latest record and the pending polls of a store; prints nothing for `None`.
+/// Prints the line `books to TIME lost COUNT`, with the timestamp of the latest record and the
+/// number of polls that the opening records as lost. Prints nothing for `None`.
 pub(crate) fn print_left<W: Write>(left: Option<Left>, output: &mut W) -> Result<(), RunFault> {
     let Some(left) = left else {
         return Ok(());
@@ -51,10 +54,10 @@ pub(crate) fn print_left<W: Write>(left: Option<Left>, output: &mut W) -> Result
     }
 }
 
-/// Reports that an office cannot be opened because its latest record is later than the clock. The
-/// report has both times and says what can be done.
+/// Reports on `errors` that an office cannot be opened, if its latest record is later than the
+/// clock. The report has both times, and says what a person can do.
 ///
-/// Returns whether the latest record is later. If the record is not later, nothing is reported.
+/// Returns whether the latest record is later than the clock.
 pub fn say_ahead<E: Write>(latest: u64, now: u64, errors: &mut E) -> bool
     ensures ahead { result ≡ nat_lt now latest }
     ensures silent { result ≡ false → errors.new ≡ errors.old }
@@ -69,8 +72,8 @@ pub fn say_ahead<E: Write>(latest: u64, now: u64, errors: &mut E) -> bool
     is_ahead
 }
 
-/// Reports that an office cannot be opened because its latest record is later than the clock.
-/// Reports nothing if it is not later.
+/// Reports that an office was not opened because its latest record is later than the clock. Reports
+/// nothing if the office was not opened for another reason.
 pub(crate) fn say_unopened<C: Clock, E: Write>(left: Option<Left>, clock: &mut C, errors: &mut E) {
     let Some(left) = left else {
         return;

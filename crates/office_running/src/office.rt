@@ -1,4 +1,4 @@
-//! Runs an office over a store, with a schedule of polls and an HTTP port.
+//! Runs an office over a store: polls devices on a schedule and serves HTTP.
 ghost use Rattle.http_request.specs.Hosts.{texts};
 ghost use Rattle.office_core.specs.Leaving.{BooksStand};
 ghost use Rattle.office_rules.specs.History.{History};
@@ -18,7 +18,7 @@ use std::io::Write;
 use std::net::Net;
 use std::rt::Files;
 
-/// The store that a run returns, and the result of the run.
+/// The store after a run, and the result of the run.
 #[derive(Drop)]
 pub struct Ran<B> {
     pub books: B,
@@ -26,15 +26,15 @@ pub struct Ran<B> {
 }
 
 /// Opens an office over a store, polls its devices on a schedule, and serves HTTP on a port. The
-/// run ends after its duration, or at its end time.
+/// run ends after its duration or at its end time, whichever is first.
 ///
-/// Prints the time of the latest record and the number of lost polls, and `listening PORT` when the
-/// port is open. Then prints a line for each event. Lines that cannot be written without waiting
-/// for a reader are dropped and counted. Reports on `errors`, once each, what a device lacks, and
-/// the meaning of each refusal and each rejected reading.
+/// Prints the timestamp of the latest record and the number of lost polls, and `listening PORT`
+/// when the port is open. Then prints a line for each event. Lines that the reader does not accept
+/// in time are dropped and counted. Reports on `errors`, once each, what a device lacks, and the
+/// meaning of each refusal and each rejected reading.
 ///
-/// If the clock is set back, the run reports that once, and later events have the latest timestamp
-/// so far. All timestamps are in seconds since 1970-01-01 UTC.
+/// While the clock is behind the latest timestamp, events get the latest timestamp; the run reports
+/// that once. All timestamps are in seconds since 1970-01-01 UTC.
 pub fn run_office<R: Net + std::rt::Clock + Files, B: Books, C: Clock, W: Write, E: Write>(
     rt: &R,
     alloc: Global,

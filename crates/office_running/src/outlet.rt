@@ -1,4 +1,5 @@
-//! Writes the output of a run of `sunreg run` without waiting for a reader.
+//! Writes the output of a run of `sunreg run` without blocking, even if the reader of a pipe or
+//! terminal is slow.
 use mio::unix::SourceFd;
 use mio::{Events, Interest, Poll, Token};
 use run_status::LineQueue;
@@ -8,14 +9,14 @@ use std::net::Net;
 use std::os::fd::RawFd;
 use std::time::Duration;
 
-/// The number of bytes in one write to an output whose reader may block it. Any writable pipe or
-/// terminal accepts this number of bytes.
+/// The maximum number of bytes in one write to a pipe or terminal. Each pipe or terminal that is
+/// ready for output accepts this number of bytes without blocking.
 const PIECE: usize = 512;
 
-/// The largest number of writes to an output in one turn of the event loop.
+/// The maximum number of writes to an output in one turn of the event loop.
 const MOST_PIECES: u32 = 128;
 
-// Determines whether a file descriptor can be written without waiting.
+// A file descriptor, with what is needed to ask the system whether a write to it would block.
 #[derive(Drop)]
 struct Gauge {
     poll: Poll,
@@ -24,9 +25,9 @@ struct Gauge {
 }
 
 impl Gauge {
-    // Creates a check of a file descriptor. Returns `None` if the system cannot check the
-    // descriptor. The system cannot check a regular file, but a write to a regular file waits for
-    // no reader.
+    // Prepares to ask the system whether a write to a file descriptor would block. Returns `None`
+    // if the system cannot say so, as for a regular file. A write to a regular file waits for no
+    // reader.
     fn open<R: Net>(rt: &R, alloc: Global, descriptor: RawFd) -> Option<Gauge> {
         let Ok(poll) = Poll::new(rt) else {
             return None;
@@ -47,8 +48,8 @@ impl Gauge {
         })
     }
 
-    // Returns whether the file descriptor can be written now. The function registers the descriptor
-    // again, so that the system checks it now.
+    // Returns whether a write to the file descriptor would not block. Registering the descriptor
+    // again makes the system check it now. If that fails, the function returns true.
     fn is_writable(&mut self) -> bool {
         let registered = self.poll.registry().reregister(
             &mut SourceFd(&self.descriptor),
@@ -68,10 +69,10 @@ impl Gauge {
     }
 }
 
-/// An output whose lines are written without waiting.
+/// An output, such as standard output, whose lines are written without blocking.
 ///
-/// Lines that the reader does not accept yet wait in a queue, and are dropped when the queue is
-/// full.
+/// Lines that the reader does not accept yet wait in a queue. If the queue is full, new lines are
+/// dropped and counted.
 #[derive(Drop)]
 pub(crate) struct Outlet {
     queue: LineQueue,
@@ -79,8 +80,8 @@ pub(crate) struct Outlet {
 }
 
 impl Outlet {
-    /// Opens an output on a file descriptor. Without a descriptor, a write is assumed never to
-    /// wait.
+    /// Opens an output on a file descriptor. Without a descriptor, the program assumes that a write
+    /// never blocks.
     pub(crate) fn open<R: Net>(rt: &R, alloc: Global, descriptor: Option<RawFd>) -> Outlet {
         Outlet {
             queue: LineQueue::new(alloc),
@@ -91,8 +92,8 @@ impl Outlet {
         }
     }
 
-    /// Queues lines for the output. If earlier lines were dropped, first queues a line with
-    /// timestamp `at` that reports the number of dropped lines.
+    /// Queues lines for the output. If earlier lines were dropped, the function first queues a line
+    /// with timestamp `at` that reports how many were dropped.
     pub(crate) fn push_lines(&mut self, at: u64, lines: &[u8]) {
         self.queue.append_dropped(at);
         if !lines.is_empty() {
@@ -100,7 +101,7 @@ impl Outlet {
         }
     }
 
-    // Returns the number of bytes that can be written now without waiting.
+    // Returns the number of queued bytes that the next write may have without blocking.
     fn room(&mut self) -> usize {
         let waiting = self.queue.waiting().len();
         if waiting == 0 {
@@ -128,8 +129,8 @@ impl Outlet {
         Ok(())
     }
 
-    /// Writes the queued lines, as far as the reader accepts them now. If the reader has closed the
-    /// pipe, the lines stay queued, as with a full pipe.
+    /// Writes as many queued lines as the reader accepts now. If the reader has closed the pipe,
+    /// the lines stay queued, as they do while a pipe is full.
     pub(crate) fn write<W: Write>(&mut self, output: &mut W) -> io::Result<()> {
         for _piece in 0..MOST_PIECES {
             let count = self.room();
@@ -146,8 +147,7 @@ impl Outlet {
     }
 }
 
-/// Writes lines without waiting for the reader of a file descriptor. Drops what cannot be written
-/// now.
+/// Writes lines to a file descriptor without blocking. Drops what its reader does not accept now.
 pub fn write_without_waiting<R: Net, W: Write>(
     rt: &R,
     alloc: Global,

@@ -24,28 +24,29 @@ pub struct Descriptors {
 pub struct Settings<'n> {
     /// The local address and port on which HTTP is served.
     pub listen: SocketAddr,
-    /// The time between polling rounds of a device, 1 to 86,400 seconds. Other values are limited
-    /// to this range.
+    /// The time between polling rounds of a device. A value outside 1 to 86,400 is replaced by the
+    /// nearer of these limits.
     pub every: u64,
     /// The number of seconds that the process runs; `None` for no limit.
     pub lasts: Option<u64>,
-    /// The timestamp at which the process ends in any case, in seconds since 1970-01-01 UTC; `None`
-    /// for no such timestamp.
+    /// The timestamp at which the process ends even if `lasts` is not over, in seconds since
+    /// 1970-01-01 UTC; `None` for no such timestamp.
     pub ends: Option<u64>,
-    /// The host names that HTTP requests may name, besides those of this machine.
+    /// The host names that the `Host` header of a request may have, besides `localhost` and the
+    /// loopback addresses.
     pub host_names: &'n [&'n str],
-    /// The number of request bytes in the store when the store was opened, and the limit of this
-    /// number.
+    /// The size of the stored commands when the store was opened, and the limit of this size
+    /// (`--most-kept`), both in bytes.
     ///
-    /// A command that exceeds the limit gets status 503. With `None` there is no limit.
+    /// Commands beyond the limit get status 503. With `None` there is no limit.
     pub kept: u64,
     pub most_kept: Option<u64>,
-    /// The data of the office's accounting registers in its earlier files. Energy is reported over
-    /// these files and the open file together.
+    /// For each accounting register, its data in the office's earlier files. Energy is reported
+    /// over these files and the open file together.
     pub earlier: &'n [EarlierRegister],
     /// The paths of the files that the store has open. The run watches these files until it ends.
     pub files: &'n [&'n str],
-    /// Whether the run prints a line for each poll.
+    /// Whether the run also prints a line for each poll, each accepted reading and each connection.
     pub verbose: bool,
     /// The file descriptors of standard output and standard error, so that a write never waits for
     /// a reader; `None` if a write never waits anyway.

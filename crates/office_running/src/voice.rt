@@ -1,5 +1,5 @@
-//! Reports the events of a run of `sunreg run`, and stores which events were reported, so that each
-//! is reported once.
+//! Reports the events of a run of `sunreg run` as lines on standard output and messages on standard
+//! error. It remembers which messages were printed, so that each is printed once.
 use crate::descriptors::FewClients;
 use crate::leftovers::Left;
 use office_events::{Answer, Event, Name, Note, Observer, Refusal};
@@ -18,23 +18,23 @@ use std::{io, mem};
 #[derive(Clone, Copy, Debug, PartialEq, Eq)]
 pub(crate) enum Standing {
     Unknown,
-    /// A poll of the device was answered.
+    /// The device answered at least one poll of its last round.
     Answers,
-    /// The device was connected, and none of its polls was answered.
+    /// The device was connected, but answered no poll of its last round.
     Silent,
     /// No connection to the device was established.
     Unreachable,
 }
 
-/// The observer of an office. It collects the figures of `/status`, the lines to print, and the
-/// messages on standard error.
+/// The observer of an office's events. It collects the figures of `/status`, the lines for standard
+/// output, and the messages for standard error.
 ///
-/// If memory runs out, a line of the log is omitted or cut off.
+/// If memory runs out, a line or a message is omitted or cut off.
 #[derive(Drop)]
 pub(crate) struct Voice {
     pub(crate) monitor: RunMonitor,
-    /// Whether the run must end early, because the office has stopped or a file of the office is
-    /// lost.
+    /// Whether the run must end early, because the office refuses everything until a restart, or
+    /// because a file of the office is lost.
     pub(crate) stopped: bool,
     /// What the devices lacked when the run began, such as a point list.
     pub(crate) lacks: Vec<DeviceLack>,
@@ -44,7 +44,7 @@ pub(crate) struct Voice {
     lines: Vec<u8>,
     said: Vec<u8>,
     reported: Reported,
-    /// Whether the run has already reported that it accepts no more commands.
+    /// Whether the run has reported that it has no room for more commands (`--most-kept`).
     is_full: bool,
 }
 
@@ -70,8 +70,8 @@ fn word_of(standing: Standing) -> &'static [u8] {
     }
 }
 
-// Returns the text that says how a file of the office was lost. It follows the file's path in the
-// message.
+// Returns the part of a message that says how a file of the office was lost. It follows the file's
+// path.
 fn how_lost(loss: FileLoss) -> &'static [u8] {
     match loss {
         FileLoss::Missing => b"removed or renamed while in use",
@@ -80,8 +80,8 @@ fn how_lost(loss: FileLoss) -> &'static [u8] {
     }
 }
 
-// Returns whether the event needs no report because every polling round has such an event. These
-// events are an accepted connection, and an accepted end of the connection after the last poll.
+// Returns whether an event is routine and is therefore printed only by `--verbose`. Each polling
+// round has two routine events: its connection, and the end of the connection after its last poll.
 fn is_usual(event: &Event, answer: Result<Answer, Refusal>) -> bool {
     match event {
         Event::Connected(_) => answer.is_ok(),
@@ -90,7 +90,8 @@ fn is_usual(event: &Event, answer: Result<Answer, Refusal>) -> bool {
     }
 }
 
-// Appends the line for a poll that ended, or for a reading that was accepted.
+// Appends a line for a notification of the outcome of a poll or an accepted reading. Appends
+// nothing for a rejected reading, which is printed in any case.
 fn append_poll(text: &mut Vec<u8>, at: u64, name: &Option<Name>, note: &Note) -> io::Result<()> {
     if matches!(note, Note::Held { .. }) {
         return Ok(());
@@ -121,7 +122,8 @@ impl Voice {
         })
     }
 
-    // Reports what a device lacks. Later refusals for the same reason are not reported again.
+    // Reports on standard error what a device lacks, such as a point list. Later refusals for the
+    // same reason are not reported again.
     fn say_lack(&mut self, lack: &DeviceLack) {
         let _done = write_lack(&mut self.said, lack);
         let topic = match lack.lack {
@@ -136,7 +138,7 @@ impl Voice {
         });
     }
 
-    /// Reports what all devices lack.
+    /// Reports on standard error what each device lacks.
     pub(crate) fn say_lacks(&mut self) {
         for place in 0..self.lacks.len() {
             if place < self.lacks.len() {
@@ -146,7 +148,8 @@ impl Voice {
         }
     }
 
-    // Returns the name of the device in a slot; `None` without a slot or a valid name.
+    // Returns the name of the device in a slot; `None` if there is no slot, or if the device's name
+    // is not valid.
     fn name(&self, place: Option<usize>) -> Option<Name> {
         let place = place?;
         if place < self.names.len() {
@@ -155,18 +158,18 @@ impl Voice {
         None
     }
 
-    /// Returns the queued lines, and empties the queue of lines.
+    /// Returns the queued lines for standard output, and empties their queue.
     pub(crate) fn take_lines(&mut self) -> Vec<u8> {
         mem::replace(&mut self.lines, Vec::new(self.alloc))
     }
 
-    /// Returns the queued messages on standard error, and empties the queue of messages.
+    /// Returns the queued messages for standard error, and empties their queue.
     pub(crate) fn take_said(&mut self) -> Vec<u8> {
         mem::replace(&mut self.said, Vec::new(self.alloc))
     }
 
-    /// Reports the latest record and the pending polls that the store had before the run, and the
-    /// HTTP port.
+    /// Prints the timestamp of the latest record before the run, the number of polls that the
+    /// opening recorded as lost, and the HTTP port.
     pub(crate) fn report_opened(&mut self, left: Option<Left>, port: u16) {
         if let Some(left) = left {
             let _done = write_number(&mut self.lines, b"books to ", left.latest);
@@ -192,7 +195,8 @@ impl Voice {
         let _done = append_bytes(&mut self.said, b"\n");
     }
 
-    /// Reports that the clock jumped ahead, from one timestamp to a much later one.
+    /// Reports that the clock jumped ahead, from timestamp `before` to the much later timestamp
+    /// `moment`.
     pub(crate) fn report_ahead(&mut self, before: u64, moment: u64) {
         let _done = write_number(&mut self.said, b"sunreg: the clock jumped from ", before);
         let _done = write_number(&mut self.said, b" to ", moment);
@@ -202,7 +206,8 @@ impl Voice {
         );
     }
 
-    /// Reports once that a command was refused because the limit of stored requests is reached.
+    /// Reports, only once in a run, that a command got status 503 because the stored commands have
+    /// reached the limit `--most-kept`.
     pub(crate) fn say_full(&mut self) {
         if !self.is_full {
             self.is_full = true;
@@ -213,7 +218,8 @@ impl Voice {
         }
     }
 
-    /// Reports that the run serves only few clients at once, because file descriptors are scarce.
+    /// Reports that the run serves fewer HTTP clients at once than it could, because the limit on
+    /// open file descriptors is too low.
     pub(crate) fn say_few(&mut self, few: FewClients) {
         let _done = write_number(
             &mut self.said,
@@ -228,8 +234,8 @@ impl Voice {
         let _done = append_bytes(&mut self.said, b"\n");
     }
 
-    /// Reports that a file of the office is missing. Control bytes of its path are written as `?`,
-    /// so that the report is one line.
+    /// Reports that a file of the office was removed, replaced or cut short. Control bytes in its
+    /// path are printed as `?`, so that the report is one line.
     pub(crate) fn say_lost(&mut self, path: &str, loss: FileLoss) {
         let _done = append_bytes(&mut self.said, b"sunreg: ");
         for byte in path.as_bytes() {
@@ -257,7 +263,7 @@ impl Voice {
         );
     }
 
-    /// Reports the state `now` of a device, if it differs from the earlier state `before`.
+    /// Prints the state `now` of a device, if it differs from the previous state `before`.
     pub(crate) fn report_state(
         &mut self,
         at: u64,
@@ -271,8 +277,8 @@ impl Voice {
         }
     }
 
-    /// Reports the outcomes of a polling round. Returns the state of the polled device after this
-    /// polling round.
+    /// Prints how many polls of a round were answered, timed out or failed. Returns the state of
+    /// the device after the round. A round without a completed poll changes nothing.
     pub(crate) fn report_round(
         &mut self,
         at: u64,
@@ -296,7 +302,7 @@ impl Voice {
         now
     }
 
-    // Reports the poll or the accepted reading in each notification.
+    // Prints a line for each notification of a poll's outcome or an accepted reading.
     fn report_polls(&mut self, at: u64, name: &Option<Name>, notes: &[Note]) {
         for note in notes {
             let _done = append_poll(&mut self.lines, at, name, note);
@@ -304,7 +310,7 @@ impl Voice {
     }
 }
 
-// Returns the topic of a report on an event: the device's connection, or its polling round.
+// Returns what a refusal of this event is about: the device's connection, or its polling round.
 fn topic_of(event: &Event) -> Topic {
     match event {
         Event::Connected(_) => Topic::Connection,
@@ -313,8 +319,8 @@ fn topic_of(event: &Event) -> Topic {
 }
 
 impl Voice {
-    // Reports why an event of a device was refused, unless the last report on the device gave the
-    // reason.
+    // Reports why the office refused an event of a device, unless the previous report on this topic
+    // and device gave the same reason.
     fn say_refusal(&mut self, device: &Option<Name>, event: &Event, why: Refusal) {
         let is_new = self.reported.report_once(ReportedNumber {
             topic: topic_of(event),
@@ -326,8 +332,8 @@ impl Voice {
         }
     }
 
-    // Handles the office's answer to a device event. An accepted connection or started reads clear
-    // earlier reports about the device.
+    // Reports a refusal of a device event. After an accepted connection or an accepted start of
+    // reads, a later refusal is reported even if an earlier report gave the same reason.
     fn say_answer(
         &mut self,
         device: &Option<Name>,
@@ -345,8 +351,8 @@ impl Voice {
         }
     }
 
-    // Reports why a reading of a meter was rejected, unless the last report on the meter gave the
-    // reason.
+    // Reports why a reading of a meter was rejected, unless the previous report on the meter gave
+    // the same reason. An accepted reading clears that report.
     fn say_note(&mut self, note: &Note) {
         match note {
             Note::Outcome { .. } => {}
@@ -364,7 +370,8 @@ impl Voice {
         }
     }
 
-    // Reports a device event on standard error, by the office's answer and notifications.
+    // Reports on standard error why the office refused a device event, and why it rejected
+    // readings.
     fn say(
         &mut self,
         device: &Option<Name>,

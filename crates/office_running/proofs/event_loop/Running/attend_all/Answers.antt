@@ -7,6 +7,6 @@ returns g c =
     let ledger = g.B.Books.ledger in
     let names = texts c.args.names.now in
     let at = c.args.now.moment in
-    goes_both names at ledger c.args.office.now c.attend_devices.new.office c.attend_peers.new.office
+    goes_both names at ledger c.args.office.now c.attend_devices.new.office c.attend_clients.new.office
     (goes_both names at ledger c.args.office.now c.tick.new.office c.attend_devices.new.office (c.tick.ensures names) c.attend_devices.ensures)
-    c.attend_peers.ensures
+    c.attend_clients.ensures

@@ -1,14 +1,19 @@
 //! The data besides the store from which HTTP responses are made.
 use crate::energy_over::EarlierFiles;
+use crate::moments::Now;
 use run_status::{DeviceLack, RunMonitor};
 
-/// The counts and device states of `sunreg run`, what the devices lacked at the start, and the
-/// accounting registers of earlier files.
+/// What a response is made from besides the store.
+///
+/// `names` are further host names that requests may name. `monitor` has the counts and the device
+/// states, and `lacks` what the devices lacked at the start.
 #[derive(Clone, Copy)]
-pub struct RunReported<'a> {
+pub struct RunContext<'a> {
+    pub names: &'a [&'a str],
     pub monitor: &'a RunMonitor,
     pub lacks: &'a [DeviceLack],
     pub earlier: &'a EarlierFiles<'a>,
+    pub at: Now,
 }
 
 /// The monotonic clock, and the latest check that the store's files exist.

@@ -13,7 +13,7 @@ AreAt at (one ∷ earlier) = (one.at ≡ at) × AreAt at earlier
 
 -- The program's state matches its earlier history, extended by some connections at the time `at`.
 -- The Host header of each request is accepted.
-pub record StandsAfterPeers {B : Type 0} (names : List (List ℕ)) (at : ℕ) (ledger : B → Ledger)
+pub record StandsAfterClients {B : Type 0} (names : List (List ℕ)) (at : ℕ) (ledger : B → Ledger)
     (past : History) (office : Office B) : Type 0 where
   pub connections : List (Connection names)
   pub each : AreAt at connections
@@ -22,8 +22,15 @@ pub record StandsAfterPeers {B : Type 0} (names : List (List ℕ)) (at : ℕ) (l
 -- For any input of clients, the program is in the state after it executed complete requests at the
 -- time `at`, and nothing else. The time zone is unchanged, and the mark that the store once
 -- returned wrong data is not cleared.
-pub record PeersAsk {B : Type 0} (names : List (List ℕ)) (at : ℕ) (ledger : B → Ledger)
+pub record ServesClients {B : Type 0} (names : List (List ℕ)) (at : ℕ) (ledger : B → Ledger)
     (old new : Office B) : Type 0 where
-  pub stands : After ledger old new (λ past. StandsAfterPeers names at ledger past new)
+  pub stands : After ledger old new (λ past. StandsAfterClients names at ledger past new)
+  pub clean : (ledger (books_in new)).is_clean → (ledger (books_in old)).is_clean
+  pub zone : (ledger (books_in new)).zone ≡ (ledger (books_in old)).zone
+
+-- The program only queried its store: its state still matches the same history of accepted events.
+-- The time zone is unchanged, and the mark that the store once returned wrong data is not cleared.
+pub record OnlyQueries {B : Type 0} (ledger : B → Ledger) (old new : Office B) : Type 0 where
+  pub stands : (past : History) → Stands ledger past old → Stands ledger past new
   pub clean : (ledger (books_in new)).is_clean → (ledger (books_in old)).is_clean
   pub zone : (ledger (books_in new)).zone ≡ (ledger (books_in old)).zone

@@ -2,7 +2,7 @@
 use crate::connections::{REQUEST, Stepping, client_of, energy_of_ended};
 use crate::office::{metered, utc};
 use http_peers::{
-    EarlierFiles, HttpPort, KeptRoom, Now, Outbox, PORT_TOKEN, RunReported, RunSystem, Went,
+    EarlierFiles, HttpPort, KeptRoom, Now, Outbox, PORT_TOKEN, RunContext, RunSystem, Went,
     even_milliseconds, went_by,
 };
 use memory_books::ListBooks;
@@ -40,7 +40,7 @@ impl RunSystem for System {
     }
 }
 
-// A listening HTTP port, with the event queue and the counts that it needs.
+// The HTTP port of `sunreg run`, with the event queue and the event counts that it needs.
 #[derive(Drop)]
 struct Listening {
     system: System,
@@ -84,27 +84,28 @@ impl Listening {
         Ok(Listening::new(rt.alloc(), poll, listener, room)?)
     }
 
-    // Accepts the clients that wait, serves each client, and drops the clients that got their
-    // responses.
+    // Accepts the clients that are waiting, serves each client, and drops the clients that got
+    // their responses.
     fn turn(&mut self, earlier: &EarlierFiles<'_>, office: &mut Office<ListBooks>, time: u64) {
-        let now = Now { time, moment: 2800 };
         self.port.begin_turn();
         self.port.accept(self.poll.registry(), time);
         let first = self.port.first();
         for step in 0..MOST_CLIENTS {
-            let reported = RunReported {
+            let context = RunContext {
+                names: &[],
                 monitor: &self.monitor,
                 lacks: &[],
                 earlier: &*earlier,
+                at: Now { time, moment: 2800 },
             };
             let place = place_at(first, step);
-            self.port
-                .attend(&self.system, place, &[], office, &reported, now);
+            self.port.attend(&self.system, place, office, &context);
         }
         self.port.sweep(time);
     }
 
-    // Waits at most a tenth of a second, and marks the connections that are ready.
+    // Waits at most a tenth of a second for events of the sockets, and marks the connections that
+    // are ready.
     fn look(&mut self) -> io::Result<()> {
         self.poll
             .poll(&mut self.events, Some(Duration::from_millis(100)))?;
@@ -135,9 +136,9 @@ fn read_all(alloc: Global, mut stream: TcpStream) -> Result<Vec<u8>, Fail> {
     Ok(got)
 }
 
-// A client with its request. `most` is the limit in bytes for stored commands, and `kept` is the
-// number of bytes already stored. `energy` is the meter's energy in mWh, if the request closes the
-// meter.
+// A test case: a client's request and its expected response. `most` is the limit in bytes for
+// stored commands, and `kept` is the number of bytes already stored. `energy` is the meter's energy
+// in mWh, if the request closes the meter.
 struct Client {
     are_there: bool,
     most: Option<u64>,
@@ -148,8 +149,8 @@ struct Client {
     energy: Option<u64>,
 }
 
-// Returns whether a client is served, and without waiting if the store's files exist. The port
-// reports a reached limit once, and reports missing files.
+// Returns whether the port serves a client as expected. It reports a reached limit once, and
+// reports missing files after a command. If the store's files exist, nothing remains to be done.
 fn serves(
     rt: &HostRuntime,
     listener: TcpListener,
@@ -293,13 +294,14 @@ fn commands_that_acted_take_room(rt: HostRuntime) {
     assert!(rt; KeptRoom::new(Some(10), 11).lacks(POST));
 }
 
-// Returns whether all bytes of an output buffer are written to a connection, which then ends.
+// Returns whether all bytes of an output buffer can be written to a connection, which is then
+// closed.
 fn is_taken(stream: TcpStream, outbox: &mut Outbox) -> bool {
     let stream = mio::net::TcpStream::from_std(stream);
     outbox.write_all(&stream) == Went::On && outbox.is_written()
 }
 
-// Returns the bytes that arrive through a connection to which an output buffer is written.
+// Writes an output buffer to a connection, and returns the bytes that arrive at the other end.
 fn written(rt: &HostRuntime, outbox: &mut Outbox) -> Result<Vec<u8>, Fail> {
     let listener = TcpListener::bind(rt, "127.0.0.1:0")?;
     if !is_taken(client_of(rt, &listener, b"")?, outbox) {
@@ -308,7 +310,7 @@ fn written(rt: &HostRuntime, outbox: &mut Outbox) -> Result<Vec<u8>, Fail> {
     read_all(rt.alloc(), listener.accept()?.0)
 }
 
-// The bytes in an output buffer are written once, and then make room for other bytes.
+// The bytes in an output buffer are written once. After that, the buffer has room for other bytes.
 #[test]
 fn bytes_that_are_put_are_written_once(rt: HostRuntime) -> Result<(), Fail> {
     let mut empty = Outbox::empty(rt.alloc());

@@ -1,6 +1,6 @@
 use Rattle.http_request.specs.Hosts.{texts}
 use Rattle.office_running.proofs.Going.{goes_asked, goes_both, goes_none}
-use Rattle.office_running.proofs.event_loop.Running.attend_peers.Goals as goal
+use Rattle.office_running.proofs.event_loop.Running.attend_clients.Goals as goal
 
 pub loop-step-init : goal.loop-step-init
 loop-step-init g c = goes_none (texts c.args.names.now) c.args.now.moment g.B.Books.ledger c.args.office.now
