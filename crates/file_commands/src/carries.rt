@@ -22,42 +22,57 @@ pub enum NotCarried<'a> {
     NotYet { path: &'a str, meter: Name },
 }
 
-// Maps an error inside a file rollover to a `NotCarried`, with the path of the old or new file.
-fn not_carried<'a>(from: &'a str, to: &'a str, fault: CarryFault) -> NotCarried<'a> {
-    match fault {
-        CarryFault::Old(why) => NotCarried::Refused { path: from, why },
-        CarryFault::New(why) => NotCarried::Refused { path: to, why },
-        CarryFault::NotYet(meter) => NotCarried::NotYet { path: from, meter },
+// A file rollover from the file at `from` to a new file at `to`. Each meter continues from its last
+// entry. With `until`, it continues from its last entry up to that time, in seconds since
+// 1970-01-01 UTC.
+#[derive(Clone, Copy)]
+struct Rollover<'a> {
+    from: &'a str,
+    to: &'a str,
+    until: Option<u64>,
+}
+
+impl<'a> Rollover<'a> {
+    // Returns why the rollover failed, with the path of the file in which the error occurred: the
+    // old file or the new one.
+    fn not_carried(self, fault: CarryFault) -> NotCarried<'a> {
+        let Rollover { from, to, .. } = self;
+        match fault {
+            CarryFault::Old(why) => NotCarried::Refused { path: from, why },
+            CarryFault::New(why) => NotCarried::Refused { path: to, why },
+            CarryFault::NotYet(meter) => NotCarried::NotYet { path: from, meter },
+        }
+    }
+
+    // Returns why the rollover failed: the old file could not be opened, the new file could not be
+    // created, or an error occurred in one of them.
+    fn not_ended(self, end: CarryEnd) -> NotCarried<'a> {
+        let Rollover { from, to, .. } = self;
+        match end {
+            CarryEnd::Unopened(fault) => {
+                NotCarried::Failed(Failure::Unopened { path: from, fault })
+            }
+            CarryEnd::Unmade(fault) => NotCarried::Failed(Failure::Unmade { path: to, fault }),
+            CarryEnd::Ended(fault) => self.not_carried(fault),
+        }
     }
 }
 
-// Maps the error that ended a file rollover to a `NotCarried`, with the path of the old or new
-// file.
-fn not_ended<'a>(from: &'a str, to: &'a str, end: CarryEnd) -> NotCarried<'a> {
-    match end {
-        CarryEnd::Unopened(fault) => NotCarried::Failed(Failure::Unopened { path: from, fault }),
-        CarryEnd::Unmade(fault) => NotCarried::Failed(Failure::Unmade { path: to, fault }),
-        CarryEnd::Ended(fault) => not_carried(from, to, fault),
-    }
-}
-
-// Rolls a database over into a new file with a temporary name.
+// Rolls a database over into a new file with a temporary name. Returns the number of meters.
 fn carry_into_part<'a, D: Databases>(
     rt: &HostRuntime,
     databases: &D,
-    from: &'a str,
     old: Connection<D::Store>,
-    to: &'a str,
+    it: Rollover<'a>,
     part: &Pair,
-    until: Option<u64>,
 ) -> Result<u64, NotCarried<'a>> {
     match databases.make(part.file.as_str()) {
-        Ok(new) => match carry_stored(rt.alloc(), old, new, until) {
+        Ok(new) => match carry_stored(rt.alloc(), old, new, it.until) {
             Ok(count) => Ok(count),
-            Err(end) => Err(not_ended(from, to, end)),
+            Err(end) => Err(it.not_ended(end)),
         },
         Err(fault) => {
-            let failure = Failure::File { path: to, fault };
+            let failure = Failure::File { path: it.to, fault };
             Err(NotCarried::Failed(failure))
         }
     }
@@ -81,17 +96,15 @@ fn finish<'a>(rt: &HostRuntime, to: &'a str, part: &Pair) -> Result<(), Failure<
 fn carry_whole<'a, D: Databases>(
     rt: &HostRuntime,
     databases: &D,
-    from: &'a str,
     old: Connection<D::Store>,
-    to: &'a str,
+    it: Rollover<'a>,
     part: &Pair,
-    until: Option<u64>,
 ) -> Result<u64, NotCarried<'a>> {
-    let count = match carry_into_part(rt, databases, from, old, to, part, until) {
+    let count = match carry_into_part(rt, databases, old, it, part) {
         Ok(count) => count,
         Err(why) => return Err(why),
     };
-    match finish(rt, to, part) {
+    match finish(rt, it.to, part) {
         Ok(()) => Ok(count),
         Err(failure) => Err(NotCarried::Failed(failure)),
     }
@@ -101,8 +114,8 @@ fn carry_whole<'a, D: Databases>(
 /// from their last entries. Returns the number of meters.
 ///
 /// On failure, removes the incomplete file. If only the sync of the folder fails, the new file
-/// remains. First removes the incomplete file of an interrupted call, because no other process has
-/// the old file open.
+/// remains. First removes an incomplete file that an interrupted call left. This is safe, because
+/// no other process has the old file open.
 pub fn carry_open<'a, D: Databases>(
     rt: &HostRuntime,
     databases: &D,
@@ -114,7 +127,12 @@ pub fn carry_open<'a, D: Databases>(
         Ok(part) => part,
         Err(failure) => return Err(NotCarried::Failed(failure)),
     };
-    let carried = carry_whole(rt, databases, from, old, to, &part, None);
+    let it = Rollover {
+        from,
+        to,
+        until: None,
+    };
+    let carried = carry_whole(rt, databases, old, it, &part);
     if carried.is_err() {
         remove(rt, &part);
     }
@@ -129,7 +147,8 @@ fn say_carried(rt: &HostRuntime, count: u64) -> Ending<'static> {
     }
 }
 
-/// Writes the meaning of a refusal to `errors`, with the path of the file whose office refused.
+/// Writes the meaning of a refusal and its remedy to `errors`, with the path of the file whose
+/// office refused.
 pub(crate) fn write_refusal<W: Write>(errors: &mut W, path: &str, why: Refusal) -> io::Result<()> {
     match meaning_of(Kind::Refused, u32::from(why.number())) {
         Some(meaning) => write!(
@@ -189,13 +208,11 @@ fn say_not_yet(rt: &HostRuntime, path: &str, meter: &Name) -> Ending<'static> {
 fn carry_in<'a, D: Databases>(
     rt: &HostRuntime,
     databases: &D,
-    from: &'a str,
-    to: &'a str,
+    it: Rollover<'a>,
     part: &Pair,
-    until: Option<u64>,
 ) -> Result<u64, NotCarried<'a>> {
-    match open_in(rt, databases, from) {
-        Ok(old) => carry_whole(rt, databases, from, old, to, part, until),
+    match open_in(rt, databases, it.from) {
+        Ok(old) => carry_whole(rt, databases, old, it, part),
         Err(failure) => Err(NotCarried::Failed(failure)),
     }
 }
@@ -205,12 +222,10 @@ fn carry_in<'a, D: Databases>(
 fn carry_into<'a, D: Databases>(
     rt: &HostRuntime,
     databases: &D,
-    from: &'a str,
-    to: &'a str,
+    it: Rollover<'a>,
     part: &Pair,
-    until: Option<u64>,
 ) -> Ending<'a> {
-    let ending = match carry_in(rt, databases, from, to, part, until) {
+    let ending = match carry_in(rt, databases, it, part) {
         Ok(count) => return say_carried(rt, count),
         Err(why) => match why {
             NotCarried::Failed(failure) => Ending::Failed(failure),
@@ -222,8 +237,8 @@ fn carry_into<'a, D: Databases>(
     ending
 }
 
-/// Begins a new file in which each open meter of an office continues. A meter continues from its
-/// last entry, or from its last entry up to a given time. The old file is only copied, so another
+/// Begins a new file in which each open meter of an office continues from its last entry, or from
+/// its last entry up to the time `until`. The old file is read through a temporary copy, so another
 /// process may be running its office.
 pub fn carry<'a, D: OfficeFiles>(
     rt: &HostRuntime,
@@ -241,5 +256,5 @@ pub fn carry<'a, D: OfficeFiles>(
         None => None,
     };
     let copies = files.opened(Opening::Copied);
-    carry_into(rt, &copies, from, to, &part, until)
+    carry_into(rt, &copies, Rollover { from, to, until }, &part)
 }
