@@ -27,8 +27,8 @@ pub record Form : Type 0 where
   pub format : Option Format
   pub statement : Bool
 
--- What an audit does with a seal, which is a signed-off digest of a file's past. The audit ignores
--- seals, prints a new seal, or checks a stored seal.
+-- What an audit does with a seal, which is a signed-off digest of a file's past. The audit uses no
+-- seal, prints a new seal, or compares the file with a stored seal.
 pub data Seal : Type 0 where
   Nothing : Seal
   Print : Seal
@@ -59,7 +59,7 @@ pub data Line : Type 0 where
   Explain : (what number : Text) → Line
   Completions : Line
 
--- Converts an executable value of `FormWords` to its logical model.
+-- Converts the executable value `FormWords`, which the code uses, to its logical model `Form`.
 abbrev pub seen_form : FormWords → Form
 seen_form form = record {
   from = option_map (λ text. text.now) form.from;
@@ -70,13 +70,13 @@ seen_form form = record {
   statement = form.statement;
 }
 
--- Converts an executable value of `Sealing` to its logical model.
+-- Converts the executable value `Sealing`, which the code uses, to its logical model `Seal`.
 abbrev pub seen_sealing : Sealing → Seal
 seen_sealing sealing.Nothing = Nothing
 seen_sealing sealing.Print = Print
 seen_sealing (sealing.Against file) = Against file.now
 
--- Converts an executable value of `CommandLine` to its logical model.
+-- Converts the executable value `CommandLine`, which the code uses, to its logical model `Line`.
 abbrev pub seen : CommandLine → Line
 seen (line.Replay zone) = Replay zone.now
 seen (line.ReplayFile db) = ReplayFile db.now
@@ -130,7 +130,7 @@ abbrev pub connections_in : List Row → Option ℕ
 connections_in rows = number_at 1000000 (codes "connections") rows
 
 -- The values of `--host-name`, which are further names that an HTTP request's Host header may have.
--- None if a value is no host name.
+-- None if one of them is not a host name.
 abbrev pub hosts_in : List Row → Option (List Text)
 hosts_in rows = host_names_of (texts_at (codes "host-name") rows)
 

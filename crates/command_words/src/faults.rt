@@ -1,4 +1,4 @@
-//! Defines the reasons why arguments form no valid command line, with their messages.
+//! The reasons why arguments result in no command, with their messages.
 use crate::table::NumberOption;
 use crate::values::DeviceFault;
 use std::error::Error;
@@ -12,7 +12,7 @@ pub enum ValueFault<'a> {
     Missing {
         option: &'a str,
     },
-    /// The option's value `word` is no number from 1 to the option's maximum.
+    /// The option's value `word` is not a number from 1 to the option's maximum.
     Number {
         option: NumberOption<'a>,
         word: &'a str,
@@ -48,20 +48,20 @@ pub enum ValueFault<'a> {
         option: &'a str,
         other: &'a str,
     },
-    /// The part `part` of a device list is no valid device.
+    /// The part `part` of a device list is not a valid device.
     Device {
         part: &'a str,
         fault: DeviceFault,
     },
-    /// The value `word` of `--host-name` is no host name.
+    /// The value `word` of `--host-name` is not a host name.
     HostName {
         word: &'a str,
     },
     Memory,
 }
 
-/// The outcome of parsing arguments that give no command line. It is a fault, or a request for help
-/// or the version.
+/// The reason why arguments result in no command: a fault, or a request for help or for the
+/// version.
 #[derive(Debug, PartialEq, Eq, Drop)]
 pub enum WordsFault {
     /// The arguments are invalid. The text for standard error states the reason.
@@ -141,7 +141,7 @@ impl<'a> Display for ValueFault<'a> {
     }
 }
 
-// Writes the complete text that `clap` or a `ValueFault` wrote.
+// For `Wrong` and `Help`, this is the complete text from `clap` or from a `ValueFault`.
 impl Display for WordsFault {
     fn fmt<W: fmt::Write>(&self, f: &mut Formatter<W>) -> fmt::Result {
         match self {

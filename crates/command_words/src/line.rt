@@ -15,7 +15,7 @@ pub struct FormWords<'a> {
     pub statement: bool,
 }
 
-/// What an audit does with a seal. A seal is a signed-off digest of a file's past.
+/// What an audit does with a seal, which is a signed-off digest of a file's past.
 #[derive(Clone, Copy, Debug, PartialEq, Eq)]
 pub enum Sealing<'a> {
     /// The audit uses no seal.
@@ -38,7 +38,8 @@ pub enum CommandLine<'a> {
     ReplayFile {
         db: &'a str,
     },
-    /// Prints the Modbus reads that a point list from standard input requires.
+    /// Prints the reading plan for a point list from standard input: the Modbus reads that cover
+    /// the list's points.
     Plan,
     /// Prints the SunSpec models in a Modbus memory image from standard input.
     Chain,
@@ -65,7 +66,8 @@ pub enum CommandLine<'a> {
         connections: u32,
         host_names: Vec<&'a str>,
     },
-    /// Polls a device once for each read of its plan.
+    /// Executes one round of polls of a device, with one poll for each Modbus read of its reading
+    /// plan.
     Round {
         db: &'a str,
         device: &'a str,

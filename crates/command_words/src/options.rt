@@ -20,7 +20,7 @@ fn value<'a>(found: &ArgMatches<'a>, option: &str) -> Option<&'a str>
     found.get_str(option)
 }
 
-// Returns the text of a required option.
+// Returns the value of a required option.
 pub fn text<'a>(found: &ArgMatches<'a>, option: &'static str) -> Result<&'a str, ValueFault<'a>>
     ensures { Reads (λ text. text.now) (text_at option.now (rows_in found.now)) result }
 {
@@ -57,7 +57,7 @@ pub fn number_if<'a>(
     }
 }
 
-// Returns the number in the value of an option, or the option's default if the option is not given.
+// Returns the number in the value of an option, or `otherwise` if the option is not given.
 pub fn number_or<'a>(
     found: &ArgMatches<'a>,
     option: NumberOption<'static>,
@@ -85,14 +85,14 @@ fn number_in<'a>(option: NumberOption<'static>, word: &'a str) -> Result<u32, Va
     }
 }
 
-// Returns the text of an optional option, or None if the option is not given.
+// Returns the value of an optional option, or None if the option is not given.
 pub fn text_if<'a>(found: &ArgMatches<'a>, option: &str) -> Option<&'a str>
     ensures { option_map (λ text. text.now) result ≡ text_at option.now (rows_in found.now) }
 {
     value(found, option)
 }
 
-// Returns the text of an option, or its default if the option is not given.
+// Returns the value of an option, or `otherwise` if the option is not given.
 pub fn text_or<'a>(found: &ArgMatches<'a>, option: &'static str, otherwise: &'a str) -> &'a str
     ensures { result.now ≡ text_or otherwise.entry.now option.now (rows_in found.now) }
 {
@@ -110,7 +110,8 @@ fn values<'a, 'f>(found: &'f ArgMatches<'a>, option: &str) -> Option<&'f [&'a st
     found.get_strs(option)
 }
 
-// Returns the texts of an option that may be given several times.
+// Returns all values of an option that may be given several times. Returns an empty list if the
+// option is not given.
 pub fn texts<'a>(
     alloc: Global,
     found: &ArgMatches<'a>,
@@ -156,7 +157,7 @@ fn is_host_name(name: &str) -> bool
     }
 }
 
-// Returns the first text in a list that is no host name, or None.
+// Returns the first text in a list that is not a host name, or None if all texts are host names.
 fn other_than_hosts<'a>(names: &[&'a str]) -> Option<&'a str>
     ensures { is_none result ≡ list_all is_host_name (texts names.now) }
 {
@@ -168,7 +169,8 @@ fn other_than_hosts<'a>(names: &[&'a str]) -> Option<&'a str>
     None
 }
 
-// Returns the values of `--host-name`: names that an HTTP request's Host header may have.
+// Returns the values of `--host-name`: further names that an HTTP request's Host header may have.
+// Fails if one of them is not a host name.
 pub fn host_names<'a>(alloc: Global, found: &ArgMatches<'a>) -> Result<Vec<&'a str>, ValueFault<'a>>
     ensures { Reads (λ names. texts names.items)
         (host_names_of (texts_at (codes "host-name") (rows_in found.now))) result }
@@ -180,7 +182,7 @@ pub fn host_names<'a>(alloc: Global, found: &ArgMatches<'a>) -> Result<Vec<&'a s
     }
 }
 
-// Returns the texts of a required option that may be given several times.
+// Returns all values of a required option that may be given several times.
 pub fn several<'a>(
     alloc: Global,
     found: &ArgMatches<'a>,

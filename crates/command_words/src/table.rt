@@ -21,7 +21,7 @@ pub const ZONE: &str = "UTC0";
 /// The default host.
 pub const HOST: &str = "127.0.0.1";
 
-/// The option that adds a name to the names that an HTTP request's Host header may have.
+/// The option for a further name that an HTTP request's Host header may have.
 pub const HOST_NAME: &str = "host-name";
 
 pub const PORT: NumberOption<'static> = NumberOption {

@@ -14,7 +14,7 @@ use stored_files::{
     write_joins, write_seal,
 };
 
-/// The greatest length of a seal that the command `audit` reads, in bytes. A seal of 4,096 meters,
+/// The maximum length of a seal that the command `audit` reads, in bytes. A seal of 4,096 meters,
 /// each with a thousand voided entries, is shorter.
 const MOST_SEAL: u64 = 300_000_000;
 
@@ -32,7 +32,8 @@ fn print_seal<S: Alter>(
     Ok(true)
 }
 
-// Returns whether the tables still match the seal with the text `text`.
+// Checks the tables against a seal, and prints the result. Returns whether they still match the
+// seal.
 fn hold_to<S: Alter>(
     rt: &HostRuntime,
     connection: &mut Connection<S>,
@@ -168,7 +169,7 @@ pub fn audit<'a, D: OfficeFiles>(
 
 // ---- audits of several files of one office
 
-// Returns the fault of a file whose time zone could not be read.
+// Returns the fault that the audit reports for a file whose time zone could not be read.
 fn zone_fault(fault: OpenFault) -> AuditFault {
     match fault {
         OpenFault::NotOurs => AuditFault::NotOurs,

@@ -4,8 +4,8 @@ use crate::copies::{Pair, copy_sound, make_whole, remove, sound_pair_at};
 use crate::parts::{finish_part, part_of};
 use stored_files::{CopyFault, Ending, Failure};
 
-/// Maps the fault of a copy to a failure of the command. The failure has the path of the faulty
-/// file, which is the original or the copy.
+/// Returns the failure of a command that could not copy a file. The failure names the original or
+/// the copy, whichever is at fault.
 pub(crate) fn copy_failure<'a>(db: &'a str, to: &'a str, fault: CopyFault) -> Failure<'a> {
     match fault {
         CopyFault::Changing | CopyFault::Torn | CopyFault::NotOurs => {

@@ -86,7 +86,7 @@ fn copy_file(rt: &HostRuntime, from: &str, to: &str) -> io::Result<()> {
     copy.sync_all()
 }
 
-// Copies a file and then its log. Returns whether the log's header was unchanged during the copy.
+// Copies a file and then its log. Returns whether the log's header stayed the same during the copy.
 // If so, no checkpoint ran, and the two copies belong together. The copied log includes commits
 // that an office wrote during the copy.
 fn copy_pair(rt: &HostRuntime, source: &Pair, part: &Pair) -> io::Result<bool> {
@@ -145,8 +145,8 @@ pub(crate) fn make_whole(rt: &HostRuntime, file: &str) -> Result<(), CopyFault> 
     }
 }
 
-// Returns the paths of a temporary copy of a file and its log, which is only read. The paths are in
-// the folder of temporary files, and contain the current time.
+// Returns the paths for a temporary copy of a database file and its log, in the folder for
+// temporary files. The names contain the current time.
 fn passing_names(rt: &HostRuntime) -> Result<Pair, FileFault> {
     let alloc = rt.alloc();
     let (Ok(folder), Ok(now)) = (env::temp_dir(rt), SystemTime::now(rt)) else {
@@ -166,7 +166,8 @@ fn passing_names(rt: &HostRuntime) -> Result<Pair, FileFault> {
 }
 
 /// Opens a temporary copy of the database at a path. The copy disappears when the connection is
-/// closed. The original file, its folder and other processes are not affected.
+/// closed. The original file and its folder are not changed, and other processes can keep using the
+/// file.
 pub(crate) fn open_copy(
     rt: &HostRuntime,
     path: &str,

@@ -3,7 +3,7 @@ use crate::copies::open_copy;
 use sqlite::{Connection, FileFrom, FileStore, Unknown};
 use stored_files::{Databases, FileConnection, FileFault, make_file, open_file};
 
-/// The way in which a database file is opened.
+/// How a database file is opened.
 #[derive(Clone, Copy)]
 pub enum Opening {
     /// Opens the file itself, for reading and writing.
@@ -15,16 +15,16 @@ pub enum Opening {
     Copied,
 }
 
-/// A source of an office's database files, with the way in which each command opens them.
+/// A way to open an office's database files. Each command chooses how its files are opened.
 ///
 /// Functions are generic over this source. Only the program's outermost call names the files of the
 /// operating system, because the prover needs half a minute for each call over them.
 pub trait OfficeFiles: Databases + Copy {
-    /// Returns the same source of files, with `opening` as the way in which files are opened.
+    /// Returns a source of the same files that opens them as `opening` says.
     fn opened(&self, opening: Opening) -> Self;
 }
 
-/// The files of the operating system, and the way in which they are opened.
+/// The files of the operating system, and how they are opened.
 #[derive(Clone, Copy)]
 pub struct Files<'r> {
     rt: &'r HostRuntime,

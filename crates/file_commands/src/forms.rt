@@ -1,4 +1,5 @@
-//! Builds the forms of reports and statements from command line options.
+//! Converts command line options to the form of a report or statement: its days, unit and output
+//! format, and the period of a report's rows.
 use command_words::FormWords;
 use energy_report::{
     EnergyUnit, Format, Period, RangeFault, ReportForm, StatementForm, read_range,

@@ -12,7 +12,7 @@ use stored_files::{
     length_of, log_of, real_path,
 };
 
-// Returns the failure of creating an office in a file that is not empty.
+// Returns why no office can be created in a file that is not empty.
 fn why_occupied<'a, D: Databases>(databases: &D, path: &'a str) -> Failure<'a> {
     match databases.make(path) {
         Ok(connection) if is_bare(&connection) => Failure::Occupied { path },
@@ -123,7 +123,7 @@ fn create_in<'a, D: Databases>(
     make_office(rt, databases, path, zone, length.is_some())
 }
 
-// Creates an office with the days of a named zone, and prints the zone's rule.
+// Creates an office whose days follow the POSIX rule of a named time zone, and prints this rule.
 fn create_by_rule<'a, D: Databases>(
     rt: &HostRuntime,
     databases: &D,
@@ -137,15 +137,15 @@ fn create_by_rule<'a, D: Databases>(
     }
 }
 
-// Names the zone that the person may have meant, on standard error.
+// Reports, on standard error, the name of a time zone that the user may have meant.
 fn report_similar(rt: &HostRuntime, zone: &str) {
     if let Ok(Some(name)) = similar_name(rt, zone) {
         let _said = eprintln!(rt; "sunreg: the system has the time zone {name}");
     }
 }
 
-/// Creates an office in the file at a path. Its days are those of a time zone: the POSIX rule
-/// `zone`, or the present rule of the zone that has this name in the operating system's zone files.
+/// Creates an office in the file at a path. `zone` is the time zone of the office's days. It is a
+/// POSIX rule, or the name of a zone whose current rule is in the operating system's zone files.
 pub fn create<'a, D: Databases>(
     rt: &HostRuntime,
     databases: &D,

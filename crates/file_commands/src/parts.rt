@@ -30,7 +30,7 @@ fn is_reserved(path: &str) -> bool {
     RESERVED.iter().any(|end| path.ends_with(*end))
 }
 
-/// Rejects a name with a reserved suffix for a new office.
+/// Rejects a name with a reserved suffix for the file of a new office.
 pub(crate) fn check_name(to: &str) -> Result<(), Failure<'_>> {
     if is_reserved(to) {
         return Err(Failure::Uncopied {
@@ -49,8 +49,8 @@ fn pair_for<'a>(rt: &HostRuntime, to: &str) -> Result<Pair, Failure<'a>> {
     }
 }
 
-// Rejects the name of a new file if it has a reserved suffix, if it exists, or if the name of its
-// log exists.
+// Rejects the name of a new file if it has a reserved suffix, or if a file with this name or its
+// log already exists.
 fn check_free<'a>(rt: &HostRuntime, to: &'a str) -> Result<(), Failure<'a>> {
     check_name(to)?;
     let Ok(log) = format!(in rt.alloc(); "{to}-wal") else {

@@ -12,8 +12,8 @@ use stored_files::{
     write_recovered,
 };
 
-// Returns the paths of a file and its log, if the log has lost commits. Fails if the log is not
-// damaged.
+// Returns the paths of a file and its log. Fails if the log has lost no commits, because then
+// nothing needs recovery.
 fn damaged_pair<'a>(rt: &HostRuntime, db: &'a str) -> Result<Pair, Failure<'a>> {
     let pair = match pair_at(rt, db) {
         Ok(pair) => pair,

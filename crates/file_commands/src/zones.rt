@@ -9,14 +9,14 @@ const FOLDER: &str = "/usr/share/zoneinfo";
 /// The first bytes of each zone file (RFC 9636, section 3.1).
 const MAGIC: &[u8] = b"TZif";
 
-/// The greatest length of a zone's name, in bytes.
+/// The maximum length of a zone's name, in bytes.
 const MAX_NAME: usize = 64;
 
 fn is_name_byte(byte: u8) -> bool {
     byte.is_ascii_alphanumeric() || byte == b'_' || byte == b'+' || byte == b'-'
 }
 
-// Returns whether a text can be a zone's name: words with `/` between them.
+// Returns whether a text has the form of a zone's name: words with `/` between them.
 fn is_zone_name(text: &str) -> bool {
     text.len() <= MAX_NAME
         && text
@@ -24,16 +24,16 @@ fn is_zone_name(text: &str) -> bool {
             .all(|word| !word.is_empty() && word.bytes().all(is_name_byte))
 }
 
-// Returns the rule for times after the last one in a zone file's table, which is the file's last
-// line (RFC 9636, section 3.3).
+// Returns the POSIX rule in the last line of a zone file (RFC 9636, section 3.3). The rule applies
+// to all times after the last entry in the file's table.
 fn last_rule(content: &[u8]) -> Option<&str> {
     let lines = content.strip_prefix(MAGIC)?.strip_suffix(b"\n".as_slice())?;
     let rule = lines.rsplit(|byte| *byte == b'\n').next()?;
     str::from_utf8(rule).ok()
 }
 
-/// Returns the present rule of the zone with a name. Returns `None` if the system has no zone file
-/// of this name, or if the file has no rule.
+/// Returns the current POSIX rule of the time zone `name`. Returns `None` if the system has no zone
+/// file of this name, or if the file has no valid rule.
 pub(crate) fn rule_of_name(rt: &HostRuntime, name: &str) -> io::Result<Option<String>> {
     if !is_zone_name(name) {
         return Ok(None);
@@ -50,7 +50,8 @@ pub(crate) fn rule_of_name(rt: &HostRuntime, name: &str) -> io::Result<Option<St
     }
 }
 
-// Returns the name of the zone in an area, such as Europe, whose last word is `word` in any case.
+// Returns the full name of a time zone in an area, such as Europe, whose last word is `word`,
+// ignoring case.
 fn name_in_area(rt: &HostRuntime, area: &str, word: &str) -> io::Result<Option<String>> {
     let folder = format!(in rt.alloc(); "{FOLDER}/{area}")?;
     for entry in fs::read_dir(rt, folder.as_str())? {
@@ -63,8 +64,8 @@ fn name_in_area(rt: &HostRuntime, area: &str, word: &str) -> io::Result<Option<S
     Ok(None)
 }
 
-/// Returns the name of a zone that a person who wrote `name` may have meant. Its last word is that
-/// of `name` in any case, in any area.
+/// Returns the name of a time zone that a user who wrote `name` may have meant. It is a zone in any
+/// area whose last word equals the last word of `name`, ignoring case.
 pub(crate) fn similar_name(rt: &HostRuntime, name: &str) -> io::Result<Option<String>> {
     let word = match name.rsplit_once('/') {
         Some((_, word)) => word,

@@ -1,4 +1,4 @@
--- The lemma that an empty store agrees with the empty history of events.
+-- Proves that an empty store agrees with the empty history of events.
 use Rattle.std.proofs.Common.{zero, suc, [], ◌∷◌, inl, refl, arith}
 use Rattle.std.specs.Prelude.{All}
 use Rattle.memory_books.specs.declared.list_books.ListBooks.{ListBooks}

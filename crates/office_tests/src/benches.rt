@@ -1,5 +1,5 @@
-//! A test setup with an office that polls two devices at the same time, and with an observer of
-//! every event.
+//! A test setup: an office that polls two devices at the same time, and an observer that sees every
+//! event.
 use crate::links::{SECOND_REPLY, first_reply};
 use crate::offices::{assert_list_accepted, inv, office_after};
 use office_books::Books;
@@ -9,7 +9,8 @@ use poll_core::Closing;
 use std::alloc::Global;
 use std::process::Abort;
 
-/// An event of the device in the slot with this index of the setup.
+/// An event of a device, or of the timer. The number is the index of the device's slot in the
+/// setup.
 #[derive(Clone, Copy)]
 pub(crate) enum Step {
     Stands(usize),
@@ -39,7 +40,7 @@ pub(crate) fn names() -> [Option<Name>; 2] {
     [inv(), Name::new(b"two")]
 }
 
-/// The polling rounds of the two devices in an office, and the observer.
+/// The result of a test: the polling rounds of the two devices, and the observer.
 #[derive(Drop)]
 pub(crate) struct Bench<W> {
     pub(crate) rounds: Vec<Round>,
@@ -62,7 +63,8 @@ fn device_event(rt: &impl Abort, alloc: Global, step: Step) -> DeviceEvent {
     }
 }
 
-/// Runs these events in an office with both devices. The plan of each device has two reads.
+/// Processes these events in an office with both devices. Each device has a reading plan with two
+/// reads.
 pub(crate) fn play<B: Books, W: Observer + Drop>(
     rt: &impl Abort,
     alloc: Global,

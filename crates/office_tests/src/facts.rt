@@ -1,4 +1,5 @@
-//! Builds the records of an office's store from a short form.
+//! Builds records for an office's store from a short form, so that tests can list them in few
+//! lines.
 use crate::offices::name_of;
 use energy_core::{Cause, Entry};
 use mb_wire::{ReadFunction, ReadSpan};
@@ -27,7 +28,7 @@ pub(crate) enum Booked {
     /// A void of a meter's entry, by the meter's name, the sequence number of the entry, and the
     /// time of the void.
     Void(&'static [u8], u64, u64),
-    /// The start of the poll of the device `inv` with this number.
+    /// The start of a poll of the device `inv`. The poll has this number.
     Poll(u64),
     /// The timeout of the poll with this number.
     Ended(u64),

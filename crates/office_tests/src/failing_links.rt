@@ -1,4 +1,4 @@
-//! Tests polling rounds in which a chosen call of the connection (link) to the device fails.
+//! Tests polling rounds in which a chosen call of the link, the connection to the device, fails.
 use crate::links::replies;
 use crate::offices::opened;
 use crate::rounds::{ANSWERED, BOTH_AT_ONCE, Ends, LOST, ends, listed, round};
@@ -9,14 +9,14 @@ use office_rounds::RoundFault;
 use std::alloc::Global;
 use std::process::Abort;
 
-// The number of calls of the link in one polling round, which transfers at most 7 bytes in each
-// call. Both requests together need 4 calls, the first response needs 37, and the second response
-// needs 2.
+// The number of calls of the link in one polling round, if the link transfers at most 7 bytes in
+// each call. Both requests together need 4 calls, the first response needs 37, and the second
+// response needs 2.
 const CALLS: u64 = 43;
 
 const UP_TO_FIRST: u64 = 41;
 
-// Returns true if both polls have the expected outcomes when call `number` of the link fails.
+// Returns true if the polls have the outcomes that are expected if call `number` of the link fails.
 fn are_ends(polls: Ends, number: u64) -> bool {
     if number <= UP_TO_FIRST {
         polls == [LOST, LOST, None]
@@ -27,8 +27,9 @@ fn are_ends(polls: Ends, number: u64) -> bool {
     }
 }
 
-/// Runs a polling round in which both polls are pending and call `number` of the link fails. The
-/// round fails with the fault `Link`, and each pending poll is lost. A restart changes no outcome.
+/// Runs a polling round in which both polls are pending at the same time, and call `number` of the
+/// link fails. Asserts that the round fails with the fault `Link`, that each pending poll is lost,
+/// and that a restart changes no outcome.
 pub(crate) fn fail_call<B: Books>(rt: &impl Abort, alloc: Global, books: B, number: u64) {
     let mut office = listed(rt, alloc, books, BOTH_AT_ONCE);
     let mut given = [0; 24];
@@ -46,7 +47,7 @@ pub(crate) fn fail_call<B: Books>(rt: &impl Abort, alloc: Global, books: B, numb
     assert!(rt; are_ends(ends(&mut again), number), "call {number}");
 }
 
-/// If any call of a link fails, all pending polls of the polling round are lost.
+/// If any call of a link fails, all polls that are then pending in the polling round are lost.
 #[test]
 fn a_failing_link_loses_what_waits(rt: HostRuntime) {
     for number in 1..=CALLS + 1 {

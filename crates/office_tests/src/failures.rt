@@ -1,4 +1,4 @@
-//! Tests each kind of event and query of an office over a store that fails at a chosen call.
+//! Tests each kind of event and query in an office whose store fails at a chosen call.
 use crate::offices::{inv, opened, request_of};
 use crate::scripts::{print_event, print_line};
 use crate::tried::{Trial, try_failing};
@@ -146,7 +146,8 @@ meter m2 last 1 sf 1 at 3600 total 0 open
     ),
 ];
 
-// A query after the office was opened again, which recorded the pending poll as lost.
+// A query that is sent after the office was opened again. The poll that was pending is recorded as
+// lost.
 static END: Line = asks!("poll 5", "poll 5 lost 4\n");
 
 static ROWS: [&str; 6] = [
@@ -169,7 +170,8 @@ fn is_stopped<T: Drop>(answer: Result<T, Refusal>) -> bool {
     matches!(answer, Err(Refusal::Stopped))
 }
 
-// Returns true if a stopped office refuses the queries that scripts cannot send.
+// Returns true if the office refuses, because it has stopped, the queries that no script line can
+// send.
 fn has_stopped<B: Books>(office: &mut Office<B>) -> bool {
     is_stopped(office.device(&inv()))
         && is_stopped(office.register(&inv()))
@@ -202,8 +204,8 @@ fn print_kind<B: Books>(
     }
 }
 
-// Runs a script line. If its event stops the office, returns the rows that must exist after a
-// restart.
+// Runs a script line. If a failure during its event stops the office, returns the rows that the
+// office must have after a restart.
 fn play_line<B: Books>(
     rt: &impl Abort,
     alloc: Global,
@@ -252,8 +254,8 @@ pub(crate) fn play<B: Books>(rt: &impl Abort, alloc: Global, books: B) -> u64 {
     last.into_books().faults()
 }
 
-/// If one call of the store fails, a repeated command succeeds, and a device event stops the
-/// office. After the office is opened again, it has its earlier rows.
+/// If one call of the store fails, a command can be repeated and then succeeds, but a device event
+/// stops the office. After the office is opened again, it has its earlier rows.
 #[test]
 fn each_call_of_the_books_may_fail(rt: HostRuntime) {
     for failing in 1..1000 {

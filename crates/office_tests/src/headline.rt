@@ -1,5 +1,4 @@
-//! Tests a complete run of events over a store. A device is polled, and the reading of its meter is
-//! recorded.
+//! Tests a complete run of events: a device is polled, and the reading of its meter is recorded.
 use crate::offices::event_of;
 use crate::runs::run_created;
 use interval_core::Zone;
@@ -73,8 +72,8 @@ const LOST: EndedPoll = EndedPoll {
     outcome: Outcome::Lost(LostCause::Restart),
 };
 
-// Asserts that the store of the tested run cannot be opened at a time before the latest event, but
-// at a later time.
+// Asserts that the store of the tested run cannot be opened at a time before its latest event, but
+// can be opened at a later time.
 fn assert_opened_again<B: Books>(rt: &impl Abort, alloc: Global, books: B) {
     let (books, why) = run(alloc, books, 1900, &[]).err().expect(rt, "a refusal");
     assert!(rt; why == Refusal::ClockBack);

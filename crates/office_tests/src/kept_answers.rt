@@ -1,4 +1,4 @@
-//! Tests a store with a cache of lookup results, over a store that fails at a chosen call.
+//! Tests a cache of lookup results over a store that fails at a chosen call.
 use crate::facts::Booked;
 use crate::offices::LIST;
 use crate::steps::{Step, try_step};
@@ -102,8 +102,8 @@ static STEPS: [Step; 49] = [
 // three.
 const CALLS: u64 = 41;
 
-// The records of the accounting registers of `inv`, and of a register of the device `pv` at an
-// address that `inv` also uses.
+// Writes the accounting registers of `inv`. The device `pv` has a register at an address that `inv`
+// also uses.
 const REGISTERS: Step = Step::Books(&[
     Booked::Device(b"inv"),
     Booked::Device(b"pv"),
@@ -114,8 +114,8 @@ const REGISTERS: Step = Step::Books(&[
     Booked::Register(b"last", b"inv", HOLDING, 65_534, FIXED),
 ]);
 
-// Modbus reads, each with the accounting registers that the read covers. The golden test
-// `scripts/polls/registers_of_a_read` of `golden_cases` has the same reads.
+// Modbus reads of the device `inv`, each with the accounting registers that the read covers. The
+// golden test `scripts/polls/registers_of_a_read` of `golden_cases` has the same reads.
 static READS: [Step; 12] = [
     Step::Read(3, 100, 2, &["fixed"]),
     Step::Read(3, 100, 1, &[]),
@@ -148,8 +148,8 @@ fn assert_steps<B: Books>(rt: &impl Abort, alloc: Global, books: &mut B, steps: 
     }
 }
 
-// Executes test steps over a store with a cache, then the last step over the store below the cache.
-// Returns the number of failures before the last step.
+// Executes test steps over a cache, and then the last step over the store below the cache. Returns
+// the number of failures before the last step.
 fn play<B: Books>(rt: &impl Abort, alloc: Global, beneath: B, steps: &[Step]) -> u64 {
     let mut books = CachedBooks::new(alloc, beneath);
     assert_steps(rt, alloc, &mut books, steps);
@@ -161,14 +161,13 @@ fn play<B: Books>(rt: &impl Abort, alloc: Global, beneath: B, steps: &[Step]) ->
     faults
 }
 
-/// Executes all test steps over a store with a cache, and returns the number of failures of the
-/// store below the cache.
+/// Executes all test steps over a cache, and returns the number of failures of the store below it.
 pub(crate) fn play_all<B: Books>(rt: &impl Abort, alloc: Global, beneath: B) -> u64 {
     play(rt, alloc, beneath, &STEPS)
 }
 
-/// Executes the Modbus read with this index twice, before and after the accounting registers of its
-/// device are cached.
+/// Looks up twice which accounting registers a Modbus read covers: before and after they are
+/// cached. `place` is the index of the read in `READS`.
 pub(crate) fn read_twice<B: Books>(
     rt: &impl Abort,
     alloc: Global,
@@ -181,7 +180,7 @@ pub(crate) fn read_twice<B: Books>(
     }
 }
 
-// Asserts that a test makes exactly the given number of calls of the store below the cache.
+// Asserts that a test makes exactly `calls` calls of the store below the cache.
 fn assert_calls(rt: &impl Abort, alloc: Global, trial: Trial, calls: u64) {
     for failing in 1..=calls.saturating_add(1) {
         let faults = try_failing(rt, alloc, failing, trial);
@@ -192,13 +191,13 @@ fn assert_calls(rt: &impl Abort, alloc: Global, trial: Trial, calls: u64) {
     }
 }
 
-/// If any one call of the store below the cache fails, the cached results are still correct.
+/// If any one call of the store below the cache fails, the cache still returns correct results.
 #[test]
 fn kept_answers_outlive_failures(rt: HostRuntime) {
     assert_calls(&rt, rt.alloc(), Trial::Kept, CALLS);
 }
 
-/// The accounting registers that a Modbus read covers are queried only once from the store below
+/// The accounting registers that a Modbus read covers are looked up only once in the store below
 /// the cache.
 #[test]
 fn a_read_is_asked_of_the_store_once(rt: HostRuntime) {

@@ -1,5 +1,5 @@
-//! Tests which store file a run of `sunreg run` continues, and when the run creates a new file. A
-//! run may create a file for each month or year.
+//! Tests which file `sunreg run` continues, and when it creates a new file. It can create a file
+//! for each month or year.
 use energy_report::Period;
 use interval_core::{Day, Zone};
 use run_schedule::{
@@ -8,9 +8,9 @@ use run_schedule::{
 use std::alloc::Global;
 use std::process::Abort;
 
-// The names of the files in a folder, with the expected period of the file that a run of `sunreg
-// run` continues. The first period is for monthly files, and the second for yearly files. The
-// period is empty if the run creates a file.
+// The names of the files in a folder, with the period of the file that `sunreg run` continues. The
+// first period is for monthly files, and the second for yearly files. The period is empty if no
+// file in the folder has a period.
 static FOLDERS: [(&str, &str, &str); 8] = [
     ("office.db office.db-wal  .", "", ""),
     (
@@ -62,7 +62,7 @@ fn assert_led(rt: &impl Abort, alloc: Global, names: &str, period: Period, wante
     }
 }
 
-/// A run of `sunreg run` continues the file of the latest period.
+/// `sunreg run` continues the file of the latest period.
 #[test]
 fn books_are_led_in_the_file_that_was_made_last(rt: HostRuntime) {
     for (names, by_month, by_year) in FOLDERS {
@@ -73,9 +73,9 @@ fn books_are_led_in_the_file_that_was_made_last(rt: HostRuntime) {
     assert_led(&rt, rt.alloc(), days, Period::Day, "2026-12-01");
 }
 
-// Test cases with the expected plan of a run of `sunreg run` at time 1,000. Each case has the
-// file's period, the current period, and the timestamp of the file's last entry. The period of a
-// file without a period is an empty text.
+// Test cases with the expected plan of `sunreg run` at time 1,000. Each case has the file's period,
+// the current period, and the timestamp of the file's last entry. The period is empty for a file
+// without a period.
 static CASES: [(&str, &str, u64, Plan); 14] = [
     ("", "2026-11", 1000, Plan::Carry),
     ("", "2026-11", 1001, Plan::Wait),
@@ -121,8 +121,8 @@ fn until(every: u64) -> Option<u64> {
     period_until(&zone, Period::Month, day, every, 1_795_780_800)
 }
 
-/// A run of `sunreg run` uses a file until the end of the file's period. The polling round that is
-/// due at that time also uses the file.
+/// `sunreg run` uses a file until the end of the file's period. The polling round that is due at
+/// that time still uses this file.
 #[test]
 fn a_file_has_the_round_that_is_due_at_its_end(rt: HostRuntime) {
     assert!(rt; until(2) == Some(1_796_083_201));
@@ -133,8 +133,8 @@ fn a_file_has_the_round_that_is_due_at_its_end(rt: HostRuntime) {
     assert!(rt; next_try(900, 4_102_444_801) == None);
 }
 
-/// A run of `sunreg run` never begins at an earlier time than the previous run, even if the clock
-/// was set back.
+/// When `sunreg run` changes to another file, it never begins at a time before the latest time of
+/// the previous file, even if the clock was set back.
 #[test]
 fn no_run_begins_before_the_one_before_it(rt: HostRuntime) {
     let mut time = OnwardTime::new();

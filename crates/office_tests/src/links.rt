@@ -1,4 +1,4 @@
-//! Connections (links) to devices that time out, and the responses of a test device.
+//! Links (connections to devices) on which each read times out, and the responses of a test device.
 use mb_wire::{LastTake, Link, LinkFailed, Took};
 use std::alloc::Global;
 use std::process::Abort;

@@ -38,7 +38,7 @@ static CASES: [(&str, u64, Refusal); 25] = [
     ("2000 round inv 0", 1, Refusal::NotFound),
 ];
 
-// The number of calls of the store for the opening of an office without pending polls.
+// The number of calls of the store that opening an office takes if no poll is pending.
 const OPENING: u64 = 3;
 
 const REFUSED: Result<Answer, Refusal> = Err(Refusal::Store(StoreCause::Refused));
@@ -46,8 +46,8 @@ const REFUSED: Result<Answer, Refusal> = Err(Refusal::Store(StoreCause::Refused)
 // The script line of a manual reading that is accepted at time 2000.
 const KEPT: &str = "1900 manual main 5300 0";
 
-// Adds the devices and readings of the script `READ` to a store, and a request with an idempotency
-// key.
+// Adds the devices and readings of the script `READ` to a store, and a manual reading by a request
+// with an idempotency key.
 fn book_read<B: Books>(rt: &impl Abort, alloc: Global, books: B) -> B {
     let mut office = office_after(rt, alloc, books, &READ);
     let (_, event) = request_of(rt, alloc, b"desk", 1, KEPT);
@@ -69,8 +69,8 @@ fn feed<B: Books>(
     opened(rt, alloc, books, 2000).feed(at, event)
 }
 
-// Returns the answer to an event of a script line if the store fails at the call after the first
-// `calls` calls.
+// Returns the answer of an opened office to an event, if the store fails after `calls` successful
+// calls for this event.
 fn feed_after(
     rt: &impl Abort,
     alloc: Global,
@@ -83,7 +83,7 @@ fn feed_after(
     feed(rt, alloc, books, at, event)
 }
 
-/// After the office has found the reason to refuse an event, it makes no further call of the store.
+/// Once the office knows why it refuses an event, it makes no further call of the store.
 #[test]
 fn books_are_asked_no_more_than_it_takes(rt: HostRuntime) {
     for (line, calls, answer) in &CASES {
@@ -97,7 +97,7 @@ fn books_are_asked_no_more_than_it_takes(rt: HostRuntime) {
     }
 }
 
-/// If a request is a retry, the office recognizes the retry with one call of the store.
+/// The office recognizes a retried request with one call of the store.
 #[test]
 fn a_retry_is_looked_up_once(rt: HostRuntime) {
     let (at, event) = request_of(&rt, rt.alloc(), b"desk", 1, KEPT);

@@ -1,4 +1,5 @@
-//! Tests the equality of names, the values of timeouts and windows, and copies of values.
+//! Tests when names are equal, that timeouts and windows keep their numbers, and that copies equal
+//! their originals.
 use crate::offices::{LIST, name_of, planned};
 use office_events::{Piece, Timeout, Window};
 use read_plan::lists_are_planned_once;

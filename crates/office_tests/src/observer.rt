@@ -1,9 +1,9 @@
-//! An observer for tests that writes letters for the events of an office.
+//! An observer that records the events of an office as letters, for tests.
 use office_events::{Answer, Command, Event, Note, Observer, Refusal};
 use poll_core::{Closing, Outcome};
 use std::alloc::Global;
 
-/// An observer that writes letters for the observed events.
+/// An observer that records what it observes as letters.
 ///
 /// For each event, the observer writes the slot of the event's polling round, if any, and a letter.
 /// The letters are C (connected), S (start), B (bytes), T (timer event), G (gone) and F (failed).

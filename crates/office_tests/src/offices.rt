@@ -1,4 +1,4 @@
-//! Creates offices over stores in memory, and the events that tests send to them.
+//! Helpers that create offices over stores in memory, and the events that tests send to them.
 use failing_books::FailingBooks;
 use interval_core::Zone;
 use memory_books::ListBooks;

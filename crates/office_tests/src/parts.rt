@@ -55,8 +55,8 @@ const RESCALED: MeterEntry = later!(
     }
 );
 
-// Test cases with a sequence number and a maximum number of entries. Each case has the expected
-// entries of m1 from the sequence number on.
+// Test cases: a sequence number, a maximum number of entries, and the entries of m1 that a query
+// for at most so many entries from the sequence number on must return.
 type Asked = (u64, u32, &'static [MeterEntry]);
 
 static ENTRIES: [Asked; 7] = [
@@ -110,7 +110,8 @@ fn assert_spans<B: Books>(rt: &impl Abort, alloc: Global, office: &mut Office<B>
     }
 }
 
-// Asserts that the name of a meter has entries and quarter hours, and that no other name has them.
+// Asserts that a query for the entries or the quarter hours of a meter is refused if no meter has
+// the name.
 fn assert_none<B: Books>(rt: &impl Abort, alloc: Global, office: &mut Office<B>) {
     for name in [Name::new(b"main"), None] {
         assert!(rt; matches!(office.entries(&name, 1, 9), Err(Refusal::NotFound)));
@@ -137,8 +138,8 @@ pub(crate) fn ask_changed<B: Books>(rt: &impl Abort, alloc: Global, books: B) {
     assert_entries(rt, &mut office, &CHANGED);
 }
 
-/// A query returns exactly the entries from a sequence number on, or exactly the quarter hours that
-/// begin in a time span.
+/// A query returns exactly the entries from a sequence number on, or the quarter hours that begin
+/// in a time span.
 #[test]
 fn some_entries_and_quarter_hours_are_listed(rt: HostRuntime) {
     try_in_memory(&rt, rt.alloc(), Trial::Parts);

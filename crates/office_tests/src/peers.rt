@@ -1,4 +1,4 @@
-//! Tests the 64 slots for the HTTP connections of clients to `sunreg run`.
+//! Tests how `sunreg run` assigns its 64 slots for HTTP connections to clients.
 use run_schedule::{Admission, Peers};
 
 fn at(place: usize) -> Option<Admission> {
@@ -8,7 +8,7 @@ fn at(place: usize) -> Option<Admission> {
     })
 }
 
-// Returns 64 client connections without a request, which were opened one second apart.
+// Returns 64 client connections that have not sent a request, opened one second apart.
 fn full() -> Peers {
     let mut peers = Peers::new();
     for second in 0..64 {
@@ -28,7 +28,8 @@ fn places_are_given_in_order(rt: HostRuntime) {
     assert!(rt; peers.admit(101, 10) == at(7));
 }
 
-/// If no slot is free, a new client connection replaces the oldest connection without a request.
+/// If no slot is free, a new client connection replaces the oldest connection that has not sent a
+/// request.
 #[test]
 fn the_oldest_that_has_not_asked_makes_room(rt: HostRuntime) {
     let mut peers = full();

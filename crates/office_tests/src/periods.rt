@@ -1,5 +1,5 @@
-//! Tests when calendar periods (days, months and years) end, and which names the store files of
-//! periods have.
+//! Tests when calendar periods (days, months and years) end, and the names of the files for each
+//! period.
 use energy_report::{Period, period_name, periods_end_with_their_last_day};
 use interval_core::{Day, LAST_MOMENT, Zone, day_of};
 use run_schedule::{file_of_period, last_round, period_end, period_of_file};
@@ -93,8 +93,8 @@ fn nothing_ends_past_the_last_moment(rt: HostRuntime) {
     assert!(rt; period_end(&zone, Period::Day, day, u64::MAX) == None);
 }
 
-/// The last polling round in a store file may take half of its polling interval, but at most 30
-/// seconds.
+/// The last polling round before a change of files may take half of its polling interval, but at
+/// most 30 seconds.
 #[test]
 fn a_last_round_has_half_the_time_to_the_next(rt: HostRuntime) {
     for (every, seconds) in [(1, 0), (2, 1), (10, 5), (60, 30), (61, 30), (86_400, 30)] {
@@ -102,7 +102,7 @@ fn a_last_round_has_half_the_time_to_the_next(rt: HostRuntime) {
     }
 }
 
-/// The text of a period is the day, the month or the year of the period, as in reports.
+/// The text of a period is its day, month or year, as in the rows of reports.
 #[test]
 fn periods_have_the_names_of_rows(rt: HostRuntime) {
     let day = day(&rt, 2026, 3, 7);
@@ -150,7 +150,7 @@ fn files_have_their_period_before_the_end(rt: HostRuntime) {
     }
 }
 
-/// File names that are not the name of a monthly file of the store `office.db`.
+/// File names that do not belong to a monthly file, if the office's own file is `office.db`.
 static NO_MONTHS: [&str; 18] = [
     "office.db",
     "office-2026.db",
@@ -181,7 +181,7 @@ fn other_files_are_of_no_month(rt: HostRuntime) {
     }
 }
 
-// Texts, each with true if the text is the text of a period.
+// Texts, each with whether it is the text of a period.
 static PERIODS: [(&str, bool); 17] = [
     ("2026", true),
     ("0000", true),

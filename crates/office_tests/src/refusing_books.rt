@@ -20,8 +20,8 @@ const STOPPED: Result<(), RoundFault> = Err(RoundFault::Refused(Refusal::Stopped
 
 const NONE: Ends = [None, None, None];
 
-// The expected outcomes of the polls after a failure of the store. The failure occurs when the
-// first start, the first response, the second start or the second response is recorded.
+// The expected outcomes of the polls after a failure and a restart. The store fails when the first
+// start, the first response, the second start or the second response is recorded.
 static LEFT: [Ends; 4] = [
     NONE,
     [RESTARTED, None, None],
@@ -29,7 +29,8 @@ static LEFT: [Ends; 4] = [
     [ANSWERED, RESTARTED, None],
 ];
 
-// The result of a test in which no call of the polling round failed.
+// The result of a test in which no call of the store failed. `NOT_BROKEN` is the result if a call
+// failed, but only before the polling round.
 const NOT_REFUSED: u64 = 10;
 
 const NOT_BROKEN: u64 = 11;

@@ -10,9 +10,9 @@ use std::process::Abort;
 
 const START: &str = "3700 start inv 3 40094 3";
 
-// Test cases with a command, its idempotency key, the expected answer, and the expected number of
-// bytes that the office sends to the device. A retry of a command that starts a poll sends no
-// bytes.
+// Test cases: the caller and the number of a request's idempotency key, its command, the expected
+// answer, and the number of bytes that the office then sends to the device. The retry of a command
+// that starts a poll sends no bytes.
 static REQUESTS: [(&[u8], u64, &str, Result<Answer, Refusal>, usize); 4] = [
     (
         b"desk",

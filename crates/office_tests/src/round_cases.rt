@@ -60,7 +60,7 @@ poll 2 lost 3
 ok
 ";
 
-/// The behavior of the device in a polling round.
+/// How the device behaves in a polling round.
 #[derive(Clone, Copy)]
 enum Does {
     /// The device responds to both Modbus reads. If a number is given, the call of the link with
@@ -74,8 +74,8 @@ enum Does {
     IsSilent,
 }
 
-/// Test cases with the behavior of the device and the times of the clock. Each case has the
-/// expected result of the polling round, its printed text, and the outcomes of its polls.
+/// A test case: the behavior of the device, the times of the clock, the expected result of the
+/// polling round, its printed text, and the outcomes of its polls.
 type Case = (
     Does,
     &'static [u64],
@@ -123,8 +123,8 @@ static CASES: [Case; 11] = [
         SILENT,
         [WAS_SILENT, WAS_SILENT, None],
     ),
-    // The office refuses a time, so the poll is lost. Either the clock was set back, or its time is
-    // after the latest time that the office accepts.
+    // The office refuses a time, so the pending poll is lost. The clock was set back, or shows a
+    // time after the latest time that the office accepts.
     (
         Does::IsSilent,
         &[1000, 1002, 1001],
@@ -165,8 +165,8 @@ fn round_over_memory<B: Books>(
     (done, link.failures())
 }
 
-// Executes a polling round with this behavior of the device. Returns the number of failed calls of
-// the link.
+// Executes a polling round with a device that behaves as `does` says. Returns the number of failed
+// calls of the link.
 fn round_of<B: Books>(
     alloc: Global,
     office: &mut Office<B>,
@@ -204,7 +204,7 @@ pub(crate) fn assert_case<B: Books>(rt: &impl Abort, alloc: Global, books: B, pl
 static FRAMES: &[u8] =
     b"\x00\x00\x00\x00\x00\x06\x01\x03\x00\x00\x00\x7d\x00\x01\x00\x00\x00\x06\x01\x03\x00\x7d\x00\x01";
 
-// Asserts that a polling round sends each Modbus read of the plan once, if responses arrive in
+// Asserts that a polling round sends each Modbus read of the plan once, even if responses arrive in
 // chunks of `piece` bytes.
 pub(crate) fn assert_pieces<B: Books>(rt: &impl Abort, alloc: Global, books: B, piece: usize) {
     let input = replies(rt, alloc);
@@ -263,7 +263,7 @@ pub(crate) fn assert_narrow<B: Books>(
     assert!(rt; ends(&mut office) == polls, "room for {room}");
 }
 
-// Asserts that a polling round reads from its link at most 100,000 times.
+// Asserts that a polling round ends after it has read 100,000 times from its link.
 pub(crate) fn assert_takes<B: Books>(rt: &impl Abort, alloc: Global, books: B) {
     let mut office = listed(rt, alloc, books, ONE_BY_ONE);
     let mut link = IdleLink::new();

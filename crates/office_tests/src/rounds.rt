@@ -16,8 +16,8 @@ pub(crate) const ONE_BY_ONE: &str = "1000 device inv 1 5 1";
 /// The script line of a device that may have two pending polls.
 pub(crate) const BOTH_AT_ONCE: &str = "1000 device inv 1 5 2";
 
-/// Returns an office with the device of this script line, and with the point list `LIST` of the
-/// device.
+/// Returns an office with the device of the script line `device`, and with the point list `LIST`
+/// for it.
 pub(crate) fn listed<B: Books>(
     rt: &impl Abort,
     alloc: Global,
@@ -36,7 +36,7 @@ pub(crate) struct Done {
     pub(crate) printed: Vec<u8>,
 }
 
-/// Executes a polling round of the device `inv` with a clock that returns these times.
+/// Executes a polling round of the device `inv`. The clock returns the times `times`.
 pub(crate) fn round<B: Books, L: Link>(
     alloc: Global,
     office: &mut Office<B>,

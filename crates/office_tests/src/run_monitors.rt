@@ -17,7 +17,8 @@ fn polled(rt: &impl Abort, alloc: Global, moments: &[Moment]) -> Bench<RunMonito
 
 const STANDS: Moment = (1001, Step::Stands(0));
 
-// The Modbus frames that the monitor returns for each device slot, in order.
+// Device slots in the order in which the test queries them, each with the Modbus frame that the
+// monitor returns.
 static FRAMES: [(usize, &[u8]); 4] = [
     (0, b"\x00\x00\x00\x00\x00\x06\x01\x03\x00\x00\x00\x7d"),
     (0, b""),
@@ -45,8 +46,8 @@ fn frames_wait_for_their_device(rt: HostRuntime) {
     }
 }
 
-// The events after a device has connected, and the expected numbers of polls that are lost and that
-// time out.
+// Events that begin with the connection of a device, with the expected numbers of polls that are
+// lost and that time out.
 static ENDINGS: [(&[Moment], u64, u64); 2] = [
     (&[STANDS, (1002, Step::Ended(0, Closing::Failed))], 1, 0),
     (&[STANDS, (1006, Step::Tick), (1011, Step::Tick)], 0, 2),

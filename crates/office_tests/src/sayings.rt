@@ -1,4 +1,4 @@
-//! Tests messages that are printed only once, and log lines that no reader reads.
+//! Tests messages that are printed only once, and log lines that are not read.
 use office_events::Name;
 use run_status::{LineQueue, Reported, ReportedNumber, Topic};
 

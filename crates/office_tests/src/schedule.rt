@@ -9,7 +9,7 @@ fn a_device_is_due_at_multiples(rt: HostRuntime) {
         (60, 0, 60),
         (60, 59, 60),
         (60, 60, 120),
-        // If polls were due in the past and missed, they are not repeated.
+        // Polls that were due in the past and missed are not made up for.
         (60, 187, 240),
         (1, 41, 42),
         (900, 1_700_000_000, 1_700_000_100),
@@ -42,8 +42,8 @@ fn a_round_lasts_a_minute_at_least(rt: HostRuntime) {
     assert!(rt; round_until(900, 1000) == 1900);
 }
 
-/// If the clock was set back, this is reported once. In this test the clock is set back by 40
-/// seconds and then catches up.
+/// A clock that was set back is reported once. In this test the clock is set back by 40 seconds and
+/// then catches up.
 #[test]
 fn a_clock_that_is_set_back_is_reported_once(rt: HostRuntime) {
     let mut steady_clock = SteadyClock::new(1000);

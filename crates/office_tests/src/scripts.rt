@@ -26,7 +26,7 @@ fn feed<B: Books>(
     }
 }
 
-// Prints the number of rows of a query, or the reason why the office refuses the query.
+// Prints how many rows a query returned, or the reason why the office refuses the query.
 fn write_count(answer: Result<(), Refusal>, count: u64, output: &mut Vec<u8>) -> io::Result<()> {
     match answer {
         Ok(()) => write_end(count, output),

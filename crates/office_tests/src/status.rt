@@ -12,8 +12,8 @@ fn outcome(outcome: Outcome) -> Note {
     Note::Outcome { poll: 1, outcome }
 }
 
-// The counts of a known history. Two polls were answered, and one poll had each other outcome. One
-// reading was accepted, and two were rejected.
+// The counts after a known history. Two polls were answered, and one poll ended with each other
+// outcome. One reading was accepted, and two were rejected.
 fn counts() -> Counts {
     let mut counts = Counts::new();
     counts.note_all(&[
@@ -189,7 +189,8 @@ fn no_meter(import: &Register) -> DeviceLack {
     lack(b"grid", Lack::NoMeter(*import))
 }
 
-// Returns one example of each reason why a device cannot be polled in a round.
+// Returns one example of each thing that a device can lack in the store, so that none of its energy
+// is recorded.
 fn lacks(import: &Register) -> [DeviceLack; 5] {
     [
         lack(b"none", Lack::NoDevice),
@@ -203,7 +204,7 @@ fn lacks(import: &Register) -> [DeviceLack; 5] {
 const LACKS: &str =
     "\"refusals\":0,\"lacks\":[{\"device\":\"none\",\"lack\":\"no_device\"},{\"device\":\"inv\",\"lack\":\"no_list\"},{\"device\":\"inv\",\"lack\":\"no_register\"},{\"device\":\"grid\",\"lack\":\"not_in_list\",\"register\":\"import\"},{\"device\":\"grid\",\"lack\":\"no_meter\",\"register\":\"import\"}]}\n";
 
-/// The status reports why each device cannot be polled.
+/// The status reports what each device lacks in the store.
 #[test]
 fn what_devices_lack_is_in_the_status(rt: HostRuntime) {
     let mut text = Vec::new(rt.alloc());
@@ -221,7 +222,7 @@ sunreg: register import: missing from the point list of grid; add function 3, re
 sunreg: register import: no open meter; install one with POST /registers/import/install
 ";
 
-/// Each reason why a device cannot be polled has its expected text.
+/// Each thing that a device can lack in the store has its expected message.
 #[test]
 fn what_devices_lack_is_said(rt: HostRuntime) {
     let mut text = Vec::new(rt.alloc());

@@ -1,4 +1,4 @@
-//! Test steps over a store, which write records or look up results and compare them with the
+//! Test steps that write records to a store, or look up results in it and compare them with the
 //! expected results.
 use crate::facts::{Booked, facts};
 use crate::offices::{name_of, planned};
@@ -36,8 +36,8 @@ pub(crate) enum Step {
     /// The meter has an entry with this sequence number, and this energy before the entry in mWh.
     /// The last value is true if the entry is voided.
     Entry(&'static [u8], u64, u64, bool),
-    /// A lookup with `entry_near` finds the entry with this sequence number. The meter has this
-    /// count before the entry, and this total energy in mWh.
+    /// A lookup with `entry_near` finds the entry with this sequence number. Before the entry, the
+    /// meter has this count. Its total energy, in mWh, comes last.
     EntryNear(&'static [u8], u64, u32, u64),
     NoEntry(&'static [u8], u64),
     /// The rejected readings of a meter in a time span have these times and causes.

@@ -40,8 +40,8 @@ pub(crate) enum Trial {
     Requests,
 }
 
-/// Runs a test over a store, and returns the number that the test's function returns, or 0 without
-/// such a number.
+/// Runs a test over a store, and returns the number that the test's function returns, or 0 if it
+/// returns none.
 fn try_over<B: Books>(rt: &impl Abort, alloc: Global, books: B, trial: Trial) -> u64 {
     match trial {
         Trial::Script => return failures::play(rt, alloc, books),

@@ -1,4 +1,5 @@
-//! Tests the processing of a device event, and of the events that polling rounds then request.
+//! Tests how a device event is processed, together with the events that polling rounds request
+//! after it.
 use crate::benches::{Bench, Moment, Step, play};
 use crate::observer::Seen;
 use crate::offices::new_books;
@@ -11,8 +12,8 @@ fn seen(rt: &impl Abort, alloc: Global, moments: &[Moment]) -> Bench<Seen> {
     play(rt, alloc, new_books(rt, alloc), moments, Seen::new(alloc))
 }
 
-// Test cases with events, the expected text of the observer, and the number of bytes of all Modbus
-// request frames. Each read has a frame of 12 bytes.
+// Test cases: events, the text that the observer must have recorded, and the number of bytes in all
+// Modbus request frames. The request of each read is a frame of 12 bytes.
 static TURNS: [(&[Moment], &str, usize); 7] = [
     // A device is polled until the end of its polling round.
     (
@@ -71,7 +72,7 @@ static TURNS: [(&[Moment], &str, usize); 7] = [
         "0C 0S 0Fl 0C 0S ",
         24,
     ),
-    // Events arrive from devices that are not being polled, and from an empty slot.
+    // Events from devices that are not being polled, and from an empty slot, are ignored.
     (
         &[
             (1001, Step::First(0)),
@@ -81,8 +82,8 @@ static TURNS: [(&[Moment], &str, usize); 7] = [
         "",
         0,
     ),
-    // An event before the latest time ends the polling round. The command `sunreg run` never causes
-    // such an event, because `SteadyClock` prevents it.
+    // An event with a time before the latest time ends the polling round. The command `sunreg run`
+    // never causes such an event, because `SteadyClock` prevents it.
     (
         &[(1001, Step::Stands(0)), (999, Step::First(0))],
         "0C 0S 0B! 0F! ",

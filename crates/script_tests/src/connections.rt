@@ -19,8 +19,8 @@ fn bank_with_nine(rt: &impl Abort, alloc: Global) -> Bank {
     bank
 }
 
-// Each case has the number of the link call that fails, if any. The case also has the result of
-// serving a read with an injected fault, and the bytes that were written.
+// Cases of serving a read request with an injected fault: the number of the link call that fails,
+// if any, the result, and the bytes that were written.
 static ANSWERS: [(Option<u64>, Result<u64, ServeFault>, &[u8]); 2] = [
     (None, Ok(1), &[0, 7, 0, 0]),
     (Some(1), Err(ServeFault::Read), &[]),

@@ -1,4 +1,4 @@
-//! Tests of the messages for faults of inputs, of script lines and of the program's arguments.
+//! Tests of the error messages for inputs, for script lines, and for the program's arguments.
 use command_io::ReadFault;
 use command_words::{DeviceFault, ListFault, WordsFault};
 use script_lines::LineFault;

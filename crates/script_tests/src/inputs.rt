@@ -1,4 +1,4 @@
-//! Tests of inputs with megabytes of text, and of the sizes of the writes for many lines.
+//! Tests of inputs with megabytes of text, and of the number of writes for an output of many lines.
 use crate::replays::run;
 use crate::streams::{Kept, Slow};
 use command_io::{ExitStatus, MOST_BYTES, ReadFault, read_whole};
@@ -24,7 +24,7 @@ fn no_more_reads_are_made_than_bytes_fit(rt: HostRuntime) {
     assert!(rt; slow.calls == 4_194_305);
 }
 
-// The text of 2,000 answers of 10 bytes is written in few calls. Each call except the last ends
+// The 2,000 answers, of 10 bytes each, are written in few calls. Each call except the last ends
 // with a complete line.
 #[test]
 fn whole_lines_are_given_out(rt: HostRuntime) {

@@ -1,5 +1,5 @@
-//! Tests of lines that no script can have, because a script skips empty lines and drops carriage
-//! returns. Also tests lines of the maximum length.
+//! Tests of lines that the parser never gets from a script, because reading a script skips empty
+//! lines and drops carriage returns. Also tests lines of the maximum length.
 use script_lines::{BankLine, LineFault, ScriptLine};
 use std::alloc::Global;
 use std::process::Abort;
@@ -19,7 +19,7 @@ fn reads_no_other_lines(rt: HostRuntime) {
     assert!(rt; BankLine::read(b"area coil 0 1\r").is_none());
 }
 
-// Returns the script line of a point list whose text is `count` zero bytes.
+// Returns the script line that sets a point list, whose text is `count` zero bytes in hex.
 fn zeros_listed(rt: &impl Abort, alloc: Global, count: usize) -> Vec<u8> {
     let mut text = b"1900 list inv ".to_vec(alloc).expect(rt, "no memory");
     text.resize(14 + 2 * count.min(70_000), b'0')
@@ -29,7 +29,7 @@ fn zeros_listed(rt: &impl Abort, alloc: Global, count: usize) -> Vec<u8> {
 
 static ZEROS: [u8; 65_536] = [0; 65_536];
 
-// The parser accepts 65,536 bytes in hex in a script line, and rejects more.
+// The parser accepts a script line with 65,536 bytes in hex, and rejects more bytes.
 #[test]
 fn pieces_have_at_most_65536_bytes(rt: HostRuntime) {
     let most = zeros_listed(&rt, rt.alloc(), 65_536);

@@ -1,4 +1,5 @@
-//! Tests of scripts over a simulated device whose output fails, or whose connection cannot be made.
+//! Tests of scripts with a simulated device, when the output fails or the connection to the device
+//! cannot be made.
 use crate::replays::zone;
 use crate::streams::Kept;
 use command_io::ExitStatus;
@@ -37,7 +38,7 @@ const PRINTED: &str = "\
     bad line 6\n";
 
 // Each case has the number of bytes that the writer accepts before it fails, and the exit status.
-// The numbers are at ends of lines, and at the end of the complete output.
+// Each number is 0 or the end of a line, and the last is the length of the complete output.
 static ENDS: [(usize, ExitStatus); 9] = [
     (0, ExitStatus::Failed),
     (3, ExitStatus::Failed),
@@ -50,7 +51,7 @@ static ENDS: [(usize, ExitStatus); 9] = [
     (89, ExitStatus::Refused),
 ];
 
-// A failed write ends the run of a script over a simulated device at once.
+// A failed write ends the run of a script with a simulated device at once.
 #[test]
 fn a_writer_that_fails_ends_the_run(rt: HostRuntime) {
     let mut loopback = Loopback::new(&rt).expect(&rt, "no loopback");
@@ -65,7 +66,7 @@ fn a_writer_that_fails_ends_the_run(rt: HostRuntime) {
     }
 }
 
-// A failed connection ends the run of a script over a simulated device at once.
+// A connection to the simulated device that cannot be made ends the run of a script at once.
 #[test]
 fn a_connection_that_cannot_be_made_ends_the_run(rt: HostRuntime) {
     let mut printed = Vec::new(rt.alloc());

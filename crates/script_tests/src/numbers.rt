@@ -1,5 +1,5 @@
-//! Tests of the words that name the kinds of printed numbers, such as `fault`. `tests/words.py`
-//! tests the explanation of each number.
+//! Tests that each word that is printed before numbers, such as `fault`, belongs to a kind of
+//! numbers. `tests/words.py` tests the explanation of each number.
 use printed_numbers::{Kind, kind_named, kinds};
 
 #[test]

@@ -1,4 +1,5 @@
-//! Tests of scripts, of chains of SunSpec models and of read plans over streams that fail.
+//! Tests of the commands that run a script, list SunSpec models, or print a reading plan, when
+//! their input or output fails.
 use crate::replays::run;
 use crate::streams::{Kept, Slow};
 use command_io::ExitStatus;
@@ -8,7 +9,7 @@ use std::io::ErrorKind;
 use std::process::Abort;
 use sunspec_text::{chain_text, plan_text};
 
-// A task of the program that reads an input and prints an output, for tests with failing streams.
+// A command of the program that reads an input and prints an output.
 #[derive(Clone, Copy)]
 enum Task {
     Chain,
@@ -82,7 +83,7 @@ const FAULTY_PRINTED: &str = "\
     row 4 fault 5\n\
     row 5 fault 4\n";
 
-// A script that sets up a device and its meter, polls the device, and feeds the response.
+// A script that sets up a device and its meter, starts a poll, and receives the device's response.
 const READING: &str = "\
     1000 device inv 1 5 1\n\
     1000 register main inv 3 40094 @40096\n\
@@ -128,7 +129,7 @@ static CASES: [(Task, &str, &str, ExitStatus); 9] = [
     ),
 ];
 
-// A failed or interrupted read ends the run of a task, and no further read follows.
+// A failed or interrupted read ends the run of a command, and no further read follows.
 #[test]
 fn each_failing_read_ends_it(rt: HostRuntime) {
     for (task, text, _, _) in &CASES {
@@ -145,7 +146,7 @@ fn each_failing_read_ends_it(rt: HostRuntime) {
     }
 }
 
-// A failed write ends the run of a task, and no further write follows.
+// A failed write ends the run of a command, and no further write follows.
 #[test]
 fn each_failing_write_ends_it(rt: HostRuntime) {
     for (task, text, output, status) in &CASES {

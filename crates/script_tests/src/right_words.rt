@@ -1,4 +1,5 @@
-//! Tests how command lines are parsed: options in any order, defaults, and numbers at their limits.
+//! Tests how valid command lines are parsed: options in any order, defaults, and numbers at their
+//! limits.
 use crate::spelled_words::assert_spelled;
 use command_words::{CommandLine, command_of};
 
@@ -47,7 +48,7 @@ static RIGHT: [(&str, &str); 60] = [
          from: Some(\"2024-02-30\"), till: Some(\"\"), period: Some(Year), \
          unit: Some(KilowattHours), format: Some(Json), statement: false } }",
     ),
-    // The report's units, periods and formats that the cases above do not use.
+    // Units, periods and formats of a report that the cases above do not use.
     (
         "report|--db|o.db|--register|main|--by|day|--unit|mwh|--format|text",
         "Report { db: \"o.db\", register: \"main\", form: FormWords { from: None, till: None, \
@@ -58,7 +59,7 @@ static RIGHT: [(&str, &str); 60] = [
         "Report { db: \"o.db\", register: \"main\", form: FormWords { from: None, till: None, \
          period: Some(Month), unit: None, format: Some(Csv), statement: false } }",
     ),
-    // A statement (`report --statement`) has no option for periods.
+    // A statement (`report --statement`) has no periods, so the option `--by` is not given.
     (
         "report|--db|o.db|--register|main|--statement|--unit|kwh",
         "Report { db: \"o.db\", register: \"main\", form: FormWords { from: None, till: None, \
@@ -132,7 +133,7 @@ static RIGHT: [(&str, &str); 60] = [
         "audit|--db=old.db|--db|o.db",
         r#"Audit { dbs: ["old.db", "o.db"], seal: Nothing }"#,
     ),
-    // Without `--device`, the command `enter` reads no counter.
+    // Without `--devices`, the command `enter` can read no counter.
     (
         "enter|--db|o.db|--caller|site",
         r#"Enter { db: "o.db", caller: "site", devices: [], only_read: false }"#,
@@ -157,8 +158,8 @@ static RIGHT: [(&str, &str); 60] = [
         "Serve { db: \"o.db\", port: 8080, connections: 7, \
          host_names: [\"a.example\", \"b.example\"] }",
     ),
-    // Without optional arguments, the command `run` has no end time, begins no new files, and has
-    // no limit for stored requests.
+    // Without optional arguments, the command `run` runs until it is stopped, begins no new files,
+    // and has no limit for stored requests.
     (
         "run|--db|o.db|--listen|8080|--every|60|--devices|inv=192.0.2.7:502",
         "Run { dbs: [\"o.db\"], listen: 8080, every: 60, devices: [Device { name: \"inv\", \

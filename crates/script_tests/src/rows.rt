@@ -12,7 +12,7 @@ static WRITTEN: &str = "\
     0033-12-09   1                        7\n\
     -000001-01-01 1000 340282366920938463463374607431768211455\n";
 
-// Report lines print the greatest numbers and days of any year in full.
+// Report lines print the greatest numbers, and days of any year, in full.
 #[test]
 fn the_greatest_numbers_and_days_of_any_year_are_written(rt: HostRuntime) {
     let share = Share {
@@ -34,8 +34,8 @@ fn the_greatest_numbers_and_days_of_any_year_are_written(rt: HostRuntime) {
     assert!(rt; reported.as_slice() == WRITTEN.as_bytes());
 }
 
-// A `Line` that is built from texts and numbers has the bytes of these texts and numbers, and a
-// clone of the `Line` has the same bytes.
+// A `Line` that is built from texts and numbers has exactly their bytes, and a clone of the `Line`
+// has the same bytes.
 #[test]
 fn a_line_is_built_up(rt: HostRuntime) {
     let mut line = Line::new();

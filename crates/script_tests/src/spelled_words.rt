@@ -1,10 +1,11 @@
-//! Formats the result of parsing the program's arguments as text. The result is a command, a
-//! fault's message, the help or the version.
+//! Formats the result of parsing the program's arguments as text. The result is a command, an error
+//! message, or a request for help or the version.
 use command_words::{WordsFault, command_of};
 use std::alloc::Global;
 use std::process::Abort;
 
-/// Returns the result of parsing a command line, as text. Bars separate the arguments in the line.
+/// Returns, as text, the result of parsing a command line. In the line, `|` separates the
+/// arguments.
 fn spelled(rt: &impl Abort, alloc: Global, line: &str) -> String {
     let words: Vec<&str> = line.split('|').collect(alloc).expect(rt, "no memory");
     let text = match command_of(alloc, &words) {

@@ -1,5 +1,5 @@
-//! Tasks that tests run over a database. Only this file runs tasks over files in memory, because
-//! each use of the type of a store makes the proofs take longer.
+//! Tasks that tests run over a database in memory. Only this file runs them over files in memory,
+//! because each use of the type of a store makes the proofs take longer.
 use crate::stops::asked::Asked;
 use crate::stops::files::{Stop, Stopping, connected, files};
 use crate::stops::offices::play;
@@ -18,16 +18,16 @@ pub(crate) enum Act {
     Prepare,
     /// Opens a file of version 1, which upgrades it to version 3.
     Bring,
-    /// Runs all steps of a metering office over a new store, and then sends the office the given
-    /// request.
+    /// Runs all steps of a metering office over a new store: it handles the events of a script, and
+    /// then the given request.
     Play(Asked),
-    /// Asserts which rows the upgraded file has after a crash, given the number of acknowledged
-    /// steps.
+    /// Asserts which rows the file of version 1 has after a crash during its upgrade, given the
+    /// number of acknowledged steps.
     Brought(usize),
     /// Asserts which rows the office's file has after a crash, given the request and the number of
     /// acknowledged steps.
     Played(Asked, usize),
-    /// Runs a test that begins with an empty database.
+    /// This variant and those below each run a test that begins with an empty database.
     Damage,
     Databases,
     HeldReadings,
@@ -98,9 +98,9 @@ static TESTS: [Act; 5] = [
     Act::RefusedFacts,
 ];
 
-// Checks that a store counts its failures, and that a database without a store is returned to the
-// caller. Also checks the fields of rejected readings, the days of a range, and that refused
-// records leave no row.
+// Checks that a store counts its failures, and that the caller gets a database without a store
+// back. Also checks the fields of rejected readings, the days of a range, and that refused records
+// leave no row.
 #[test]
 fn stores_keep_what_they_promise(rt: HostRuntime) {
     for act in &TESTS {

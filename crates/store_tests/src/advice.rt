@@ -1,9 +1,9 @@
-//! Tests the messages that explain the numbers which a polling round has printed.
+//! Tests the messages that explain the numbers in the lines that a polling round printed.
 use office_program::PollEnd;
 use stored_office::say_remarks;
 
-// The printed lines of a polling round. The lines have a rejected reading and a refusal among other
-// lines, unknown numbers, and incomplete lines.
+// The lines that a polling round printed: a rejected reading, a refusal, other lines, lines with
+// unknown numbers, and incomplete lines.
 static PRINTED: &[u8] =
     b"ok\nheld m1 60000 cause 6\nreading m1 60000 rolls 0 step 1\nheld m1 60000 cause 9\nheld m1 60000\nrefused 1\nrefused 13\n";
 

@@ -18,9 +18,9 @@ fn asked<B: Books>(rt: &impl Abort, alloc: Global, books: B) -> B {
     office.into_books()
 }
 
-/// Asserts the failures of a store and their count. Each stored meter entry has a damaged counter
-/// value below zero. Also asserts that the store refuses a device that it already has. Returns the
-/// store.
+/// Asserts which calls of a store fail, and that the store counts each failure. The store has a
+/// meter whose entries all have a counter value below zero, and already has the device that the
+/// test adds again. Returns the store.
 pub(crate) fn failures_are_counted<S: Alter + Drop>(
     rt: &impl Abort,
     alloc: Global,

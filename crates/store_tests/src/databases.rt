@@ -1,5 +1,5 @@
-//! Tests that a database without a store is returned to the caller, and that no store is created or
-//! opened inside a transaction.
+//! Tests that the caller gets the database back if it contains no store, and that no store is
+//! created or opened inside a transaction.
 use office_store::SqlBooks;
 use sqlite::{Alter, Connection};
 use std::alloc::Global;
@@ -22,8 +22,9 @@ fn opening<S: Alter + Drop>(
     }
 }
 
-/// An SQL statement that changes the database, the time zone of the store that is then created, and
-/// the number of the expected fault. If no time zone is given, a store is opened.
+/// A test step: an SQL statement that is run first, the time zone of the store that is then
+/// created, and the number of the expected fault, or 0. Without a time zone, a store is opened
+/// instead.
 type Step = (&'static str, Option<&'static str>, u8);
 
 static STEPS: [Step; 10] = [
@@ -39,8 +40,8 @@ static STEPS: [Step; 10] = [
     ("UPDATE meta SET version = 9", None, 1),
 ];
 
-/// Runs the SQL statement of a test step, creates or opens a store, asserts the number of the
-/// fault, and returns the connection.
+/// Executes a test step: runs its SQL statement, creates or opens a store, and asserts the number
+/// of the fault. Returns the connection.
 fn stepped<S: Alter + Drop>(
     rt: &impl Abort,
     alloc: Global,

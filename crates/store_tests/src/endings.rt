@@ -1,8 +1,8 @@
-//! Tests the exit status of each ending of a command, and the text that the command prints on
-//! standard error.
+//! Tests the exit status for each way in which a command can end, and the text that the command
+//! prints on standard error.
 use stored_files::{Ending, Failure, say};
 
-// Checks that a command prints nothing on standard error if it ended well or was refused. If a
+// Checks that a command prints nothing on standard error if it succeeded or was refused. If a
 // command failed, it prints `failed` and a line with details.
 #[test]
 fn endings_have_their_statuses_and_texts(rt: HostRuntime) {

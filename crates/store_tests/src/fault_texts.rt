@@ -1,4 +1,4 @@
-//! Tests the texts of faults of the tables and of their file, and the numbers of the faults. No
+//! Tests the texts of faults in a database's tables and in its file, and the numbers of faults. No
 //! command prints these texts.
 use sqlite::Error;
 use std::alloc::Global;
@@ -41,7 +41,7 @@ const ROWS: [(RowFault, &str); 2] = [
     ),
 ];
 
-/// Faults of opening a store, with their numbers.
+/// The faults with which opening a store can fail, with their numbers.
 static OPENINGS: [(OpenFault, u8); 4] = [
     (OpenFault::NotOurs, 1),
     (OpenFault::Zone, 2),

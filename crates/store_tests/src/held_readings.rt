@@ -18,7 +18,8 @@ INSERT INTO holds VALUES (3, 'm1', 2, 1500, 4294967295, -32768, 1), (1, 'm1', 1,
 /// A rejected reading: its poll, timestamp, counter value, scale factor and cause.
 type Shown = (u64, u64, u32, i16, Cause);
 
-/// A sink that collects rejected readings, and records whether memory ran out.
+/// Collects the rejected readings that a query returns, and records whether memory sufficed for all
+/// of them.
 #[derive(Drop)]
 struct Taken {
     readings: Vec<HeldReading>,

@@ -1,5 +1,5 @@
-//! Tests a meter whose energy in all files together exceeds the greatest total of a meter. The rows
-//! of valid files never add up to so much energy.
+//! Tests a meter whose energy in all files together exceeds the maximum for a meter. The rows of
+//! valid files never add up to so much energy.
 use energy_core::{Last, MAX_TOTAL};
 use meter_audit::Standing;
 use meter_journal::Installed;
@@ -40,8 +40,8 @@ fn file_of(rt: &impl Abort, alloc: Global, file: &'static str, total: u64) -> Fi
     }
 }
 
-/// Each test case: the total energy of a meter in the second file, and the text that is printed
-/// about this file. The first file has 200 Wh.
+/// Test cases: the total energy of a meter in the second file, and the text that is then printed.
+/// In the first file, the meter has 200 Wh.
 static TOTALS: [(u64, &[u8]); 2] = [
     (3_999_999_999_999_800_000, b"joined: fine\n"),
     (
@@ -50,7 +50,7 @@ static TOTALS: [(u64, &[u8]); 2] = [
     ),
 ];
 
-// Checks that a meter may have at most as much energy in all files together as in one file.
+// Checks that the maximum energy of a meter in one file is also the maximum for all files together.
 #[test]
 fn the_energy_of_all_files_has_a_limit(rt: HostRuntime) {
     for (total, printed) in &TOTALS {

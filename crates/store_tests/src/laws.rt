@@ -35,8 +35,8 @@ const DAY: &str = "0 device d 1 60 1
 0 install main m 0 0 1000000
 900 manual main 100 0";
 
-/// Returns the number of days in a range that begins with the day `from` and ends before the day
-/// `till`.
+/// Returns the number of days with energy in a range that begins with the day `from` and ends
+/// before the day `till`.
 fn days_between<B: Books>(rt: &impl Abort, office: &mut Office<B>, from: &str, till: &str) -> u32 {
     let range = DayRange {
         from: read_day(from),
@@ -48,8 +48,8 @@ fn days_between<B: Books>(rt: &impl Abort, office: &mut Office<B>, from: &str, t
     counted.count
 }
 
-/// Asserts the number of days in several ranges. A range that ends before its beginning has no
-/// days, although no command makes such a query. Returns the store.
+/// Asserts the number of days with energy in several ranges. A range that ends before its beginning
+/// has no days, although no command makes such a query. Returns the store.
 fn ranges_over<B: Books>(rt: &impl Abort, alloc: Global, books: B) -> B {
     let mut office = opened(rt, alloc, books, 0);
     for line in DAY.lines() {
@@ -60,8 +60,8 @@ fn ranges_over<B: Books>(rt: &impl Abort, alloc: Global, books: B) -> B {
     office.into_books()
 }
 
-/// Applies the theorem that the energy over several files equals the energy of one file. Asserts
-/// the days of ranges over an empty database, and returns its store.
+/// Calls the theorems about the energy over several files. Asserts the days of several ranges over
+/// an empty database, and returns its store.
 pub(crate) fn files_and_ranges_have_their_days<S: Alter + Drop>(
     rt: &impl Abort,
     alloc: Global,

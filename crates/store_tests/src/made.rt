@@ -1,4 +1,5 @@
-//! Creates a store in a new database, opens a store, and opens a metering office over a store.
+//! Helpers that create a store in a new database, open a store, and open a metering office over a
+//! store.
 use office_books::Books;
 use office_core::Office;
 use office_store::SqlBooks;

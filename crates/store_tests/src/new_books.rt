@@ -1,4 +1,4 @@
-//! Queries on a database that tests need, but that the store itself does not have.
+//! Checks and queries on a database that only tests need.
 ghost use Rattle.std.specs.Prelude.{◌≡◌, false, IfOk};
 
 use sqlite::{Alter, Connection, Error};

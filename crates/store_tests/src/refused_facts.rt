@@ -1,4 +1,4 @@
-//! Tests that the store stores no row of an event if it refuses any of the event's records.
+//! Tests that the store writes no row for an event if it refuses any of the event's records.
 use crate::new_books::{count, ready};
 use crate::tables::strict;
 use energy_core::Entry;
@@ -50,7 +50,7 @@ fn is_booked<S: Alter>(
     book_facts(alloc, conn, facts).is_ok()
 }
 
-/// Tables with their numbers of rows, which refused records leave unchanged.
+/// The number of rows in each table, which refused records must not change.
 static COUNTS: [(&str, i64); 4] = [
     ("devices", 1),
     ("polls", 2),

@@ -1,7 +1,7 @@
-//! Tests crashes of the machine at each call of the two files of a database. During the crash, a
-//! file is upgraded to version 3, or an office creates its tables and handles events and a request.
-//! After the crash the file has every acknowledged change. The change in flight is applied
-//! completely or not at all.
+//! Tests crashes of the machine at each call of the two files of a database. At the time of the
+//! crash, a file is being upgraded to version 3, or an office is creating its tables or handling
+//! events and a request. After the crash the file has every acknowledged change. The change in
+//! progress is applied completely or not at all.
 pub(crate) mod asked;
 mod crashes;
 mod day;

@@ -1,5 +1,5 @@
-//! Tests the exit statuses of commands that run a metering office, and the failures that the
-//! commands print.
+//! Tests the exit statuses of commands that run a metering office, and the failure messages that
+//! the commands print.
 use command_io::ExitStatus;
 use office_events::Refusal;
 use office_program::{PollEnd, ServeEnd};
@@ -10,8 +10,8 @@ use std::process::Abort;
 use stored_files::{Ending, Failure, ending_of};
 use stored_office::{Done, ending_of_done};
 
-/// Each test case: the result of a task with sockets at port 80 of the host h, its exit status, and
-/// the beginning of its failure text. Only exit status 3 has a failure.
+/// Test cases: the result of a task that uses port 80 of the host `h`, the exit status, and the
+/// beginning of the failure message. Only exit status 3 has such a message.
 const ENDS: [(Result<Done, Failure<'static>>, u8, &str); 25] = [
     (Ok(Done::Reported(ExitStatus::Fine)), 0, ""),
     (Ok(Done::Reported(ExitStatus::Refused)), 1, ""),
@@ -112,7 +112,7 @@ const ENDS: [(Result<Done, Failure<'static>>, u8, &str); 25] = [
     (Err(Failure::Host { host: "h" }), 3, "can't resolve h"),
 ];
 
-/// The ending of a command that prints, with its expected exit status.
+/// The exit statuses of commands that print a text, with their numbers.
 const STATUSES: [(ExitStatus, u8); 3] = [
     (ExitStatus::Fine, 0),
     (ExitStatus::Refused, 1),

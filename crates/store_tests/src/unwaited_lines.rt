@@ -1,7 +1,7 @@
-//! Tests the function that writes a line without waiting for the line's reader.
+//! Tests the function that writes lines without waiting until they are read.
 use office_running::write_without_waiting;
 
-// Checks that a line is written completely even if the writer does not wait for the reader.
+// Checks that lines are written completely even if the function does not wait until they are read.
 #[test]
 fn what_nobody_waits_for_is_written_whole(rt: HostRuntime) {
     let mut written = Vec::new(rt.alloc());

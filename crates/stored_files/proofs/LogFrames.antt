@@ -67,8 +67,8 @@ taken_few page_size log k room taken =
     let within = taken_within page_size log k room taken in
     omega (arith, within, few page_size k)
 
--- If SQLite's recovery fails with an error, then the log has the cause that belongs to the error's
--- `LogFault`.
+-- If SQLite's recovery fails with an error, then the log has the defect that the error's `LogFault`
+-- names, or memory ran out.
 pub caused : (page_size : ℕ) (log : List ℕ) (old new : ℕ) (e : Error)
     → HasCause old new (RefusesLog page_size log) e → IsUnread page_size log (fault_of e)
 caused page_size log old new (Io e) cause = tt
@@ -80,7 +80,8 @@ caused page_size log old new Corrupt (inl counts) = counts.1
 caused page_size log old new Corrupt (inr full) = grind (arith, full.0)
 caused page_size log old new Exists cause = tt
 
--- A log of `len` bytes contains every frame with an index below (`len` - 32) / (24 + page size).
+-- A log of `len` bytes completely contains every frame with an index below (`len` - 32) / (24 +
+-- page size).
 pub fits_below : (page_size len i : ℕ) → 32 ≤ len → i < (len - 32) / (24 + page_size)
     → frame_at page_size (i + 1) ≤ len
 unfolding frames_len
@@ -98,7 +99,8 @@ low_if_fits page_size len j within =
     let some = (le-div_iff_mul-le (omega arith)).1 all in
     omega (arith, some)
 
--- If recovery can't read a log, then the log has the cause that belongs to its `LogFault`.
+-- If recovery can't read a log, then the check of the log is right to reject it for the same
+-- reason.
 pub unread_causes : (page_size : ℕ) (log : List ℕ) (fault : LogFault) → IsUnread page_size log fault
     → IsCause page_size log fault
 unread_causes page_size log Header unread = absurd unread

@@ -15,7 +15,7 @@ module _ (page_size : ℕ) (log db : List ℕ) (k : ℕ) where
   unfolding pages_after
   page_there n low high = cond-true _ _ _ (and_from _ _ (le-leb 1 n low) (le-leb n _ high))
 
--- If each of two optional values has the content of the other, then the two values are equal.
+-- Two optional values are equal if the content of each is also the content of the other.
 same_there : (o p : Option (List ℕ)) → ((x : List ℕ) → o ≡ Some x → p ≡ Some x) → ((x : List ℕ) → p ≡ Some x → o ≡ Some x) → o ≡ p
 same_there None None left right = refl
 same_there None (Some y) left right = right y refl
@@ -63,7 +63,7 @@ module _ (page_size : ℕ) (log db : List ℕ) (k : ℕ) where
       (kept_low keeps (page_count page_size log db k) (le_refl _))
       (kept_high keeps (length db / page_size) (le_refl _))
 
--- If no frames are replayed, then the pages of the database file are unchanged.
+-- Replaying no frames leaves the pages of the database file unchanged.
 pub keeps_none : (page_size : ℕ) (log db : List ℕ) → KeepsPages page_size log db 0
 unfolding pages_after
 keeps_none page_size log db n = refl

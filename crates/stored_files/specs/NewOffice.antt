@@ -10,7 +10,7 @@ use Rattle.store_tables.specs.Steps.{TransactsTo}
 use Rattle.office_store.specs.Database.{HoldsAlone}
 
 -- States that the tables of a new office were created in one transaction. Right after this
--- transaction, the database had no records, and a crash would have left no records.
+-- transaction, the database had no records, and would have had none after a crash.
 pub record IsMade {S : Type 0} (g : Ghosts S) (zone : List ℕ) (from : Held S) : Type 0 where
   pub made : Held S
   pub reported : Zone

@@ -10,8 +10,8 @@ use Rattle.table_seals.specs.declared.filed.FiledMeter.{FiledMeter}
 use Rattle.stored_files.specs.BooksFound.{ledger_beneath}
 
 module _ {S : Type 0} (g : Ghosts S) where
-  -- States that `latest` is the latest timestamp of the store's records, provided that the disk
-  -- returned what was written to it.
+  -- States that `latest` is the latest timestamp of the store's records. The claim holds only if no
+  -- wrong result of the store was used.
   pub record IsLatestIn (books : SqlBooks S g) (latest : ℕ) : Type 0 where
     pub asked : SqlBooks S g
     pub clean : (ledger_beneath g asked).is_clean → (ledger_beneath g books).is_clean
@@ -24,13 +24,13 @@ module _ {S : Type 0} (g : Ghosts S) where
     pub clean : (ledger_beneath g asked).is_clean → HasCleanDisk (state g old)
     pub is_latest : (ledger_beneath g asked).is_clean → latest ≡ latest_in facts
 
--- Appends a line to the report, with the timestamp of a meter's last recovered entry.
+-- The report with a line appended that has the timestamp of a meter's last recovered entry.
 abbrev pub with_last_entry : List ℕ → List ℕ → ℕ → List ℕ
 with_last_entry text meter at =
     text ++ meter ++ codes " last entry " ++ decimal at ++ codes ", later ones may be lost\n"
 
--- Appends a line to the report, with the timestamp of a meter's last recovered entry. Appends
--- nothing if the meter is closed.
+-- The report with a line appended that has the timestamp of a meter's last recovered entry. If the
+-- meter is closed, nothing is appended.
 abbrev pub with_open_meter : List ℕ → FiledMeter → List ℕ
 with_open_meter text meter =
     if meter.standing.is_ended then text
@@ -40,8 +40,8 @@ abbrev pub with_open_meters : List ℕ → List FiledMeter → List ℕ
 with_open_meters text [] = text
 with_open_meters text (meter ∷ meters) = with_open_meters (with_open_meter text meter) meters
 
--- Appends the report on a recovered office to a text. The report has the latest timestamp, and a
--- line for each open meter.
+-- The text with the report on a recovered office appended. The report has the latest timestamp, and
+-- a line for each open meter.
 abbrev pub with_recovered : List ℕ → ℕ → List FiledMeter → List ℕ
 with_recovered text latest meters =
     with_open_meters (text ++ codes "latest " ++ decimal latest ++ codes "\n") meters

@@ -1,4 +1,4 @@
-//! Audits an office in a database, and checks whether several files continue each other.
+//! Audits an office in a database, and checks whether the files of an office continue each other.
 ghost use Rattle.std.specs.Prelude.{◌≡◌, ◌↔◌, ◌⊎◌, ◌++◌, [], false, Err, Some, IsTrue, IfOk, IfErr, OnOk, option_map, string_bytes};
 ghost use Rattle.std.specs.Io.KnownBytes.{Appends};
 ghost use Rattle.sqlite.specs.Held.{state};
@@ -33,7 +33,7 @@ pub enum AuditFault {
     Unsealable,
     /// A name or the time zone is not valid text.
     NoText,
-    /// The file given as a seal does not have the text of a seal.
+    /// The file that was named as a seal does not have the text of a seal.
     NoSeal,
     /// The file with the seal can't be read.
     Unread,
@@ -44,8 +44,8 @@ pub enum AuditFault {
     Output,
 }
 
-/// Checks that a database has the tables of an office, and that the connection has no open
-/// transaction.
+/// Checks that a database has the tables of an office in their present version, and that the
+/// connection has no open transaction.
 pub(crate) fn check_ours<S: Alter>(connection: &Connection<S>) -> Result<(), AuditFault>
     ensures foreign { ((layout : TheLayout) → ¬ IsNamedAs connection.now.schema layout)
         → result ≡ Err AuditFault.NotOurs }
@@ -63,7 +63,7 @@ pub(crate) fn check_ours<S: Alter>(connection: &Connection<S>) -> Result<(), Aud
     }
 }
 
-/// Maps a fault of reading the tables to an `AuditFault`.
+/// Maps a fault of reading the rows of tables to an `AuditFault`.
 pub(crate) fn fault_of(fault: RowFault) -> AuditFault
     ensures { (result ≡ AuditFault.Memory) ⊎ (result ≡ AuditFault.Store) }
 {
@@ -73,8 +73,9 @@ pub(crate) fn fault_of(fault: RowFault) -> AuditFault
     }
 }
 
-/// Audits an office in a database. Checks whether each meter has the rows of a lawful journal, and
-/// whether the polls are complete and in order. Writes nothing to the database.
+/// Audits an office in a database. Checks that the rows of each meter are a lawful journal (each
+/// item obeys the rules after those before it), and that the polls are complete and in order.
+/// Writes nothing to the database.
 pub fn audit_stored<S: Alter>(
     alloc: Global,
     connection: &mut Connection<S>,
@@ -93,7 +94,7 @@ pub fn audit_stored<S: Alter>(
     }
 }
 
-/// Writes the result of an audit to `output`. Returns whether the audit found no differences.
+/// Writes the result of an audit to `output`. Returns whether the audit found no errors.
 pub fn write_audit<W: Write>(
     alloc: Global,
     findings: &Findings,
@@ -113,9 +114,9 @@ pub fn write_audit<W: Write>(
     }
 }
 
-/// Returns the meters of an office in a database, so that the next file can be compared with them.
-/// `NoText` means that a meter has an invalid value. After an audit without differences, the only
-/// possible invalid value is a name that is no text. Writes nothing to the database.
+/// Returns the meters of an office in a database, so that the next file of the office can be
+/// compared with them. `NoText` means that a meter has an invalid value. If an audit found no
+/// errors, this value is a name that is not valid text. Writes nothing to the database.
 pub fn meters_stored<'a, S: Alter>(
     alloc: Global,
     connection: &mut Connection<S>,
@@ -140,9 +141,9 @@ pub fn meters_stored<'a, S: Alter>(
     }
 }
 
-/// Checks whether the time zone and the meters of a file continue the earlier files. Adds a line to
-/// the result for each difference. If memory runs out, lines may be missing, and the data about the
-/// earlier files is lost.
+/// Checks whether the time zone and the meters of a file continue those of the earlier files.
+/// Appends a line to `joining` for each difference. If memory runs out, lines may be missing, and
+/// the data about the earlier files is lost.
 pub fn hold_to_earlier<'a>(
     alloc: Global,
     joining: &mut Joining<'a>,
@@ -172,8 +173,8 @@ pub fn hold_to_earlier<'a>(
     }
 }
 
-/// Writes the differences between files that should continue each other. Returns whether there are
-/// none.
+/// Writes the differences between files of an office that should continue each other. Returns
+/// whether there are none.
 pub fn write_joins<W: Write>(
     alloc: Global,
     lines: &[Vec<u8>],

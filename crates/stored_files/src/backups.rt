@@ -1,4 +1,4 @@
-//! Makes backups, which are database files that have all records of an office without a log.
+//! Makes backups: database files that have all records of an office, and need no log.
 
 mod faults;
 mod whole;

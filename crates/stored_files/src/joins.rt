@@ -1,4 +1,4 @@
-//! Merges the reports on an accounting register from several database files of one office.
+//! Reports on an accounting register over several database files of one office.
 
 mod stored;
 

@@ -1,5 +1,5 @@
-//! Commands over an office's database files, for any store and writer. Also defines the exit
-//! statuses of commands.
+//! The work of the commands that handle whole database files of an office: audits, backups,
+//! recoveries, file rollovers and merged reports. Also defines the exit statuses of all commands.
 #![tactic(auto)]
 
 mod audits;

@@ -1,4 +1,5 @@
-//! Checks the write-ahead log beside a database file before SQLite opens the file and the log.
+//! Checks the write-ahead log beside a database file for lost commits, before SQLite opens the file
+//! and the log.
 mod check;
 mod emptied;
 mod format;

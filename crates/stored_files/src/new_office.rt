@@ -8,8 +8,8 @@ use office_store::{OpenFault, SqlBooks};
 use sqlite::{Alter, Connection};
 use std::alloc::Global;
 
-/// Creates the tables of a new office in an empty database, with the days of a time zone, by
-/// `SqlBooks::create`.
+/// Creates the tables of a new office in an empty database, by `SqlBooks::create`. `zone` is the
+/// time zone of the office's days.
 pub fn create_stored<S: Alter + Drop>(
     alloc: Global,
     connection: Connection<S>,

@@ -15,7 +15,7 @@ use std::io::Write;
 use sun_points::Sink;
 use table_seals::FiledMeter;
 
-// Maps a fault of opening an office to an `AuditFault`.
+// Maps a fault of opening an office's store to an `AuditFault`.
 fn opening_fault(fault: OpenFault) -> AuditFault {
     match fault {
         OpenFault::NotOurs => AuditFault::NotOurs,
@@ -63,7 +63,7 @@ fn write_number(text: &mut Vec<u8>, number: u64) -> Result<(), AllocError>
     append_bytes(text, buffer.format(number).as_bytes())
 }
 
-// Appends a line to the report, with the timestamp of a meter's last recovered entry.
+// Appends a line with the timestamp of a meter's last recovered entry to the report.
 fn write_last_entry(text: &mut Vec<u8>, meter: &str, at: u64) -> Result<(), AllocError>
     ensures { OnOk result (text.new.items ≡ with_last_entry text.old.items meter.now at) }
 {
@@ -73,8 +73,8 @@ fn write_last_entry(text: &mut Vec<u8>, meter: &str, at: u64) -> Result<(), Allo
     append_bytes(text, b", later ones may be lost\n")
 }
 
-// Appends a line to the report, with the timestamp of a meter's last recovered entry. Appends
-// nothing if the meter is closed.
+// Appends a line with the timestamp of a meter's last recovered entry to the report. Appends
+// nothing if the meter is closed, since it can have no later entries.
 fn write_open_meter(text: &mut Vec<u8>, meter: &FiledMeter<'_>) -> Result<(), AllocError>
     ensures { OnOk result (text.new.items ≡ with_open_meter text.old.items meter.now) }
 {

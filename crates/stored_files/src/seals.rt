@@ -1,4 +1,5 @@
-//! Makes and checks seals of an office in a database, which are signed-off digests of its tables.
+//! Makes and checks seals of an office in a database. A seal is a digest of the office's tables
+//! that a person signs off.
 ghost use Rattle.std.specs.Prelude.{◌≡◌, ◌≢◌, ◌↔◌, ◌⊎◌, false, Err, Some, IsTrue, IfOk, IfErr, OnOk};
 ghost use Rattle.std.specs.Io.KnownBytes.{Appends};
 ghost use Rattle.sqlite.specs.Held.{state};
@@ -22,7 +23,7 @@ use table_seals::{
     Checked, NoSeal, Seal, append_checked, append_seal, check_seal, read_seal, seal_tables,
 };
 
-/// Seals the tables of an office in a database. Writes nothing to the database.
+/// Returns a seal of the tables of an office in a database. Writes nothing to the database.
 pub fn seal_stored<S: Alter>(
     alloc: Global,
     connection: &mut Connection<S>,
@@ -46,7 +47,7 @@ pub fn seal_stored<S: Alter>(
     }
 }
 
-/// Writes the text of a seal to `output`.
+/// Writes a seal as text to `output`.
 pub fn write_seal<W: Write>(alloc: Global, seal: &Seal, output: &mut W) -> Result<(), AuditFault>
     ensures { OnOk result (Appends (W.contents output.old) (W.contents output.new)
         (seal_text (sealed_tables_of seal.now))) }
@@ -60,8 +61,9 @@ pub fn write_seal<W: Write>(alloc: Global, seal: &Seal, output: &mut W) -> Resul
     }
 }
 
-/// Checks an office in a database against the text of a seal. Returns the meters that don't match
-/// the seal, and whether the polls differ from the seal. Writes nothing to the database.
+/// Checks an office in a database against a seal, whose text is `text`. Returns the meters that
+/// don't match the seal, and whether the polls differ from the seal. Writes nothing to the
+/// database.
 pub fn check_stored_seal<S: Alter>(
     alloc: Global,
     connection: &mut Connection<S>,
@@ -90,7 +92,8 @@ pub fn check_stored_seal<S: Alter>(
     }
 }
 
-/// Writes the result of checking a seal. Returns whether all meters and the polls match the seal.
+/// Writes the result of checking an office against a seal. Returns whether all meters and the polls
+/// match the seal.
 pub fn write_checked<W: Write>(
     alloc: Global,
     checked: &Checked,

@@ -13,7 +13,8 @@ use Rattle.stored_files.proofs.Standing.{stands_alone}
 use Rattle.stored_files.specs.BooksFound.{ledger_beneath}
 use Rattle.stored_office.specs.OverBooks.{OverBooks, ledger_in}
 
--- If two stores have the same state, then they have the same history of accepted events.
+-- If two models of a store have the same records, then a history that agrees with one also agrees
+-- with the other.
 stands_so : (before after : Ledger) (past : History) → StandsAs before after → BooksStand before past → BooksStand after past
 stands_so before after past meant stand = record {
   is_past = stand.is_past;

@@ -1,4 +1,4 @@
--- Defines tasks over the store that was opened from a database.
+-- Defines what it means that a task ran over the store in a database.
 use Rattle.std.specs.Prelude.{ℕ, List}
 use Rattle.sqlite.specs.Store.{Ghosts}
 use Rattle.office_rules.specs.History.{History, facts_of}
@@ -10,14 +10,13 @@ use Rattle.office_store.specs.declared.books.SqlBooks.{SqlBooks}
 use Rattle.stored_files.specs.BooksFound.{ledger_beneath}
 
 module _ {S : Type 0} (g : Ghosts S) where
-  -- The logical model of a cached store in a database. The cache stores records that were already
-  -- read.
+  -- The logical model of a store in a database, with a cache of records that were already read.
   abbrev pub ledger_in : CachedBooks (SqlBooks S g) → Ledger
   ledger_in books = ledger_over (ledger_beneath g) books
 
-  -- States that a task ran over the store in a database, which had exactly the records of the
-  -- history `past`, also after a crash. If the disk returned what was written to it, `Does` relates
-  -- the store before the task to the store after it.
+  -- States that a task ran over the store in a database. Before the task, the store had exactly the
+  -- records of the history `past`, and a crash would have left them all. If no wrong result of the
+  -- database was used, `Does` relates the store before the task to the store after it.
   pub record OverBooks (past : History)
       (Does : (found left : CachedBooks (SqlBooks S g)) → Type 0) : Type 0 where
     pub zone : List ℕ

@@ -1,5 +1,5 @@
-//! Messages after a round of polls. They report missing parts of the device's setup, and explain
-//! refusals and rejected readings.
+//! Messages on standard error after a round of polls. They report missing parts of the device's
+//! setup, and explain refusals and rejected readings.
 
 mod ends;
 mod lacking;

@@ -1,5 +1,5 @@
-//! The program's commands over an office in a database, for any store, clock, sockets and writer.
-//! An office accepts events, polls devices and records the energy of their meters.
+//! The commands that need the office of a database file: reporting, entering, polling and serving.
+//! They work with any store, clock, sockets and writer.
 #![tactic(auto)]
 
 mod advice;

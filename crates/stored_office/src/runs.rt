@@ -1,4 +1,5 @@
-//! Applies the main theorem about an office to stores in a database.
+//! Runs of an office over a store in a database. Their contracts are the main theorem about an
+//! office.
 
 mod runs;
 

@@ -1,5 +1,4 @@
-//! The program's tasks over an office in a database, and their results, for any store, clock,
-//! sockets and writer.
+//! The tasks of commands that need the office of a database file, and their results.
 
 mod ends;
 mod tasks;

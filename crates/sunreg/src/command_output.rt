@@ -6,8 +6,8 @@ use std::io::{self, LineWriter, Write};
 /// A writer for the output of a command over an office's file. It writes chunks of about 8 KiB, or
 /// line by line. With line output, it can also store a copy of the output.
 ///
-/// A single type for all ways of printing, so that the commands over an office's file are compiled
-/// only once.
+/// All ways of printing are variants of one type, so that the commands over an office's file are
+/// compiled only once.
 #[derive(Drop)]
 pub(crate) enum CommandOutput<W: Write + Drop> {
     Pieces(Buffered<W>),

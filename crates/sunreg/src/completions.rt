@@ -19,7 +19,8 @@ const TAIL: &str = "\
 complete -F _sunreg sunreg
 ";
 
-// Returns the placeholder that the help text shows for an option's value. `None` for a flag.
+// Returns the placeholder, such as `FILE`, that the help text shows for an option's value. Returns
+// `None` for a flag and for a value that is one of a few fixed words.
 fn value_of<'a>(value: Value<'a>) -> Option<&'a str> {
     match value {
         Value::Required(shown)
@@ -48,7 +49,7 @@ fn write_all_names<W: Write>(program: &ProgramText<'_>, output: &mut W) -> io::R
     output.write_all(b"help")
 }
 
-// Writes the words that an option accepts to the completion script.
+// Writes to the completion script the fixed words that an option accepts as its value.
 fn write_chosen<W: Write>(
     command: &str,
     option: &str,
@@ -60,8 +61,8 @@ fn write_chosen<W: Write>(
     output.write_all(b"' ;;\n")
 }
 
-// Writes the completion of an option's value to the completion script. The completion is one of
-// several words, a file name, or nothing.
+// Writes how bash completes the value of an option: with one of several fixed words, with a file
+// name, or not at all.
 fn write_value<W: Write>(command: &str, option: &OptionText<'_>, output: &mut W) -> io::Result<()> {
     if let Value::Chosen { choices, .. } = option.value {
         return write_chosen(command, option.name, choices, output);
@@ -117,7 +118,7 @@ fn write_options<W: Write>(commands: &[CommandText<'_>], output: &mut W) -> io::
     Ok(())
 }
 
-// For every command, writes the completion of each option's value to the completion script.
+// Writes to the completion script how the values of each command's options are completed.
 fn write_all_values<W: Write>(program: &ProgramText<'_>, output: &mut W) -> io::Result<()> {
     output.write_all(b"    *) case ${COMP_WORDS[1]}\" \"${COMP_WORDS[COMP_CWORD - 1]} in\n")?;
     write_values(program.commands, output)?;
@@ -125,8 +126,8 @@ fn write_all_values<W: Write>(program: &ProgramText<'_>, output: &mut W) -> io::
     output.write_all(b"    *) case ${COMP_WORDS[1]} in\n")
 }
 
-// For every command, writes its options and the words of its positional arguments to the completion
-// script.
+// Writes to the completion script, for each command, its options and the fixed words of its
+// positional arguments.
 fn write_all_options<W: Write>(program: &ProgramText<'_>, output: &mut W) -> io::Result<()> {
     write_options(program.commands, output)?;
     write_options(program.later, output)?;

@@ -1,4 +1,4 @@
-//! Reads the energy counters of devices, each over its own socket.
+//! Reads the current counter values of devices, each over its own connection.
 use crate::run_words::bare_host;
 use crate::scans::connect;
 use command_words::Device;
@@ -21,13 +21,15 @@ pub(crate) enum Unread<'a> {
     },
     /// The program could not connect to the device.
     Unconnected(Failure<'a>),
-    /// The read of the counter failed with a `ScanFault`.
+    /// The read failed: the device closed the connection or sent a frame of an impossible length,
+    /// the connection failed, or memory ran out.
     Broken {
         host: &'a str,
         port: u16,
         fault: ScanFault,
     },
-    /// The device responded without a value of the counter.
+    /// The read returned no valid value. For example, the device did not respond, responded with a
+    /// Modbus exception, or returned a scale outside -3 to 3.
     Untold {
         host: &'a str,
         port: u16,
@@ -110,7 +112,7 @@ fn shown_within<'a, L: Link>(
     }
 }
 
-/// Reads the present value of an accounting register's counter from the device. Connects to the
+/// Reads the current value of an accounting register's counter from its device. Connects to the
 /// first address of the device's host that accepts the connection.
 pub(crate) fn shown_at<'a>(
     rt: &HostRuntime,

@@ -20,8 +20,8 @@ fn say_unread<D: Display>(rt: &HostRuntime, name: &str, why: &D) {
     let _said = write!(errors, "sunreg: {}: {why}\n", Named(name));
 }
 
-// Reads a regular file, up to slightly more than the maximum length. Rejects other kinds of files,
-// because opening a pipe would block the command.
+// Reads a regular file, up to slightly more than the maximum length of an input file. Rejects other
+// kinds of files, because opening a pipe would block the command.
 fn read_within(rt: &HostRuntime, alloc: Global, name: &str) -> io::Result<Vec<u8>> {
     if !fs::metadata(rt, name)?.is_file() {
         return Err(io::Error::from(ErrorKind::InvalidInput));
@@ -85,8 +85,8 @@ impl NamedFiles for Surroundings<'_> {
     }
 }
 
-/// Executes the command lines of standard input on an office, or only checks these lines. The
-/// events' idempotency keys contain `caller`.
+/// Executes the command lines of standard input on an office. If `only_read` is true, only checks
+/// these lines. The idempotency keys of the lines contain `caller`.
 pub(crate) fn enter<'a, D: Databases + NamedFiles>(
     rt: &HostRuntime,
     files: &D,

@@ -4,11 +4,11 @@ use printed_numbers::{Kind, Meaning, kinds, meaning_of};
 use std::io::{self, Write};
 use stored_files::{Ending, Failure};
 
-/// The greatest number that the program can print after a word such as `held`.
+/// An upper limit for the numbers that the program prints after a word such as `held`.
 const MOST_NUMBER: u32 = 999;
 
-// Returns words that distinguish a kind of numbers from the other kinds that are printed after the
-// same word.
+// Returns a phrase that says what the numbers of a kind belong to. Several kinds of numbers are
+// printed after the same word, such as `fault`.
 fn owner(kind: Kind) -> &'static str {
     match kind {
         Kind::RowFault => " of a point list row",
@@ -118,7 +118,8 @@ fn wrong(rt: &HostRuntime, what: &str, number: &str) -> Ending<'static> {
     }
 }
 
-/// Prints the meaning of a number that the program printed after the word `what`.
+/// Prints the meaning of a number that the program printed after the word `what`. If no such number
+/// exists, returns an error text that lists the valid ones.
 pub(crate) fn explain(rt: &HostRuntime, what: &str, number: &str) -> Ending<'static> {
     let Ok(value) = number.parse::<u32>() else {
         return wrong(rt, what, number);

@@ -1,9 +1,9 @@
-//! The clock for the timestamps of records. While the command `run` changes to a new file, the time
-//! of this clock does not go back.
+//! The clock for the timestamps of records. When `run --carry` changes to a new file, the new file
+//! gets no earlier timestamps than the old file, even if the system clock was set back.
 use run_schedule::OnwardTime;
 use socket_link::Clock;
 
-/// A clock whose times have a lower bound.
+/// A clock that returns no time before its lower bound.
 #[derive(Drop)]
 pub(crate) struct OnwardClock<C: Clock + Drop> {
     clock: C,
@@ -18,7 +18,7 @@ impl<C: Clock + Drop> OnwardClock<C> {
         }
     }
 
-    /// Sets the lower bound of the clock to the latest time that the clock has returned.
+    /// Raises the lower bound to the latest time that the clock has returned.
     pub(crate) fn advance_least(&mut self) {
         self.time.advance_least();
     }

@@ -9,12 +9,12 @@ use std::os::unix::fs::MetadataExt;
 use std::str::from_utf8;
 use stored_files::{Failure, FileFault, is_blank, length_of, log_of};
 
-/// The maximum number of consecutive empty files that are removed. Such files may be left by killed
-/// processes.
+/// The maximum number of empty files that one call of `led_file` removes. A killed process can
+/// leave such a file.
 const TRIES: u32 = 8;
 
-/// The file to which the command `run` writes, with the text of the file's period. The file that
-/// the arguments name has no period.
+/// The file to which `run --carry` currently writes, with its period, such as `2026-11`. The file
+/// that the arguments name has no period.
 #[derive(Drop)]
 pub(crate) struct Led {
     pub(crate) path: String,
@@ -22,7 +22,8 @@ pub(crate) struct Led {
 }
 
 impl Led {
-    /// Returns the text of the current file's period, such as `2026-11`.
+    /// Returns the current file's period, such as `2026-11`. Returns `None` for the file that the
+    /// arguments name.
     pub(crate) fn period(&self) -> Option<&[u8]> {
         match &self.text {
             Some(text) => Some(text.as_slice()),
@@ -31,7 +32,7 @@ impl Led {
     }
 }
 
-// Splits a path into the folder and the name of a file.
+// Splits the path of a file into its folder and its name.
 fn split_path(path: &str) -> (&str, &str) {
     match path.rsplit_once('/') {
         Some((folder, name)) => (if folder.is_empty() { "/" } else { folder }, name),
@@ -39,8 +40,8 @@ fn split_path(path: &str) -> (&str, &str) {
     }
 }
 
-// Returns the latest period that has a file in the folder of the run's own file. Ignores names that
-// are not UTF-8.
+// Returns the latest period that has a file beside `file`, the file that the arguments name.
+// Ignores names that are not UTF-8.
 fn period_beside(rt: &HostRuntime, file: &str, period: Period) -> io::Result<ActivePeriod> {
     let (folder, name) = split_path(file);
     let mut led = ActivePeriod::none();
@@ -57,7 +58,8 @@ fn period_beside(rt: &HostRuntime, file: &str, period: Period) -> io::Result<Act
     Ok(led)
 }
 
-/// Returns the path of the file for a period, in the folder of the file that the arguments name.
+/// Returns the path of the file for the period `text`, in the folder of the file that the arguments
+/// name.
 pub(crate) fn path_of<'a>(
     rt: &HostRuntime,
     file: &str,
@@ -72,7 +74,8 @@ pub(crate) fn path_of<'a>(
     }
 }
 
-// Returns the file for a period, or the run's own file without a period, as the current file.
+// Returns the current file: the file for the period `text`, or the file that the arguments name if
+// `text` is `None`.
 fn led_path<'a>(rt: &HostRuntime, file: &str, text: Option<Vec<u8>>) -> Result<Led, Failure<'a>> {
     let path = match &text {
         Some(text) => path_of(rt, file, text.as_slice())?,
@@ -84,7 +87,8 @@ fn led_path<'a>(rt: &HostRuntime, file: &str, text: Option<Vec<u8>>) -> Result<L
     Ok(Led { path, text })
 }
 
-// Returns the current file of a run, by the file names in the folder.
+// Returns the current file of a run, judged only by the file names in the folder. If the folder
+// does not exist, this is the file that the arguments name.
 fn named_file<'a>(rt: &HostRuntime, file: &'a str, period: Period) -> Result<Led, Failure<'a>> {
     match period_beside(rt, file, period) {
         Ok(led) => led_path(rt, file, led.text),
@@ -97,8 +101,8 @@ fn named_file<'a>(rt: &HostRuntime, file: &'a str, period: Period) -> Result<Led
     }
 }
 
-// Returns whether the current file is an empty file of a period. A killed process may leave such a
-// file on a file system without hard links.
+// Returns whether the current file is an empty file of a period, whose log is empty or missing. A
+// killed process may leave such a file on a file system without hard links.
 fn is_left_empty<'a>(rt: &HostRuntime, led: &Led) -> Result<bool, Failure<'a>> {
     let path = led.path.as_str();
     if led.text.is_none() || length_of(rt, path) != Some(0) {
@@ -108,8 +112,8 @@ fn is_left_empty<'a>(rt: &HostRuntime, led: &Led) -> Result<bool, Failure<'a>> {
     Ok(is_blank(length_of(rt, log.as_str())))
 }
 
-/// Returns the current file of a run: the latest file of a period in the folder, or the run's own
-/// file. Removes empty files of periods.
+/// Returns the current file of a run: the file of the latest period in the folder, or the file that
+/// the arguments name if no period has a file. First removes empty files of periods.
 pub(crate) fn led_file<'a>(
     rt: &HostRuntime,
     file: &'a str,
@@ -125,7 +129,8 @@ pub(crate) fn led_file<'a>(
     named_file(rt, file, period)
 }
 
-// Returns the texts of all periods before `current` that have a file in the folder, in order.
+// Returns all periods before `current` that have a file in the folder, such as `2026-10`, the
+// oldest first.
 fn periods_before(
     rt: &HostRuntime,
     file: &str,
@@ -152,7 +157,7 @@ fn periods_before(
     Ok(texts)
 }
 
-// Returns the paths of the files for the given periods, in order. If the file that the arguments
+// Returns the paths of the files for the periods `texts`, in order. If the file that the arguments
 // name exists, its path comes first.
 fn paths_before<'a>(
     rt: &HostRuntime,
@@ -177,9 +182,9 @@ fn paths_before<'a>(
     Ok(paths)
 }
 
-/// Returns the files of the command `run` that are older than the file at `path`, the oldest first.
-/// The file that the arguments name comes first, and the files of periods follow. No file is older
-/// than the file that the arguments name.
+/// Returns the paths of those files of `run --carry` that are older than the file at `path`, the
+/// oldest first. The file that the arguments name is the oldest, so no file is older than it. The
+/// files of earlier periods follow.
 pub(crate) fn files_before<'a>(
     rt: &HostRuntime,
     file: &'a str,
@@ -203,7 +208,7 @@ pub(crate) fn files_before<'a>(
     }
 }
 
-// Returns whether two paths are names of the same file.
+// Returns whether two paths are names of the same file, as after an interrupted renaming.
 fn are_one(rt: &HostRuntime, path: &str, other: &str) -> bool {
     match (
         fs::symlink_metadata(rt, path),

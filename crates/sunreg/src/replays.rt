@@ -1,4 +1,4 @@
-//! Executes scripts over a store in memory, or over an office's file.
+//! Executes scripts with a store in memory, or with an office's file as the store.
 use file_commands::open_in;
 use interval_core::Zone;
 use kept_books::CachedBooks;
@@ -7,7 +7,8 @@ use script_run::{replay, replay_books};
 use std::io;
 use stored_files::{Databases, Ending, Failure, ending_of};
 
-/// Executes the script on standard input over a store in memory, with the days of a time zone.
+/// Executes the script on standard input with a new store in memory, whose days follow the time
+/// zone `zone`.
 pub(crate) fn replay_memory<'a>(rt: &HostRuntime, zone: &'a str) -> Ending<'a> {
     let Ok(read) = Zone::read(zone) else {
         return Ending::NoZone(zone);
@@ -17,7 +18,7 @@ pub(crate) fn replay_memory<'a>(rt: &HostRuntime, zone: &'a str) -> Ending<'a> {
     ending_of(run.status)
 }
 
-/// Executes the script on standard input over the office in the database at a path.
+/// Executes the script on standard input with the office's file at `path` as the store.
 pub(crate) fn replay_file<'a, D: Databases>(
     rt: &HostRuntime,
     files: &D,

@@ -1,4 +1,4 @@
-//! Prints reports on the energy of an accounting register.
+//! Prints the energy of an accounting register, or the statement of its meters, from one file.
 use crate::offices::{OWN_HOST, over_office};
 use command_words::FormWords;
 use file_commands::{OfficeFiles, Opening, form_of, range_of, statement_of};
@@ -6,14 +6,16 @@ use office_program::NamedFiles;
 use stored_files::Ending;
 use stored_office::{Task, ending_of_done};
 
-// Returns whether the options leave all settings of a report's form at their defaults.
+// Returns whether no option sets the range, the period, the unit or the output format of the
+// report.
 fn is_plain(words: &FormWords<'_>) -> bool {
     let has_range = words.from.is_some() || words.till.is_some();
     let has_layout = words.period.is_some() || words.unit.is_some() || words.format.is_some();
     !has_range && !has_layout
 }
 
-// Executes a task that prints a report on an office's file.
+// Opens the office's file at `path`, and executes a task that prints a report. If the file cannot
+// be opened for writing, reads a temporary copy of it.
 fn report_by<'a, D: OfficeFiles + NamedFiles>(
     rt: &HostRuntime,
     files: &D,

@@ -1,4 +1,5 @@
-//! Converts the options of the command `run` to its settings and its devices' addresses.
+//! Converts the options of the command `run` to its settings, and looks up the IP addresses of its
+//! devices.
 use command_words::Device;
 use office_events::Name;
 use office_running::{Descriptors, Settings, Site};
@@ -13,7 +14,8 @@ pub(crate) const STANDARD_ERROR: i32 = 2;
 /// The number of bytes in a megabyte.
 const MEGABYTE: u64 = 1_000_000;
 
-/// Returns the settings of the command `run`, which serves HTTP on a port of this machine only.
+/// Returns the settings of the command `run`. It serves HTTP on the port `listen`, only to clients
+/// on this machine.
 pub(crate) fn settings_of<'n>(
     listen: u16,
     every: u32,
@@ -54,7 +56,8 @@ pub(crate) fn bare_host(host: &str) -> &str {
     }
 }
 
-// Returns a device of the arguments with the first IP address of its host.
+// Looks up the host of a device in the arguments, and returns the device with the host's first IP
+// address.
 fn site_of<'a>(rt: &HostRuntime, device: Device<'a>) -> Result<Site, Failure<'a>> {
     let Device { name, host, port } = device;
     let Ok(mut addresses) = (bare_host(host), port).to_socket_addrs(rt) else {

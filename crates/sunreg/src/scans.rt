@@ -17,11 +17,11 @@ const PATIENCE: u64 = 5;
 /// The maximum duration of a scan, in seconds.
 const LONGEST: u64 = 600;
 
-/// The greatest length, in bytes, of a device's name in the lines that set the device up. The names
-/// of the device's accounting registers are longer, and must not be too long either.
+/// The maximum length of a device's name for `--setup`, in bytes. The names of the device's
+/// accounting registers are formed from it and are longer, but must be valid names too.
 const MOST_NAME: usize = 9;
 
-/// The address of a device to scan, and the timeout of its responses.
+/// The address of a device to scan, and how many seconds to wait for each of its responses.
 #[derive(Clone, Copy)]
 pub(crate) struct Target<'a> {
     pub(crate) host: &'a str,
@@ -30,7 +30,8 @@ pub(crate) struct Target<'a> {
     pub(crate) timeout: u32,
 }
 
-// A progress display on a terminal, which shows the SunSpec model that the scan is reading.
+// A progress display on standard error, if that is a terminal. It shows the SunSpec model that the
+// scan is reading.
 #[derive(Clone, Copy)]
 struct Terminal<'a> {
     rt: &'a HostRuntime,

@@ -4,8 +4,8 @@ use file_commands::{Files, OfficeFiles, Opening};
 use sqlite::{Connection, FileFrom, FileStore, Unknown};
 use stored_files::{Databases, FileFault};
 
-/// The source of files for a command, and the addresses of the devices whose counters the command
-/// reads. An input line may name a file of the operating system.
+/// The files that a command can open, and the addresses of the devices whose counters it can read.
+/// Input lines can also name files, which are read from the operating system.
 #[derive(Clone, Copy)]
 pub(crate) struct Surroundings<'r> {
     pub(crate) rt: &'r HostRuntime,
@@ -14,7 +14,8 @@ pub(crate) struct Surroundings<'r> {
 }
 
 impl<'r> Surroundings<'r> {
-    /// Returns the devices in a command's arguments, with the files of the operating system.
+    /// Returns the surroundings of a command: the devices that its arguments list, and the files of
+    /// the operating system.
     pub(crate) fn new(rt: &'r HostRuntime, line: &'r CommandLine<'r>) -> Surroundings<'r> {
         let places = match line {
             CommandLine::Enter { devices, .. } => devices.as_slice(),

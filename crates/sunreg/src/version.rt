@@ -3,7 +3,7 @@ use command_words::program;
 use std::io::{self, Write};
 use stored_files::{Ending, Failure};
 
-/// Says that the program was not proved.
+/// The text that says that the program was not proved.
 ///
 /// In the program that it proved, `./sunreg-build` replaces this text by a text of the same length,
 /// with the logic of the proofs and the checksum of the sources (bench/identity.py). A source file

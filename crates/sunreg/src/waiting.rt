@@ -1,4 +1,4 @@
-//! A message for a person who starts the program at a terminal without arguments.
+//! A message for a user who starts the program at a terminal without arguments.
 use std::io::{IsTerminal, Write};
 
 const WAITS: &[u8] =

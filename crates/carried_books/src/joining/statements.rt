@@ -22,10 +22,10 @@ use office_events::{Installation, Name};
 use std::alloc::{AllocError, Global};
 use std::io::Write;
 
-/// The meters of an accounting register, with their statements over several files of an office.
+/// The statements of the meters of an accounting register, over several files of an office.
 ///
-/// The value says whether the files record the register, and has the statement of each meter on a
-/// range of days in a time zone.
+/// `is_recorded` says whether any of the files contains the register. `meters` has the statement of
+/// each of its meters for a range of days in the time zone `zone`, over all files together.
 #[derive(Drop)]
 pub struct JoinedStatement {
     pub is_recorded: bool,

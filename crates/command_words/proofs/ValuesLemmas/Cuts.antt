@@ -14,7 +14,7 @@ use Rattle.std.proofs.lemmas.Str.Pattern.{IsSplitOnceResult, NoCharPasses-char, 
 use Rattle.std.proofs.lemmas.List.Sums.{suffix_len_is}
 
 -- If no byte of a text satisfies the predicate, then the text before the split is the complete
--- text.
+-- text, and the text after it is empty.
 first_none : (p : ℕ → Bool) (bs : List ℕ) → position_or_len p bs ≡ length bs → (before_first p bs ≡ bs) × (after_first p bs ≡ [])
 first_none p bs e = (ap (λ n. take n bs) e ∙ take-length bs, ap (λ n. drop (n + 1) bs) e ∙ drop_of_length-le bs (omega arith))
 

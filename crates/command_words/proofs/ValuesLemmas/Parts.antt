@@ -9,7 +9,7 @@ use Rattle.command_words.specs.Values.Devices.{are_distinct, device_in, name_in,
 use Rattle.command_words.specs.Values.Given.{each_of, given}
 use Rattle.command_words.specs.declared.values.devices.Device.{Device}
 
--- ---- the result of parsing a list of options, from the result without the last item
+-- ---- the results for all items of a list, from the results for all items but the last
 
 abbrev with_last : {B : Type 0} → Option (List B) → Option B → Option (List B)
 with_last values value = given values (λ vs. given value (λ v. Some (vs ++ v ∷ [])))
@@ -82,8 +82,7 @@ pub distinct_more : (parts : List (Bor Text)) (i : ℕ) (d : Bor Text) → i < l
 distinct_more parts i d within so_far absent =
     ap (λ b. not b && are_distinct (names_in (texts (drop (i + 1) parts)))) (sym absent) ∙ (sym (distinct_at parts i d within) ∙ so_far)
 
--- If all remaining parts after index `i` are selected, then the result equals the list of parts
--- without the first `i` + 1 parts.
+-- The slice of the parts from index `i` + 1 to the end is the list without its first `i` + 1 parts.
 slice_after : (parts : List (Bor Text)) (i : ℕ) → take (length parts - (i + 1)) (drop (i + 1) parts) ≡ drop (i + 1) parts
 slice_after parts i = let size : length (drop (i + 1) parts) ≡ length parts - (i + 1) = length-drop (i + 1) parts in take_all _ (drop (i + 1) parts) (omega arith)
 

@@ -14,13 +14,13 @@ use Rattle.command_words.specs.declared.values.list_fault.ListFault.TheVariants 
 abbrev pub Text : Type 0
 Text = List ℕ
 
--- The logical model of a device, with its name and the host and port of its address.
+-- The logical model of a device, for contracts: its name, and the host and port of its address.
 pub record Place : Type 0 where
   pub name : Text
   pub host : Text
   pub port : ℕ
 
--- Converts an executable `Device` to its logical model `Place`.
+-- Converts an executable `Device`, which the code uses, to its logical model `Place`.
 abbrev pub place_of : Device → Place
 place_of d = record { name = d.name.now; host = d.host.now; port = d.port }
 

@@ -1,4 +1,4 @@
-//! Parses arguments with `clap`, by a program's table.
+//! Parses arguments with `clap`, as the table of a program's commands and options defines.
 ghost use Rattle.std.specs.Prelude.{◌≡◌, IfOk, true};
 ghost use Rattle.clap.specs.Words.{is_simple_and_free};
 ghost use Rattle.command_words.specs.ClapTable.Table.{Fails, IsFound, program_app};
@@ -8,7 +8,8 @@ use crate::clap_table::tables::ProgramText;
 use clap::{ArgMatches, Error};
 use std::alloc::Global;
 
-/// Parses the arguments after the program's name with `clap`, by the program's table.
+/// Parses the arguments after the program's name with `clap`, as the table of the program's
+/// commands and options defines.
 pub fn matches_of<'a>(
     alloc: Global,
     program: ProgramText<'a>,

@@ -13,7 +13,7 @@ use std::alloc::{AllocError, Global};
 /// The maximum number of devices in a list.
 pub const MOST_DEVICES: usize = 64;
 
-/// The greatest TCP port.
+/// The highest TCP port number.
 pub const MOST_PORT: u32 = 65_535;
 
 /// A device `NAME=HOST:PORT` of a list. The texts are as the user wrote them.
@@ -79,8 +79,8 @@ fn has_name(parts: &[&str], name: &str) -> bool
     parts.iter().any(|part| name == name_of(part))
 }
 
-// Checks that the device names of all parts are different. If a name occurs twice, the error has a
-// part with this name.
+// Checks that the device names of all parts are different. If a name occurs twice, the error
+// contains a part with this name.
 fn distinct<'a>(parts: &[&'a str]) -> Result<(), ListFault<'a>>
     ensures { is_ok result ≡ have_distinct_names parts.now }
 {
@@ -108,7 +108,8 @@ fn each_device<'a>(alloc: Global, parts: &[&'a str]) -> Result<Vec<Device<'a>>, 
     Ok(devices)
 }
 
-// Checks that a device list has at most 64 parts. If there are more, the error has the 65th part.
+// Checks that a device list has at most 64 parts. If there are more, the error contains the 65th
+// part.
 fn few<'a>(parts: &[&'a str]) -> Result<(), ListFault<'a>>
     ensures { MatchResult result (λ _. length parts.now ≤ 64) (λ _. 64 < length parts.now) }
 {

@@ -19,7 +19,7 @@ pub enum DeviceFault {
 /// A reason why a text is no valid list of devices.
 #[derive(Clone, Copy, Debug, PartialEq, Eq, Drop)]
 pub enum ListFault<'a> {
-    /// The part `part` of the list is no valid device.
+    /// The part `part` of the list is not a valid device.
     Part { part: &'a str, fault: DeviceFault },
     Memory,
 }

@@ -29,8 +29,8 @@ part_after o m o' first second appended (part, unwritten, whole, written) = (
   Appends-trans o m o' first part appended written,
 )
 
--- If a writer received a beginning of a text, then it received a beginning of every longer text
--- that begins with this text.
+-- If what a writer received is a prefix of a text, it is also a prefix of every longer text that
+-- begins with this text.
 pub part_of_longer : (o o' : Option (List ℕ)) (text more : List ℕ) → GotPart text o o' → GotPart (text ++ more) o o'
 part_of_longer o o' text more (part, unwritten, whole, written) =
     (part, unwritten ++ more, ap (λ (front : List ℕ). front ++ more) whole ∙ append_assoc part unwritten more, written)

@@ -1,5 +1,5 @@
--- Defines the state of a loop (a script over simulated devices), and the bytes that the loop has
--- written.
+-- Defines the state of a loop (the run of a script against simulated devices), and the bytes that
+-- the loop has written so far.
 use Rattle.std.specs.Prelude.{◌≡◌, ◌⊎◌, ℕ, Bool, List, [], Option, Result, Ok, Err}
 use Rattle.std.specs.Io.KnownBytes.{Appends}
 use Rattle.mb_device.specs.Maps.{Maps}

@@ -1,5 +1,5 @@
-//! The requests that a test sends to an office after its script of events. The first request
-//! exchanges the meter, and the second request voids the meter's reading.
+//! The requests that a test sends to an office after its script of events: one exchanges the meter,
+//! and the other voids the meter's reading.
 
 /// A request that a test sends to an office after its script of events.
 #[derive(Clone, Copy, Debug)]
@@ -20,7 +20,7 @@ const VOID: &[u8] =
 const VOID_DONE: &[u8] =
     b"HTTP/1.1 200 OK\r\nContent-Type: application/json\r\nContent-Length: 15\r\nConnection: close\r\n\r\n{\"done\":\"void\"}";
 
-/// The HTTP response of an office whose store failed.
+/// The HTTP response of an office whose store fails during the request.
 pub(crate) const UNAVAILABLE: &[u8] =
     b"HTTP/1.1 503 Service Unavailable\r\nContent-Type: application/json\r\nContent-Length: 14\r\nConnection: close\r\n\r\n{\"refused\":13}";
 

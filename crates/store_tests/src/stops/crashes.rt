@@ -7,8 +7,9 @@ use sqlite_disk::{Fuse, Memory};
 use std::alloc::Global;
 use std::process::Abort;
 
-/// A task with its number of steps. For each count in `after`, some crash must come after exactly
-/// this many acknowledged steps. The task makes more than `calls` calls of the write-ahead log.
+/// A task that is interrupted by crashes, with its number of steps. For each count in `after`, some
+/// crash must come after exactly this many acknowledged steps. The task makes more than `calls`
+/// calls of the write-ahead log.
 struct Case {
     act: Act,
     steps: usize,
@@ -16,8 +17,8 @@ struct Case {
     calls: usize,
 }
 
-// The tasks that the test interrupts by crashes. In the office's task, the first step creates the
-// tables. The fifth step connects the device, and records nothing.
+// The tasks that the test interrupts by crashes. In the tasks of the office, the first step creates
+// the tables. The fifth step connects the device, and records nothing.
 static CASES: [Case; 3] = [
     Case {
         act: Act::Bring,
@@ -118,8 +119,8 @@ fn stop_all(rt: &impl Abort, alloc: Global, case: &Case) {
     }
 }
 
-// Checks that a crash leaves either the file before the change in flight or the file after this
-// change. Every acknowledged change is in the file.
+// Checks that a crash leaves the file either without the change in progress, or with all of it.
+// Every acknowledged change is in the file.
 #[test]
 fn what_was_acknowledged_is_kept(rt: HostRuntime) {
     for case in &CASES {

@@ -10,9 +10,9 @@ INSERT INTO polls VALUES (1, 'inv', 1, 1898, 0, 3, 40094, 3);
 INSERT INTO outcomes VALUES (1, 1900, 1, 0);
 INSERT INTO intervals VALUES ('m1', 900, 177777), ('m1', 1800, 22223)";
 
-/// SQL statements that insert readings of 100 Wh more for each quarter of an hour of a day. The
-/// step to each reading has 88,888 mWh in the quarter hour of the previous reading, and 11,112 mWh
-/// in the next.
+/// SQL statements that insert a reading for each quarter of an hour of a day, each 100 Wh above the
+/// previous one. Of these 100 Wh, 88,888 mWh belong to the quarter hour of the previous reading,
+/// and 11,112 mWh to the next.
 pub(crate) const DAY: &str =
     "UPDATE installations SET last_moment = 88300, last_raw = 14800, total = 9800000;
 UPDATE intervals SET mwh = 111111 WHERE start = 1800;

@@ -1,4 +1,4 @@
-//! The two files of a database, in memory, for tests of crashes. From a given call of one file on,
+//! The two files of a database, in memory, for tests of crashes. From a chosen call of one file on,
 //! every call fails, as after a crash of the machine.
 use sqlite::{Connection, FileStore, Files, Options};
 use sqlite_disk::{Crash, Disk, Fuse, Memory};
@@ -12,8 +12,8 @@ pub(crate) enum Stopping {
     Database,
 }
 
-/// A crash after a number of calls of one file. Data that was not synced is either lost or in the
-/// file.
+/// A crash after `calls` calls of one file. If `is_lost` is true, data that was not synced is then
+/// lost. Otherwise it is in the file.
 #[derive(Clone, Copy, Debug)]
 pub(crate) struct Stop {
     pub(crate) file: Stopping,
@@ -48,7 +48,7 @@ pub(crate) fn files(
     }
 }
 
-/// Opens a connection to files, or returns the files if the connection fails.
+/// Opens a connection to a database in these files, or returns the files if the connection fails.
 pub(crate) fn connected(
     alloc: Global,
     files: Files<Fuse<Memory>>,
@@ -62,8 +62,8 @@ pub(crate) fn connected(
     }
 }
 
-/// Returns the files after a restart of the machine. Data that was not synced is either lost or in
-/// the file as it was written.
+/// Returns the files after a restart of the machine. If `is_lost` is true, data that was not synced
+/// is lost. Otherwise it is in the file as it was written.
 pub(crate) fn restarted(
     rt: &impl Abort,
     alloc: Global,

@@ -1,5 +1,4 @@
-//! Runs a metering office over a database. The office handles the events of a script and then a
-//! request.
+//! Runs a metering office over a database: it handles the events of a script, and then a request.
 use crate::stops::asked::{Asked, UNAVAILABLE, reply_of, request_of};
 use mb_wire::MemoryLink;
 use office_books::Books;
@@ -21,8 +20,9 @@ const READ: &str = "1000 device inv 1 5 1
 1898 start inv 3 40094 3
 1900 bytes inv 000000000009010306000014500000";
 
-/// Runs all steps except the first over a new store: opens an office, feeds it the events of the
-/// script, and sends a request.
+/// Runs all steps except the first over a new store. They open an office, process the events of the
+/// script, and send a request. Returns how many steps were acknowledged, including the first, and
+/// the store.
 fn play_over<B: Books>(rt: &impl Abort, alloc: Global, books: B, asked: Asked) -> (usize, B) {
     let mut office = match Office::open(alloc, books, 0) {
         Ok(office) => office,
@@ -102,9 +102,9 @@ pub(crate) fn acknowledges<B: Books>(
     panic!(rt; "another reply")
 }
 
-/// Returns how many steps are acknowledged before the store refuses one. The count includes the
-/// first step, which created the tables. The other steps are the events of the script, and then the
-/// request.
+/// Returns how many steps are acknowledged before the store refuses one. The first step, which
+/// created the tables, is already done and counts. The other steps are the events of the script,
+/// and then the request.
 fn steps<B: Books>(rt: &impl Abort, alloc: Global, office: &mut Office<B>, asked: Asked) -> usize {
     let mut steps = 1usize;
     for line in READ.lines() {

@@ -4,7 +4,8 @@ use sqlite::{Alter, Connection};
 use std::process::Abort;
 use store_files::OpenFault;
 
-/// Returns the number of a fault, or 0 for a result without a fault.
+/// Returns the number of the fault with which a database could not be opened, or 0 if it was
+/// opened.
 pub(crate) fn fault(answer: Result<Zone, OpenFault>) -> u8 {
     match answer {
         Ok(_) => 0,

@@ -130,8 +130,8 @@ fn is_in_state<S: Alter>(rt: &impl Abort, connection: &mut Connection<S>, state:
     true
 }
 
-/// Returns true if the store has the changes of all acknowledged steps, and possibly of the step in
-/// flight. The last step is the request.
+/// Returns true if the store has the changes of all acknowledged steps, and possibly those of the
+/// step in progress. The last step is the request.
 fn may_be_recorded<S: Alter>(
     rt: &impl Abort,
     connection: &mut Connection<S>,
@@ -192,8 +192,8 @@ fn remade<S: Alter + Drop>(rt: &impl Abort, alloc: Global, mut connection: Conne
     connection.into_store()
 }
 
-/// Asserts that the acknowledged steps are recorded, and at most the step in flight. If no step was
-/// acknowledged, there may be no tables. Returns the store.
+/// Asserts that all acknowledged steps are recorded, and no other step except possibly the one in
+/// progress. If no step was acknowledged, the tables may be missing. Returns the store.
 pub(crate) fn assert_recovered<S: Alter + Drop>(
     rt: &impl Abort,
     alloc: Global,

@@ -1,4 +1,4 @@
-//! Opens a file of version 1, and asserts which rows the file has after a crash.
+//! Upgrades a file of version 1 by opening it, and asserts which rows the file has after a crash.
 use crate::stops::day::{DAY, FIRST, NEW, OLD, READ, ROWS};
 use crate::stops::shown::{fault, number, shows};
 use sqlite::{Alter, Connection};

@@ -16,8 +16,8 @@ use Rattle.stored_files.specs.declared.joins.stored.JoinFault.TheVariants as fau
 use Rattle.stored_files.specs.declared.joins.stored.JoinedOffice.{JoinedOffice}
 
 module _ {K : Type 0} (k : keepings.Ghosts K) (range : DayRange) (register : List ℕ) (facts : List Fact) where
-  -- If a file is added to a merged report, then the same contract is satisfied for the first file
-  -- and for later files.
+  -- The contract for adding a file to a merged report is the same for the first file and for later
+  -- files.
   pub next_joins : (zone : List ℕ) (before : Option (JoinedOffice K)) (kept : K) (new : JoinedOffice K)
       → AreBefore k zone range before kept → JoinsOne k range register facts kept new.kept → JoinsNext k zone range register facts before new
   next_joins zone None kept new are joins = (are.0, are.1, joins are.0 [] (are.2 register))
@@ -25,8 +25,8 @@ module _ {K : Type 0} (k : keepings.Ghosts K) (range : DayRange) (register : Lis
       joins its files (subst (λ (those : K). k.keeps its range register files those) (sym are) has)
 
   module _ {S : Type 0} (g : Ghosts S) where
-    -- If a store was added to a merged report, then the contract for adding the store's database
-    -- file is satisfied.
+    -- If what a report needs from a store was added to a merged report, then the contract for
+    -- adding the store's database file is satisfied.
     pub joins_file : (old : Held S) (its : List ℕ) (kept : K) (books : SqlBooks S g) (result : Result K JoinFault)
         → (HasCleanDisk (state g books.connection) → HasCleanDisk (state g old)) → HoldsAlone g its books.connection facts
         → IfOk result (JoinsBooks k (ledger_beneath g) books range register kept) → IfOk result (JoinsFile k g old range register facts kept)

@@ -1,4 +1,4 @@
--- Maps errors of SQLite to the faults of copying a database file.
+-- Maps faults to the reasons why a database file can't be copied.
 use Rattle.sqlite.specs.declared.error.ErrorCode.TheVariants as code
 use Rattle.sqlite.specs.declared.error.Error.{Error}
 use Rattle.sqlite.specs.declared.error.Error.TheVariants.{SqliteFailure}
@@ -7,14 +7,15 @@ use Rattle.stored_files.specs.declared.files.faults.FileFault.TheVariants as fil
 use Rattle.stored_files.specs.declared.backups.faults.CopyFault.{CopyFault}
 use Rattle.stored_files.specs.declared.backups.faults.CopyFault.TheVariants.{Changing, Torn, Unwritable, Memory}
 
--- The fault of a copy that can't be opened because of a `FileFault`.
+-- The reason why copying failed, if opening the copy failed with a `FileFault`.
 abbrev pub copy_fault_of : FileFault → CopyFault
 copy_fault_of file.NoDatabase = Torn
 copy_fault_of file.Memory = Memory
 copy_fault_of (file.Log fault) = Changing
 copy_fault_of _ = Unwritable
 
--- The fault of a copy whose log can't be merged into the copied file because of an SQLite error.
+-- The reason why copying failed, if merging the copy's log into the copy failed with an SQLite
+-- error.
 abbrev pub close_fault_of : Error → CopyFault
 close_fault_of (SqliteFailure code.DatabaseCorrupt) = Torn
 close_fault_of (SqliteFailure code.OutOfMemory) = Memory

@@ -17,13 +17,13 @@ use Rattle.carried_books.specs.Carrying.Feeding.{history_with}
 use Rattle.carried_books.specs.Carrying.Plans.{AreCarried}
 use Rattle.carried_books.specs.declared.carrying.commands.TimedCommand.{TimedCommand}
 
--- The history of a new office that was opened at time 0, and then accepted the commands `commands`.
+-- The history of a new office that was opened at time 0 and then accepted the commands `commands`.
 abbrev pub set_up_by : List TimedCommand → History
 set_up_by commands = history_with (Opened 0 ∷ []) commands
 
--- States that an office was rolled over into a new office. The old store was only queried.
--- `commands` follow from its records, and install `meters` meters. The new office has the history
--- of `commands`.
+-- States that an office was rolled over into a new office. The old store was only queried. The
+-- commands `commands` follow from its records, and install `meters` meters. The new office was
+-- opened at time 0, and accepted only these commands.
 pub record GoesOn {O N : Type 0} (of_old : O → Ledger) (of_new : N → Ledger) (old : O)
     (until : Option ℕ) (meters : ℕ) : Type 0 where
   pub asked : O
@@ -54,8 +54,8 @@ module _ {S : Type 0} (g : Ghosts S) where
     pub stands : StandsIfClean (ledger_beneath g) (set_up_by commands) office
 
   -- States that an office with the records `facts` was rolled over into a new database. The new
-  -- office has the old office's time zone, and the history of `commands`, which install `meters`
-  -- meters. The claims require disks that returned what was written to them.
+  -- office has the old office's time zone. It accepted only the commands `commands`, which install
+  -- `meters` meters. The claims hold only if the disks returned what was written to them.
   pub record IsCarriedInto (facts : List Fact) (zone : List ℕ) (until : Option ℕ)
       (new : Held S) (meters : ℕ) : Type 0 where
     pub asked : SqlBooks S g

@@ -21,12 +21,13 @@ ending_number (NoSeal file) = 2
 ending_number (Twice file) = 2
 ending_number (Failed failure) = 3
 
--- States that the command's ending is reported on standard error. Success and refusal are not
--- reported there.
+-- States that a message on standard error reports how the command ended. There is no message after
+-- success or a refusal.
 abbrev pub IsReported : Ending → Type 0
 IsReported ending = 1 < ending_number ending
 
--- The ending of a command that reads standard input and prints, from the command's exit status.
+-- The ending of a command with this exit status. Status `Failed` means here that standard input or
+-- standard output failed, or memory ran out.
 abbrev pub ending_of : ExitStatus → Ending
 ending_of status.Fine = Fine
 ending_of status.Refused = Refused

@@ -1,5 +1,5 @@
 -- Defines the merged report on several files of an office, which are opened one at a time. A
--- `Keeping` stores the data that the report needs from each file.
+-- `Keeping` collects what the report needs from each file.
 use Rattle.std.specs.Prelude.{◌≡◌, ℕ, List, [], ◌∷◌, Option, Some, None, MatchOption, string_bytes}
 use Rattle.sqlite.specs.Store.{Ghosts}
 use Rattle.sqlite.specs.Held.{Held, state}
@@ -16,15 +16,14 @@ use Rattle.stored_files.specs.declared.joins.stored.JoinFault.{JoinFault}
 use Rattle.stored_files.specs.declared.joins.stored.JoinFault.TheVariants as fault
 use Rattle.stored_files.specs.declared.joins.stored.JoinedOffice.{JoinedOffice}
 
--- States that the earlier files of a merged report have the time zone `zone`. True if there is no
--- earlier file.
+-- States that the earlier files of a merged report, if any, have the time zone `zone`.
 abbrev pub IsOfZone : {K : Type 0} → (zone : List ℕ) → Option (JoinedOffice K) → Type 0
 IsOfZone zone before =
     MatchOption before (Unit {0}) (λ joined. string_bytes joined.zone ≡ zone)
 
 module _ {K : Type 0} (k : keepings.Ghosts K) where
-  -- States that `kept` is the data of a merged report before the next file. Before the first file,
-  -- this is the data of an empty report in the time zone `zone`.
+  -- States that `kept` is the data of a merged report so far. Before the first file, this is the
+  -- data of an empty report in the time zone `zone`.
   abbrev pub AreBefore : (zone : List ℕ) → DayRange → Option (JoinedOffice K) → K → Type 0
   AreBefore zone range None kept = (its : Zone) × HasRule zone its
       × ((register : List ℕ) → k.keeps its range register [] kept)
@@ -47,8 +46,8 @@ module _ {K : Type 0} (k : keepings.Ghosts K) where
   JoinsOne range register facts old new = (its : Zone) (files : List (List Fact))
       → k.keeps its range register files old → k.keeps its range register (facts ∷ files) new
 
-  -- States that the store was only queried, and that a report on its records was added to the
-  -- merged report.
+  -- States that a store was only queried, and that what a merged report needs from its records was
+  -- added to the report.
   pub record JoinsBooks {B : Type 0} (ledger : B → Ledger) (books : B) (range : DayRange)
       (register : List ℕ) (old new : K) : Type 0 where
     pub asked : B
@@ -56,14 +55,14 @@ module _ {K : Type 0} (k : keepings.Ghosts K) where
     pub joins : (known : List Fact) → (ledger books).holds known → (ledger asked).is_clean
         → JoinsOne range register known old new
 
-  -- States the reason why a file with the records `facts` can't be added to the merged report. Only
-  -- the fault `Unjoined` has a specified reason.
+  -- States what is true of a file with the records `facts` if it can't be added to a merged report
+  -- for the reason `why`. Only the reason `Unjoined` says something about the records.
   abbrev pub Parts : DayRange → (register : List ℕ) → (facts : List Fact) → K → JoinFault → Type 0
   Parts range register facts kept (fault.Unjoined why) = k.parts range register facts kept why
   Parts range register facts kept why = Unit {0}
 
-  -- States that the store was only queried, and that its records could not be added to the merged
-  -- report.
+  -- States that a store was only queried, and that its records could not be added to a merged
+  -- report, for the reason `why`.
   pub record PartsBooks {B : Type 0} (ledger : B → Ledger) (books : B) (range : DayRange)
       (register : List ℕ) (kept : K) (why : JoinFault) : Type 0 where
     pub asked : B
@@ -80,8 +79,8 @@ module _ {K : Type 0} (k : keepings.Ghosts K) where
       pub joins : (ledger_beneath g asked).is_clean → JoinsOne range register facts kept new
 
     -- States that a file with the records `facts` and the time zone `zone` was added to a merged
-    -- report of earlier files in this time zone. The claims require a disk that returned what was
-    -- written to it.
+    -- report, whose earlier files have the same time zone. The claims hold only if the disk
+    -- returned what was written to it.
     pub record JoinsOffice (old : Held S) (zone : List ℕ) (range : DayRange) (register : List ℕ)
         (facts : List Fact) (before : Option (JoinedOffice K)) (new : JoinedOffice K) : Type 0 where
       pub asked : SqlBooks S g
@@ -98,9 +97,9 @@ module _ {K : Type 0} (k : keepings.Ghosts K) where
       pub clean : (ledger_beneath g asked).is_clean → HasCleanDisk (state g old)
       pub parts : (ledger_beneath g asked).is_clean → Parts range register facts kept why
 
-    -- States the reason why a file was not added to a merged report, if it has the time zone of the
-    -- earlier files. The file was not opened, its records don't continue the earlier records, or
-    -- its store failed.
+    -- States what is true of a file with the time zone of the earlier files, if it was not added to
+    -- a merged report. The office was not opened, its records don't continue the earlier records,
+    -- or its store failed.
     abbrev pub PartsFrom : (old : Held S) → DayRange → (register : List ℕ) → (facts : List Fact)
         → (kept : K) → JoinFault → Type 0
     PartsFrom old range register facts kept (fault.Unopened why) = Unit {0}
@@ -119,8 +118,8 @@ module _ {K : Type 0} (k : keepings.Ghosts K) where
       pub are : (ledger_beneath g asked).is_clean → AreBefore zone range before kept
       pub parts : (ledger_beneath g asked).is_clean → Parts range register facts kept why
 
-    -- States the reason why a file was not added to a merged report, although the file has the time
-    -- zone of the earlier files.
+    -- States what is true of a file with the time zone of the earlier files, if it was not added to
+    -- a merged report. It refers to the data `before` of the earlier files.
     abbrev pub RefusesIn : (old : Held S) → (zone : List ℕ) → DayRange → (register : List ℕ)
         → (facts : List Fact) → (before : Option (JoinedOffice K)) → JoinFault → Type 0
     RefusesIn old zone range register facts before (fault.Unopened why) = Unit {0}
@@ -135,8 +134,9 @@ module _ {K : Type 0} (k : keepings.Ghosts K) where
       pub left : Held S
       pub other : HasCleanDisk (state g left) → IsOfZone zone before → ⊥
 
-    -- States the reason why a file was not added to a merged report. The file was not opened, has
-    -- another time zone, does not continue the earlier records, or its store failed.
+    -- States what is true of a file that was not added to a merged report. The office was not
+    -- opened, the time zone differs, the records don't continue the earlier records, or the store
+    -- failed.
     abbrev pub RefusesOffice : (old : Held S) → (zone : List ℕ) → DayRange → (register : List ℕ)
         → (facts : List Fact) → (before : Option (JoinedOffice K)) → JoinFault → Type 0
     RefusesOffice old zone range register facts before (fault.Unopened why) = Unit {0}

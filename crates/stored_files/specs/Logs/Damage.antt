@@ -4,13 +4,13 @@ use Rattle.std.specs.Prelude.{◌≡◌, ◌≢◌, ◌⊎◌, ℕ, ◌+◌, ◌
 use Rattle.sqlite_wal.specs.Format.{count_page, commit_size, page_number, IsSigned, IsHeader}
 use Rattle.sqlite_wal.specs.Recovery.{Passes, Replays, frame, frame_at, header, pages_after}
 
--- States that the log is long enough for its header and a frame's header. A shorter log has no
+-- States that the log is long enough for its header and the header of a frame. A shorter log has no
 -- commit.
 abbrev pub HasRoom : List ℕ → Type 0
 HasRoom log = 32 + 24 ≤ length log
 
--- States that frame `i` begins a transaction. Frame `i` - 1 is a commit, and frame `i` continues
--- the checksum of frame `i` - 1.
+-- States that frame `i` begins a transaction directly after another. Frame `i` - 1 ends a commit,
+-- and frame `i` continues the checksum of frame `i` - 1.
 pub record Begins (page_size : ℕ) (log : List ℕ) (i : ℕ) : Type 0 where
   pub commits : commit_size (frame page_size log (i - 1)) ≢ 0
   pub passes : Passes page_size log i
@@ -20,10 +20,11 @@ pub record Begins (page_size : ℕ) (log : List ℕ) (i : ℕ) : Type 0 where
 abbrev pub IsOpen : ℕ → List ℕ → ℕ → Type 0
 IsOpen page_size log k = slice_index log (frame_at page_size k + 8) ≡ slice_index log 16
 
--- States that a transaction begins at frame `i`, but that recovery ends earlier, at frame `k`.
--- Since each transaction begins after the previous transaction is on the disk, frame `k` was
--- damaged later. If the gate of `k` differs from the header's salt byte, frame `i` must be a count
--- frame. Frames of one large transaction look similar, but are no count frames.
+-- States that a transaction begins at frame `i`, but that recovery ends earlier, at frame `k`. A
+-- transaction begins only after the previous one is on the disk. The transaction at frame `k` was
+-- therefore complete, and was damaged later. If the gate of frame `k` differs from the header's
+-- salt byte, frame `i` must be a count frame. Frames of one large transaction look similar, but are
+-- no count frames.
 pub record IsCutOff (page_size : ℕ) (log : List ℕ) (k i : ℕ) : Type 0 where
   pub behind : k < i
   pub begins : Begins page_size log i
@@ -36,7 +37,7 @@ pub record LosesFrom (page_size : ℕ) (log : List ℕ) (k : ℕ) : Type 0 where
   pub lost : (i : ℕ) × IsCutOff page_size log k i
 
 -- States that recovery replays every transaction that was on the disk, as far as the bytes of the
--- log show these transactions.
+-- log can show this.
 pub record IsWhole (page_size : ℕ) (log : List ℕ) : Type 0 where
   pub head : IsHeader page_size (header log)
   pub taken : ℕ
@@ -50,24 +51,24 @@ IsSound page_size log = (length log < 32 + 24) ⊎ IsWhole page_size log
 
 -- ---- logs whose first byte a checkpoint has changed
 
--- States that the log's first byte is not the first byte of an SQLite log. A checkpoint changes
--- this byte once the database file has all pages, and restores it when the new header is on the
--- disk.
+-- States that the log's first byte is not that of an SQLite log. A checkpoint changes this byte
+-- once the database file has all pages of the log. It restores the byte when the log's new header
+-- is on the disk.
 abbrev pub IsShut : List ℕ → Type 0
 IsShut log = slice_index log 0 ≢ 0x37
 
--- The write-ahead log with its original first byte, before a checkpoint changed this byte.
+-- The write-ahead log with the first byte that it had before a checkpoint changed this byte.
 abbrev pub opened : List ℕ → List ℕ
 opened log = slice_set log 0 0x37
 
--- States that each page of the database file equals this page after replaying the first `k` frames
--- of the log.
+-- States that replaying the first `k` frames of the log would leave each page of the database file
+-- unchanged.
 abbrev pub KeepsPages : ℕ → List ℕ → List ℕ → ℕ → Type 0
 KeepsPages page_size log db k =
     (n : ℕ) → pages_after page_size log db k n ≡ pages_after page_size [] db 0 n
 
--- States that the database file has all committed pages of the log, so that ignoring the log loses
--- nothing.
+-- States that the database file already has all committed pages of the log, so that ignoring the
+-- log loses nothing.
 pub record KeepsAll (page_size : ℕ) (log db : List ℕ) : Type 0 where
   pub head : IsHeader page_size (header log)
   pub taken : ℕ

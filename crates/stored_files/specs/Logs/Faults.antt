@@ -8,22 +8,21 @@ use Rattle.stored_files.specs.declared.logs.check.LogFault.{LogFault}
 use Rattle.stored_files.specs.declared.logs.check.LogFault.TheVariants.{Header, Count, Commits, Memory}
 use Rattle.stored_files.specs.Logs.Damage.{HasRoom, LosesFrom}
 
--- States the cause of a fault, as a property of the rejected log and of the database's page size.
+-- States what is true of a log that is rejected for the reason of a `LogFault`.
 abbrev pub IsCause : ℕ → List ℕ → LogFault → Type 0
 IsCause page_size log Header = HasRoom log × (¬ IsHeader page_size (header log))
 IsCause page_size log Count = (k : ℕ) → ¬ Replays page_size log k
 IsCause page_size log (Commits at) = (k : ℕ) × (at ≡ frame_at page_size k) × LosesFrom page_size log k
 IsCause page_size log Memory = ⊤
 
--- States the cause of a fault that recovery reports, as a property of a log whose frames can't be
--- read.
+-- States what is true of a log whose frames recovery can't read, for the reason of a `LogFault`.
 abbrev pub IsUnread : ℕ → List ℕ → LogFault → Type 0
 IsUnread page_size log Count = (k : ℕ) → ¬ Replays page_size log k
 IsUnread page_size log Memory = ⊤
 IsUnread page_size log Header = ⊥
 IsUnread page_size log (Commits at) = ⊥
 
--- The fault of a log whose recovery failed with an SQLite error.
+-- The reason for rejecting a log, if reading its frames failed with an SQLite error.
 abbrev pub fault_of : Error → LogFault
 fault_of Corrupt = Count
 fault_of _ = Memory

@@ -1,4 +1,4 @@
-//! Defines the reasons why copying a database file fails, with their messages.
+//! Defines the reasons why a database file can't be copied, with their messages.
 ghost use Rattle.std.specs.Prelude.{◌≡◌};
 ghost use Rattle.stored_files.specs.Backups.Faults.{close_fault_of, copy_fault_of};
 
@@ -7,22 +7,22 @@ use sqlite::{Error, ErrorCode};
 use std::fmt;
 use std::fmt::{Display, Formatter};
 
-/// A reason why copying a database file fails.
+/// A reason why a database file can't be copied.
 #[derive(Clone, Copy, Debug, PartialEq, Eq)]
 pub enum CopyFault {
     /// A file with the name of the copy, or of its log, exists already.
     Exists,
-    /// A backup to the same file name is running, or was interrupted.
+    /// A backup to the same file name is still running, or was interrupted and left a `.part` file.
     Unfinished,
     /// The name of the copy has a reserved suffix: -wal, -journal, -shm or .part.
     Reserved,
-    /// The copied file can't be written.
+    /// The copy can't be opened or written.
     Unwritable,
-    /// At each attempt, another process merged the log into the file during the copy.
+    /// At each attempt, another process merged the log into the original file during the copying.
     Changing,
     /// The copy is not a database, or its database is damaged.
     Torn,
-    /// The copied file does not have the tables of an office.
+    /// The copy does not have the tables of an office.
     NotOurs,
     Memory,
 }
@@ -48,8 +48,8 @@ impl Display for CopyFault {
     }
 }
 
-/// Maps a fault of opening a copied file to a `CopyFault`. A damaged log means that a commit was
-/// written during the copy, because the original log was checked earlier.
+/// Maps a fault of opening a copy to a `CopyFault`. The original log was checked before. Damage in
+/// the copy's log therefore means that a commit was written during the copying.
 pub(crate) fn copy_fault_of(fault: FileFault) -> CopyFault
     ensures { result ≡ copy_fault_of fault }
 {
@@ -63,7 +63,8 @@ pub(crate) fn copy_fault_of(fault: FileFault) -> CopyFault
     }
 }
 
-/// Maps an SQLite error to a `CopyFault`, if a copy's log could not be merged into the copied file.
+/// Maps an SQLite error to a `CopyFault`. The error occurred while a copy's log was merged into the
+/// copy.
 pub(crate) fn close_fault_of(error: Error) -> CopyFault
     ensures { result ≡ close_fault_of error }
 {

@@ -30,9 +30,9 @@ fn close_alone<D: Disk + Drop>(connection: Connection<FileStore<D>>) -> Result<F
     }
 }
 
-/// Merges the log of an office's database into its file, and returns both files. The file alone
-/// then has all records, for tables of any version. Returns `NotOurs` unless the tables have the
-/// names of an office's tables, in their order.
+/// Merges the log of an office's database into its file, and returns the file and the log. The file
+/// alone then has all records. The tables may be of any version. Returns `NotOurs` unless the
+/// tables have the names of an office's tables, in their order.
 pub fn whole_files<D: Disk + Drop>(
     connection: Connection<FileStore<D>>,
 ) -> Result<Files<D>, CopyFault>
@@ -49,9 +49,9 @@ pub fn whole_files<D: Disk + Drop>(
 }
 
 /// Merges the log beside the file at a path into the file, even if the log has lost commits. The
-/// file then has the records that recovery finds. No other process may have the file or the log
-/// open, because the result would lack that process's writes. `S` specifies the earlier content of
-/// the file and the log.
+/// file then has the records that SQLite's recovery finds. No other process may have the file or
+/// the log open, because the result would lack that process's writes. `S` specifies the earlier
+/// content of the file and the log.
 pub fn recovered_file<S: Start>(
     rt: &HostRuntime,
     path: &str,
@@ -67,8 +67,8 @@ pub fn recovered_file<S: Start>(
     }
 }
 
-/// Merges the log beside the file at a path into the file by `whole_files`, if the log has lost no
-/// commits.
+/// Merges the log beside the file at a path into the file, as `recovered_file` does, but only if
+/// the log has lost no commits.
 pub fn whole_file<S: Start>(
     rt: &HostRuntime,
     path: &str,

@@ -20,7 +20,7 @@ use std::alloc::Global;
 /// A reason why an office was not rolled over into a new database.
 #[derive(Clone, Copy, Debug, PartialEq, Eq)]
 pub enum CarryEnd {
-    /// The old database has no office that could be opened.
+    /// The office in the old database could not be opened.
     Unopened(OpenFault),
     /// The tables of the new office could not be created.
     Unmade(OpenFault),
@@ -28,7 +28,8 @@ pub enum CarryEnd {
     Ended(CarryFault),
 }
 
-// Opens a new office over a store, and rolls the old store over into the new office.
+// Opens a new office over the store `new`, and rolls the office of the store `old` over into it.
+// Returns the number of meters that continue in the new office.
 fn carry_into<O: Books, N: Books>(
     alloc: Global,
     old: O,
@@ -47,7 +48,7 @@ fn carry_into<O: Books, N: Books>(
     }
 }
 
-// Creates the tables of a new office, and rolls the old store over into the new office.
+// Creates the tables of a new office, and rolls the office of the store `old` over into it.
 fn carry_into_created<O: Books, S: Alter + Drop>(
     alloc: Global,
     old: O,
@@ -84,8 +85,8 @@ fn carry_opened<S: Alter + Drop>(
 }
 
 /// Creates a new office in an empty database, with the time zone of an old office, and rolls the
-/// old office over with `carry_books`. The new office is opened at time 0, so that every later
-/// timestamp is valid.
+/// old office over with `carry_books`. Returns the number of meters that continue in the new
+/// office. The new office is opened at time 0, so that every later timestamp is valid.
 pub fn carry_stored<S: Alter + Drop>(
     alloc: Global,
     old: Connection<S>,

@@ -46,8 +46,8 @@ fn zone_of(row: &Row) -> Result<String, OpenFault>
     }
 }
 
-// Reads the text of the time zone from the query's only result row. Fails if the query returned
-// another number of rows.
+// Reads the text of the time zone from the rows of the query. Fails unless there is exactly one
+// row.
 fn zone_in(rows: &[Row]) -> Result<String, OpenFault>
     ensures { (m : Meta) → rows.now ≡ zone_shown m ∷ []
         → IfOk result (λ zone. string_bytes zone ≡ m.zone) }
@@ -58,7 +58,8 @@ fn zone_in(rows: &[Row]) -> Result<String, OpenFault>
     }
 }
 
-// Queries the time zone of an office's file that is open.
+// Queries the time zone of an office's file. The caller must have checked that the database is
+// open.
 fn zone_of_open<S: Alter>(connection: &mut Connection<S>) -> Result<String, OpenFault>
     ensures clean { HasCleanDisk (state S.Store connection.new)
         → HasCleanDisk (state S.Store connection.old) }
@@ -92,8 +93,8 @@ fn zone_of_file<S: Alter>(connection: &mut Connection<S>) -> Result<String, Open
     }
 }
 
-/// Returns the time zone of an office's file as text, for tables of any version. Writes nothing to
-/// the file.
+/// Returns the time zone of an office's file as text. The tables may be of any version. Writes
+/// nothing to the file.
 pub fn read_zone_text<S: Alter>(connection: &mut Connection<S>) -> Result<String, OpenFault>
     ensures foreign { ((layout : TheLayout) → ¬ IsNamedAs connection.old.schema layout)
         → result ≡ Err OpenFault.NotOurs }

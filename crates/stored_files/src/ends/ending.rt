@@ -7,25 +7,25 @@ use crate::ends::named::Named;
 use command_io::ExitStatus;
 use std::io::Write;
 
-/// The ending of a command, from which the exit status and the message follow.
+/// How a command ended. The exit status and the message follow from this.
 #[derive(Drop)]
 pub enum Ending<'a> {
     Fine,
     /// The input is wrong, or the office refused the input. The output states the reason.
     Refused,
-    /// The arguments are wrong. The text states the reason.
+    /// The arguments are wrong. The text is the message with the reason.
     Wrong(String),
     /// The command line arguments are not valid UTF-8.
     NoText,
-    /// The value of an option is not a time zone.
+    /// The value of the option `--zone` is not a time zone.
     NoZone(&'a str),
-    /// The value `word` of the option `option` is not a day.
+    /// The value `word` of the option `option` is not a calendar date.
     NoDay { option: &'a str, word: &'a str },
     /// The requested range of days ends before it begins.
     Backward,
     /// The file in the option `--against` does not have the text of a seal.
     NoSeal(&'a str),
-    /// The same file was given twice.
+    /// This database file was given twice.
     Twice(&'a str),
     Failed(Failure<'a>),
 }
@@ -46,8 +46,8 @@ impl<'a> Ending<'a> {
     }
 }
 
-/// Returns the ending of a command that reads standard input and prints, from the command's exit
-/// status.
+/// Maps the exit status of a command to its ending. Status `Failed` means here that standard input
+/// or standard output failed, or memory ran out.
 pub fn ending_of(status: ExitStatus) -> Ending<'static>
     ensures { result ≡ ending_of status }
 {
@@ -58,9 +58,8 @@ pub fn ending_of(status: ExitStatus) -> Ending<'static>
     }
 }
 
-/// Writes the error message of a command to standard error. Writes nothing after success or a
-/// refusal, because standard output reports these. Errors while writing to standard error are
-/// ignored.
+/// Writes the error message of a command to `errors`. Writes nothing after success or a refusal,
+/// because standard output reports these. Ignores a failure to write.
 pub fn say<W: Write>(ending: &Ending<'_>, errors: &mut W)
     ensures { IsReported ending.now ⊎ (errors.new ≡ errors.old) }
 {

@@ -20,16 +20,16 @@ pub enum Failure<'a> {
         host: &'a str,
         port: u16,
     },
-    /// The program can't listen on the loopback network.
+    /// The program can't listen on the loopback address 127.0.0.1.
     Loopback,
-    /// The program could not accept a further connection.
+    /// The HTTP server could not accept another connection.
     Listening,
-    /// The database in a file could not be opened.
+    /// The database in the file could not be opened, or its log is damaged.
     File {
         path: &'a str,
         fault: FileFault,
     },
-    /// The tables of a new office could not be created.
+    /// The tables of a new office could not be created in the file.
     Unmade {
         path: &'a str,
         fault: OpenFault,
@@ -38,12 +38,12 @@ pub enum Failure<'a> {
     Occupied {
         path: &'a str,
     },
-    /// The file's office could not be opened.
+    /// The office in the file could not be opened.
     Unopened {
         path: &'a str,
         fault: OpenFault,
     },
-    /// The file has no tables. The office's tables may be in a log that is missing.
+    /// The file has no tables. They may be in the file's log, which may be missing.
     Bare {
         path: &'a str,
     },
@@ -51,7 +51,7 @@ pub enum Failure<'a> {
     LogAlone {
         path: &'a str,
     },
-    /// The log of the file has lost no commits, so there is nothing to recover.
+    /// The log of the file has lost no commits, so recovery has nothing to do.
     Undamaged {
         path: &'a str,
     },
@@ -81,18 +81,20 @@ pub enum Failure<'a> {
         host: &'a str,
         port: u16,
     },
-    /// A round of polls reached the limit of reads and writes on its link.
+    /// A round of polls ended at the limit of reads and writes on the connection, because the
+    /// device sent data without end but no valid response.
     Endless {
         host: &'a str,
         port: u16,
     },
-    /// The host name of a device has no IP address.
+    /// The host name of a device can't be resolved to an IP address.
     Host {
         host: &'a str,
     },
     /// The operating system can't report which sockets are ready.
     Sockets,
-    /// The office stopped accepting events while the program polled devices.
+    /// The office stopped while the program polled devices, because its store failed or memory ran
+    /// out. Or a file of the office was lost.
     Stopped,
 }
 
@@ -199,7 +201,8 @@ impl<'a> Display for Failure<'a> {
 
 impl<'a> Error for Failure<'a> {}
 
-// Returns the message that reports why tables could not be created, with the remedy.
+// Returns the part of a message that says why the tables of an office could not be created, and
+// what to do.
 fn why_unmade(fault: OpenFault) -> &'static str {
     match fault {
         OpenFault::NotOurs => "already has tables: skip create, or choose another file",
@@ -210,7 +213,7 @@ fn why_unmade(fault: OpenFault) -> &'static str {
     }
 }
 
-// Returns the message that reports why an office could not be opened, with the remedy.
+// Returns the part of a message that says why an office could not be opened, and what to do.
 fn why_unopened(fault: OpenFault) -> &'static str {
     match fault {
         OpenFault::NotOurs =>
@@ -222,7 +225,7 @@ fn why_unopened(fault: OpenFault) -> &'static str {
     }
 }
 
-// Returns the message that reports why a file could not be audited, with the remedy.
+// Returns the part of a message that says why a file could not be audited, and what to do.
 fn why_unaudited(fault: AuditFault) -> &'static str {
     match fault {
         AuditFault::NotOurs =>

@@ -2,7 +2,8 @@
 use std::fmt;
 use std::fmt::{Display, Formatter};
 
-/// A file's name, printed in a message on one line. A line feed in the name is printed as `\x0a`.
+/// The name of a file in a message. A line feed in the name is printed as `\x0a`, so that the
+/// message stays on one line.
 #[derive(Clone, Copy, Debug)]
 pub struct Named<'a>(pub &'a str);
 

@@ -10,8 +10,8 @@ use sqlite_wal::PageSize;
 use std::fs::{self, File};
 use std::io::{self, ErrorKind, Read};
 
-/// The greatest length of a log that the check reads: 1 GiB. The writer's checkpoints keep a log
-/// much smaller.
+/// The maximum number of bytes of a log that the check reads: 1 GiB. Checkpoints keep a log much
+/// shorter.
 const MOST_LOG: u64 = 1_073_741_824;
 
 /// The length of a database file's header, in bytes.
@@ -30,7 +30,8 @@ fn read_fault(error: io::Error) -> FileFault
     }
 }
 
-/// Rejects a path that exists but is not a regular file, because reading it could block forever.
+/// Rejects a path that exists but is not a regular file. Reading from such a path, such as a pipe,
+/// could block forever.
 pub fn check_regular(rt: &HostRuntime, path: &str) -> Result<(), FileFault>
     ensures { IfErr result (λ fault. fault ≢ FileFault.Missing) }
 {
@@ -65,8 +66,7 @@ pub(crate) fn read_log(rt: &HostRuntime, path: &str) -> Result<Vec<u8>, FileFaul
     read_up_to(rt, path, MOST_LOG)
 }
 
-/// Reads the header of a database file. If the file is shorter than a header, returns the complete
-/// file.
+/// Reads the header of a database file. Returns the complete file if it is shorter than a header.
 pub(crate) fn read_front(rt: &HostRuntime, path: &str) -> Result<Vec<u8>, FileFault>
     ensures { IfErr result (λ fault. fault ≢ FileFault.Missing) }
 {
@@ -84,7 +84,7 @@ pub(crate) fn page_size_in(db: &[u8]) -> Option<PageSize>
     PageSize::new(if named == 1 { 65536 } else { named })
 }
 
-// Checks the log of a database file with the page size `size`.
+// Checks the log of a database file whose page size is `size`.
 fn check_log_for(rt: &HostRuntime, path: &str, log: &[u8], size: PageSize) -> Result<(), FileFault>
     ensures { IfErr result (λ fault. fault ≢ FileFault.Missing) }
 {
@@ -101,8 +101,8 @@ fn check_log_for(rt: &HostRuntime, path: &str, log: &[u8], size: PageSize) -> Re
     }
 }
 
-// Checks the log beside the file at a path once. Accepts a file without a page size, because
-// opening this file reports that it is no database.
+// Checks the log beside the file at a path once. Accepts a file whose header has no valid page
+// size, because opening the file reports that it is no database.
 fn check_once(rt: &HostRuntime, path: &str) -> Result<(), FileFault>
     ensures { IfErr result (λ fault. fault ≢ FileFault.Missing) }
 {
@@ -117,10 +117,11 @@ fn check_once(rt: &HostRuntime, path: &str) -> Result<(), FileFault>
     }
 }
 
-/// Checks that opening the database file at a path loses no commit in its log. Reports damage only
-/// if a second check finds the same damage, and otherwise `Busy`, because another process may be
-/// writing during a check. By the second check, everything written before the first check is in the
-/// files.
+/// Checks that opening the database file at a path loses no commit in its log. While another
+/// process writes, a check may find damage that does not exist. After damage, the function
+/// therefore checks again. It reports damage only if both checks find the same damage, and `Busy`
+/// if they find different damage. By the second check, everything written before the first check is
+/// in the files.
 pub fn check_beside(rt: &HostRuntime, path: &str) -> Result<(), FileFault>
     ensures { IfErr result (λ fault. fault ≢ FileFault.Missing) }
 {

@@ -18,7 +18,7 @@ pub enum FileFault {
     NoDatabase,
     /// The operating system refuses to open, read or write the file.
     Unreadable,
-    /// The path is not a regular file, but a folder, a pipe or a device.
+    /// The path leads to a folder, a pipe or a device instead of a regular file.
     Irregular,
     /// The write-ahead log beside the database file has lost commits.
     Log(LogFault),
@@ -26,7 +26,7 @@ pub enum FileFault {
 }
 
 impl FileFault {
-    /// Returns the number of the fault, counted from 1. The program never prints this number.
+    /// Returns a number from 1 that identifies the fault. The program never prints this number.
     pub fn number(self) -> u8
         ensures { result ≡ file_fault_number self }
     {

@@ -12,11 +12,11 @@ use crate::files::faults::{FileFault, fault_of};
 use sqlite::{Alter, Connection, FileFrom, FileStore, Start};
 use std::fs;
 
-/// A connection to a database file. `S` specifies the file's content when it is opened.
+/// A connection to a database in a file. `S` specifies the file's content when it is opened.
 pub type FileConnection<S> = Connection<FileStore<FileFrom<S>>>;
 
-/// A source of databases. Functions with a connection are generic over this source, because proofs
-/// over a connection to a file take minutes each.
+/// A way to open databases. Functions that use a connection are generic over it, because proofs
+/// about a connection to a file would take minutes each.
 pub trait Databases {
     type Store: Alter + Drop;
 
@@ -28,7 +28,7 @@ pub trait Databases {
 }
 
 /// Opens the database in a file, or creates an empty database if the file does not exist. Unlike
-/// [`make_file`], does not check whether the log has lost commits.
+/// [`make_file`], it does not check whether the log has lost commits.
 pub fn connect<S: Start>(
     rt: &HostRuntime,
     path: &str,
@@ -49,7 +49,7 @@ pub fn connect<S: Start>(
 }
 
 /// Opens the database in a file, or creates an empty database if the file does not exist. If the
-/// file's log has lost commits, fails and changes neither the file nor the log.
+/// file's log has lost commits, the function fails, and changes neither the file nor the log.
 pub fn make_file<S: Start>(
     rt: &HostRuntime,
     path: &str,
@@ -72,7 +72,7 @@ pub fn make_file<S: Start>(
     }
 }
 
-/// Opens the database in an existing file.
+/// Opens the database in a file, as [`make_file`] does, but fails if the file does not exist.
 pub fn open_file<S: Start>(
     rt: &HostRuntime,
     path: &str,

@@ -1,4 +1,4 @@
-//! Repairs the header of a write-ahead log in a copy of a database's files.
+//! Repairs the header of a write-ahead log, in a copy of a database file and its log.
 use crate::files::beside::{page_size_in, read_front, read_log};
 use crate::files::faults::FileFault;
 use crate::files::paths::log_of;
@@ -9,15 +9,15 @@ use std::io::{self, Write};
 /// The result of repairing the header of a write-ahead log.
 #[derive(Clone, Copy, Debug, PartialEq, Eq)]
 pub enum LogHeader {
-    /// The header of the log was not damaged.
+    /// The header of the log was not damaged, or there is nothing to repair.
     Sound,
     /// One byte of the header was damaged, and was repaired.
     Mended,
-    /// More than one byte of the header is damaged, so the log can't be read.
+    /// No change of one byte repairs the header, so the log can't be read.
     Lost,
 }
 
-// Returns the header of a write-ahead log, or None if the log is too short for frames.
+// Returns the header of a write-ahead log, or None if the log is too short to have a frame.
 fn header_of(log: &[u8]) -> Option<[u8; 32]> {
     if log.len() < HEADER_LEN + FRAME_HEADER_LEN {
         return None;
@@ -29,7 +29,7 @@ fn header_of(log: &[u8]) -> Option<[u8; 32]> {
     Some(head)
 }
 
-// Overwrites the header of a write-ahead log file.
+// Overwrites the header of the write-ahead log at a path, and waits until it is on the disk.
 fn write_header(rt: &HostRuntime, path: &str, header: &[u8; 32]) -> io::Result<()> {
     let mut log = OpenOptions::new().write(true).open(rt, path)?;
     log.write_all(header)?;
@@ -37,7 +37,7 @@ fn write_header(rt: &HostRuntime, path: &str, header: &[u8; 32]) -> io::Result<(
 }
 
 /// Repairs the header of the log beside the file at a path, if one byte of the header is damaged.
-/// The file and the log must be copies.
+/// Use it only on copies of an office's files, because it overwrites the header of the log.
 pub fn mend_beside(rt: &HostRuntime, path: &str) -> Result<LogHeader, FileFault> {
     let Ok(log_path) = log_of(rt, path) else {
         return Err(FileFault::Memory);

@@ -1,10 +1,10 @@
-//! Returns the path of a file's log, the real path of a file, and the lengths of files.
+//! Finds the paths and lengths of database files and their logs.
 use crate::ends::Failure;
 use std::fs;
 use std::io::ErrorKind;
 
-/// Returns the path of a file with symbolic links resolved, or the given path if it can't be
-/// resolved.
+/// Returns the absolute path of a file with symbolic links resolved, or the path `path` if the
+/// system can't resolve it.
 pub fn real_path<'a>(rt: &HostRuntime, path: &str) -> Result<String, Failure<'a>> {
     let text = match fs::canonicalize(rt, path) {
         Ok(real) => String::from_str(rt.alloc(), real.as_str()),
@@ -16,7 +16,8 @@ pub fn real_path<'a>(rt: &HostRuntime, path: &str) -> Result<String, Failure<'a>
     }
 }
 
-/// Returns the path of a database file's write-ahead log, which is in the same folder.
+/// Returns the path of a database file's write-ahead log. SQLite keeps the log beside the file to
+/// which a symbolic link leads.
 pub fn log_of<'a>(rt: &HostRuntime, path: &str) -> Result<String, Failure<'a>> {
     let real = real_path(rt, path)?;
     match format!(in rt.alloc(); "{}-wal", real.as_str()) {
@@ -25,8 +26,8 @@ pub fn log_of<'a>(rt: &HostRuntime, path: &str) -> Result<String, Failure<'a>> {
     }
 }
 
-/// Returns the length of a file in bytes. None if the file does not exist, and 0 if its length
-/// can't be read.
+/// Returns the length of a file in bytes, None if the file does not exist, or 0 if its length can't
+/// be read.
 pub fn length_of(rt: &HostRuntime, path: &str) -> Option<u64> {
     match fs::metadata(rt, path) {
         Ok(found) => Some(found.len()),

@@ -1,4 +1,4 @@
-//! Merges the reports on an office's database files, with one file open at a time.
+//! Merges the reports on several database files of an office, with one file open at a time.
 ghost use Rattle.std.specs.Prelude.{◌≡◌, ◌≢◌, ◌↔◌, ℕ, List, Err, IfErr, IfOk, IsTrue, string_bytes};
 ghost use Rattle.office_events.specs.declared.facts.Fact.{Fact};
 ghost use Rattle.office_rules.specs.History.{History, facts_of};
@@ -22,17 +22,17 @@ use std::alloc::Global;
 /// A reason why a database file could not be added to a merged report.
 #[derive(Clone, Copy, Debug, PartialEq, Eq)]
 pub enum JoinFault {
-    /// The database has no office that could be opened.
+    /// The office in the database could not be opened.
     Unopened(OpenFault),
     /// The file has another time zone than the earlier files of the merged report.
     OtherZone,
-    /// The accounting register, or one of its meters, does not continue the earlier files.
+    /// The accounting register, or one of its meters, does not continue from the earlier files.
     Unjoined(Unjoined),
     /// The file's store failed, or memory ran out.
     Books(Refusal),
 }
 
-/// The data of a merged report after one or more files, with the time zone of the files as text.
+/// The data of a merged report so far, and the time zone of its files as text.
 #[derive(Drop)]
 pub struct JoinedOffice<K> {
     pub zone: String,
@@ -49,8 +49,8 @@ fn is_of_zone<K>(zone: &str, before: &Option<JoinedOffice<K>>) -> bool
     }
 }
 
-// Returns the data of a merged report before the next file. Before the first file, this is the data
-// of an empty report.
+// Returns the data of a merged report so far. Before the first file, returns the data of an empty
+// report in the time zone `zone`.
 fn kept_before<K: Keeping>(
     alloc: Global,
     zone: &str,
@@ -72,7 +72,7 @@ fn kept_before<K: Keeping>(
     }
 }
 
-// Adds the report on a store to the data of a merged report.
+// Adds what a merged report needs from a store to the report's data.
 fn join_books<B: Books, K: Keeping>(
     books: B,
     kept: K,
@@ -96,7 +96,7 @@ fn join_books<B: Books, K: Keeping>(
     }
 }
 
-// Opens an office in a database, and adds its report to the data of a merged report.
+// Opens the store in a database, and adds what a merged report needs from it to the report's data.
 fn join_opened<S: Alter + Drop, K: Keeping>(
     alloc: Global,
     connection: Connection<S>,
@@ -117,7 +117,7 @@ fn join_opened<S: Alter + Drop, K: Keeping>(
     }
 }
 
-// Adds an office to a merged report of earlier files in the same time zone.
+// Adds a file to a merged report, if the earlier files have the same time zone.
 fn join_in_zone<S: Alter + Drop, K: Keeping>(
     alloc: Global,
     connection: Connection<S>,
@@ -143,7 +143,7 @@ fn join_in_zone<S: Alter + Drop, K: Keeping>(
     }
 }
 
-// Drops the data of the earlier files of a merged report, and returns the fault of the next file.
+// Drops the data of a merged report, and returns the reason why the next file could not be added.
 fn refused<K: Keeping>(
     before: Option<JoinedOffice<K>>,
     why: JoinFault,
@@ -154,8 +154,8 @@ fn refused<K: Keeping>(
     Err(why)
 }
 
-/// Adds an office in a database to a merged report of earlier files. The report is about an
-/// accounting register on a range of days. Writes nothing to the database.
+/// Adds an office in a database to a merged report of earlier files, if there are any. The report
+/// is about an accounting register in a range of days. Writes nothing to the database.
 pub fn join_stored<S: Alter + Drop, K: Keeping>(
     alloc: Global,
     connection: Connection<S>,

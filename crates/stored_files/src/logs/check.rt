@@ -23,23 +23,24 @@ const SALT: usize = 16;
 /// frame's gate.
 const GATE: usize = 8;
 
-/// The page number of a count frame. With count frames, recovery detects that bytes of a commit's
-/// frames were lost and read as zeros.
+/// The page number that marks a count frame. From the count frame of a commit, recovery detects
+/// that bytes of the commit's frames were lost and read as zeros.
 const COUNT_PAGE: u32 = 0xff00_0000;
 
 /// A reason why a write-ahead log is rejected.
 #[derive(Clone, Copy, Debug, PartialEq, Eq)]
 pub enum LogFault {
-    /// The header is damaged, or has another page size than the database file.
+    /// The header is damaged, or its page size differs from that of the database file.
     Header,
     /// The count frame of a commit shows lost bytes, although more was written after the commit.
     Count,
-    /// Recovery would end at the byte offset `at`, before a complete transaction.
+    /// Recovery would end at byte offset `at`, and would lose a complete transaction that begins
+    /// there.
     Commits { at: u64 },
     Memory,
 }
 
-// Writes how a log is damaged. The program prints this text after the log's name.
+// Writes how a log is damaged, for a message that begins with the log's name.
 impl Display for LogFault {
     fn fmt<W: fmt::Write>(&self, f: &mut Formatter<W>) -> fmt::Result {
         match self {
@@ -51,8 +52,8 @@ impl Display for LogFault {
     }
 }
 
-// Returns whether the transaction that recovery would lose first was already complete when the
-// transaction at frame `i` began.
+// Returns whether the first transaction that recovery would lose was complete when the transaction
+// at frame `i` began. `taken` is the number of frames that recovery replays.
 fn was_complete(log: &[u8], page_size: usize, taken: usize, i: usize) -> bool
     requires behind { taken < i }
     requires size { page_size ≤ 65536 }
@@ -73,8 +74,8 @@ fn is_cut_off(log: &[u8], page_size: usize, taken: usize, i: usize) -> bool
     begins(log, page_size, i) && was_complete(log, page_size, taken, i)
 }
 
-// Returns the first frame that proves a loss. This frame begins a transaction, and recovery would
-// lose an earlier transaction that was complete.
+// Returns the first frame that proves a loss: it begins a transaction, and an earlier complete
+// transaction would be lost. `taken` is the number of frames that recovery replays.
 fn find_cut_off(log: &[u8], page_size: usize, taken: usize) -> Option<usize>
     requires room { 32 ≤ length log.now }
     requires size { page_size ≤ 65536 }
@@ -101,7 +102,7 @@ fn file_of(alloc: Global, bytes: &[u8]) -> io::Result<Memory>
     Ok(file)
 }
 
-// Maps an SQLite error of reading a log's frames to a fault.
+// Maps an SQLite error of reading a log's frames to a `LogFault`.
 fn fault_of(error: Error) -> LogFault
     ensures { result ≡ fault_of error }
 {
@@ -126,8 +127,8 @@ pub(crate) fn taken_frames(alloc: Global, log: &[u8], size: PageSize) -> Result<
 }
 
 /// Checks that recovery would replay all complete transactions of a log. A damaged transaction
-/// looks like a transaction that a crash left incomplete. A later transaction shows that the
-/// damaged transaction was complete.
+/// looks like one that a crash left incomplete. Only a later transaction shows that it was
+/// complete.
 pub(crate) fn check_log(alloc: Global, log: &[u8], size: PageSize) -> Result<(), LogFault>
     ensures sound { OnOk result (IsSound (bytes_of size) log.now) }
     ensures cause { IfErr result (IsCause (bytes_of size) log.now) }

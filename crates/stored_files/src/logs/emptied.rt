@@ -1,5 +1,5 @@
-//! Checks logs that a checkpoint was emptying. The checkpoint changed the log's first byte after
-//! the database file had all pages of the log.
+//! Checks logs that a checkpoint began to empty. Once the database file has all pages of its log,
+//! the checkpoint changes the first byte of the log. SQLite then ignores the log.
 ghost use Rattle.std.specs.Prelude.{◌≡◌, ◌⊎◌, ◌+◌, ◌-◌, ◌*◌, ◌<◌, ◌≤◌, ◌↔◌, length, IfOk, IfErr, OnOk, IsTrue};
 ghost use Rattle.sqlite_wal.specs.PageSize.{bytes_of};
 ghost use Rattle.sqlite_wal.specs.Recovery.{AreFramesOf, file_page, page_after};
@@ -13,15 +13,15 @@ use std::alloc::{AllocError, Global};
 /// The first byte of a write-ahead log that is in use.
 const OPEN: u8 = 0x37;
 
-/// Returns whether a checkpoint changed the first byte of a log. False for a log that is too short
-/// for frames.
+/// Returns whether the first byte of a log was changed, as a checkpoint does when it empties the
+/// log. Returns false for a log that is too short for a frame.
 pub(crate) fn is_shut(log: &[u8]) -> bool
     ensures { IsTrue result ↔ (HasRoom log.now × IsShut log.now) }
 {
     log.len() >= 56 && log[0] != OPEN
 }
 
-// Returns page `number` of a database file. Pages count from 1.
+// Returns page `number` of a database file. The first page has number 1.
 fn page_in(db: &[u8], page_size: usize, number: usize) -> &[u8]
     requires first { 0 < number }
     requires size { page_size ≤ 65536 }
@@ -32,8 +32,8 @@ fn page_in(db: &[u8], page_size: usize, number: usize) -> &[u8]
     &db[at..at + page_size]
 }
 
-// Returns whether page `number` of the database file equals this page after replaying the log's
-// frames.
+// Returns whether replaying the log's frames would leave page `number` of the database file
+// unchanged.
 fn has_page(log: &[u8], db: &[u8], page_size: usize, pages: &[u32], number: usize) -> bool
     requires first { 0 < number }
     requires size { page_size ≤ 65536 }
@@ -52,8 +52,7 @@ fn has_page(log: &[u8], db: &[u8], page_size: usize, pages: &[u32], number: usiz
     page == page_in(db, page_size, number)
 }
 
-/// Returns whether each page of the database file equals this page after replaying the log's
-/// frames.
+/// Returns whether replaying the log's frames would leave the database file unchanged.
 fn has_all_pages(log: &[u8], db: &[u8], page_size: usize, pages: &[u32]) -> bool
     requires some { 0 < page_size }
     requires size { page_size ≤ 65536 }
@@ -76,8 +75,8 @@ fn has_all_pages(log: &[u8], db: &[u8], page_size: usize, pages: &[u32]) -> bool
     true
 }
 
-// Returns a copy of a write-ahead log with its original first byte, before a checkpoint changed
-// this byte.
+// Returns a copy of a write-ahead log with the first byte of a log that is in use, as it was before
+// a checkpoint changed this byte.
 fn opened_log(alloc: Global, log: &[u8]) -> Result<Vec<u8>, AllocError>
     requires { 0 < length log.now }
     ensures { IfOk result (λ it. it.items ≡ opened log.now) }
@@ -87,7 +86,7 @@ fn opened_log(alloc: Global, log: &[u8]) -> Result<Vec<u8>, AllocError>
     Ok(bytes)
 }
 
-// Checks that the database file has all committed pages of a log.
+// Checks that the database file already has all committed pages of a log.
 fn check_kept(alloc: Global, log: &[u8], db: &[u8], size: PageSize) -> Result<(), LogFault>
     requires { HasRoom log.now }
     ensures kept { OnOk result (KeepsAll (bytes_of size) log.now db.now) }
@@ -108,7 +107,7 @@ fn check_kept(alloc: Global, log: &[u8], db: &[u8], size: PageSize) -> Result<()
     }
 }
 
-/// Checks that nothing is lost by ignoring a log whose first byte a checkpoint changed.
+/// Checks that SQLite loses nothing when it ignores a log because of its changed first byte.
 pub(crate) fn check_emptied(
     alloc: Global,
     log: &[u8],

@@ -9,7 +9,7 @@ use sqlite_wal::checksum_of;
 /// The length of a write-ahead log's header, in bytes.
 pub(crate) const HEADER_LEN: usize = 32;
 
-/// The length of the header of a log's frame, in bytes.
+/// The length of a frame's header, in bytes.
 pub(crate) const FRAME_HEADER_LEN: usize = 24;
 
 /// The version number of the write-ahead log format.
@@ -33,8 +33,7 @@ fn get_sum(bytes: &[u8], at: usize) -> (u32, u32)
     (get_be32(bytes, at), get_be32(bytes, at + 4))
 }
 
-/// Returns whether the first 32 bytes of a write-ahead log have the magic number and a valid
-/// checksum.
+/// Returns whether the header of a write-ahead log has the magic number and a valid checksum.
 pub(crate) fn is_signed(head: &[u8]) -> bool
     requires { length head.now ≡ 32 }
     ensures { IsTrue result ↔ IsSigned head.now }
@@ -74,8 +73,8 @@ pub(crate) fn frame_offset(page_size: usize, i: usize) -> usize
     HEADER_LEN + i * (FRAME_HEADER_LEN + page_size)
 }
 
-/// Returns whether SQLite accepts a frame. The frame must have the salt in the header `head`, and
-/// must continue the checksum `before`.
+/// Returns whether SQLite accepts a frame. It must have the salts of the log's header `head`, a
+/// page number, and a checksum that continues the previous frame's checksum `before`.
 fn is_frame(head: &[u8], before: (u32, u32), frame: &[u8]) -> bool
     requires head { length head.now ≡ 32 }
     requires frame { 24 ≤ length frame.now }
@@ -89,7 +88,7 @@ fn is_frame(head: &[u8], before: (u32, u32), frame: &[u8]) -> bool
     checksum_of(big, front, &frame[24..]) == get_sum(frame, 16)
 }
 
-/// Returns frame `i` of a write-ahead log, with the header of the frame. Frames are numbered from
+/// Returns frame `i` of a write-ahead log, including the frame's header. Frames are numbered from
 /// 0.
 pub(crate) fn frame_in(log: &[u8], page_size: usize, i: usize) -> &[u8]
     requires size { page_size ≤ 65536 }
@@ -101,7 +100,8 @@ pub(crate) fn frame_in(log: &[u8], page_size: usize, i: usize) -> &[u8]
     &log[at..at + FRAME_HEADER_LEN + page_size]
 }
 
-/// Returns whether frame `i` begins a transaction directly after an earlier transaction.
+/// Returns whether frame `i` is valid and begins a transaction, directly after the last frame of an
+/// earlier transaction.
 pub(crate) fn begins(log: &[u8], page_size: usize, i: usize) -> bool
     requires first { 0 < i }
     requires size { page_size ≤ 65536 }
@@ -125,8 +125,8 @@ pub(crate) fn content_in(log: &[u8], page_size: usize, i: usize) -> &[u8]
     &frame_in(log, page_size, i)[FRAME_HEADER_LEN..]
 }
 
-/// Returns the number of database pages after the commit in frame `i`, or 0 if the frame is no
-/// commit.
+/// Returns the number of pages of the database after the commit that frame `i` ends, or 0 if the
+/// frame ends no commit.
 pub(crate) fn commit_size_in(log: &[u8], page_size: usize, i: usize) -> usize
     requires size { page_size ≤ 65536 }
     requires within { frame_at page_size (i + 1) ≤ length log.now }

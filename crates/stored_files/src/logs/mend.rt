@@ -17,7 +17,8 @@ fn with_byte(head: &[u8; 32], at: usize, byte: u8) -> [u8; 32]
     other
 }
 
-// Returns a valid header that differs from `head` only in the byte at offset `at`, or None.
+// Returns a valid header that differs from `head` in at most the byte at offset `at`, or None if
+// there is no such header.
 fn mended_at(head: &[u8; 32], at: usize, page_size: usize) -> Option<[u8; 32]>
     requires { at < 32 }
     ensures found { IfSome result (IsMended page_size head.now) }
@@ -32,7 +33,8 @@ fn mended_at(head: &[u8; 32], at: usize, page_size: usize) -> Option<[u8; 32]>
     None
 }
 
-/// Returns a valid header that differs from `head` in at most one byte, or None.
+/// Returns a valid header that differs from `head` in at most one byte, or None if there is no such
+/// header.
 pub(crate) fn mended_header(head: &[u8; 32], size: PageSize) -> Option<[u8; 32]>
     ensures found { IfSome result (IsMended (bytes_of size) head.now) }
     ensures none { IsNone result → (at byte : ℕ) → at < 32 → byte < 256

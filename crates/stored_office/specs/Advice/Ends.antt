@@ -1,4 +1,4 @@
--- Defines when the program prints further messages after the end of a task.
+-- Defines when further messages on standard error follow the end of a task.
 use Rattle.std.specs.Prelude.{Bool, true, false, Result, Ok, Err}
 use Rattle.command_io.specs.declared.status.ExitStatus.{ExitStatus}
 use Rattle.command_io.specs.declared.status.ExitStatus.TheVariants as status
@@ -23,7 +23,7 @@ is_refusal status.Refused = true
 is_refusal _ = false
 
 -- True if explanations follow a round of polls. They follow only if the round was completed, or if
--- the office refused it. Any other failure is reported without explanations.
+-- the office refused to open or to poll. Any other failure has its own message.
 abbrev pub has_messages : PollEnd → Bool
 has_messages (Polled done) = is_finished done
 has_messages (Unopened why) = is_refusal why
@@ -41,8 +41,8 @@ is_refused_polling (Polled done) = false
 is_refused_polling (Unopened why) = is_refusal why
 is_refused_polling Unconnected = false
 
--- True if a task may have ended because the office refused to open. The cause may be that the
--- latest record has a later timestamp than the clock's time.
+-- True if a task may have failed because the office's latest record is later than the clock,
+-- without saying so. These tasks print only the number of the refusal.
 abbrev pub may_be_ahead : Done → Bool
 may_be_ahead (task.Reported status) = false
 may_be_ahead (task.Served end) = is_refused_serving end

@@ -7,13 +7,13 @@ use Rattle.run_status.specs.Advice.Lacks.{lacks_of}
 use Rattle.run_status.specs.Advice.Sentences.{with_lack}
 use Rattle.run_status.specs.declared.advice.lacks.DeviceLack.{DeviceLack}
 
--- Appends a line to a text for each missing part of a device's setup, in order.
+-- The text with a line appended for each missing part of a device's setup, in order.
 abbrev pub with_lacks : List DeviceLack → List ℕ → List ℕ
 with_lacks [] text = text
 with_lacks (lack ∷ lacks) text = with_lacks lacks (with_lack lack text)
 
 -- States that a successful call appends a line for each part of the device's setup that is missing
--- in the store. This requires a disk that returned what was written to it.
+-- in the store. The statement holds only if no wrong result of the store was used.
 abbrev pub PutsLacks : {T E : Type 0} → (old new : Ledger) → (device : Option (List ℕ))
     → (before after : List ℕ) → Result T E → Type 0
 PutsLacks old new device before after result = (known : List Fact) → old.holds known

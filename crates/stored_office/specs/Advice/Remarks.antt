@@ -1,4 +1,4 @@
--- Defines which printed lines of a round need an explanation, and what the explanations are. A
+-- Defines which lines that a round printed need an explanation, and what the explanations are. A
 -- round is one poll for each read of a device's plan.
 use Rattle.std.specs.Prelude.{◌≡◌, ℕ, nat_lt, Bool, true, false, List, [], ◌∷◌, Option, Some, None, codes, if◌then◌else◌}
 use Rattle.std.specs.Str.{bytes_eq}
@@ -49,8 +49,8 @@ or_hold None held = held
 abbrev pub remark_of : (words : List (List ℕ)) → Option Remark
 remark_of words = or_hold (refusal_of words) (hold_of words)
 
--- States that a line with the meaning of a number and its remedy is appended to a text if `known`
--- is true. Otherwise nothing is appended.
+-- States that a line with the meaning and the remedy of a printed number is appended to a text if
+-- `known` is true. Otherwise nothing is appended.
 abbrev pub MeansIf : (known : Bool) → (subject : Option (List ℕ)) → Kind → (before : List ℕ)
     → (number : ℕ) → (old new : List ℕ) → Type 0
 MeansIf true subject k before number old new =

@@ -12,20 +12,20 @@ use Rattle.stored_files.specs.declared.ends.failure.Failure.{Failure}
 use Rattle.stored_office.specs.declared.tasks.tasks.Done.{Done}
 use Rattle.stored_office.specs.declared.tasks.tasks.Done.TheVariants.{Reported, Served, Entered, Checked, Polled, Ran}
 
--- The exit status of the task that serves HTTP.
+-- The exit status of the command `serve`, which serves HTTP.
 abbrev pub serving_number : ServeEnd → ℕ
 serving_number serving.Served = 0
 serving_number (serving.Unopened why) = status_number why
 serving_number serving.NoPort = 3
 serving_number serving.Broken = 3
 
--- The exit status of the task that polls a device once.
+-- The exit status of the command that polls a device once.
 abbrev pub polling_number : PollEnd → ℕ
 polling_number (polling.Polled done) = status_number (round_status done)
 polling_number (polling.Unopened why) = status_number why
 polling_number polling.Unconnected = 3
 
--- The exit status of the task that polls devices on a schedule and serves HTTP.
+-- The exit status of the command `run`, which polls devices on a schedule and serves HTTP.
 abbrev pub run_number : Result (Unit {0}) RunFault → ℕ
 run_number (Ok _) = 0
 run_number (Err (run.Unopened why)) = status_number why
@@ -35,7 +35,7 @@ run_number (Err run.Output) = 3
 run_number (Err run.Stopped) = 3
 run_number (Err run.Memory) = 3
 
--- The exit status of a command, from the result of the command's task over an office's file.
+-- The exit status of a command, from the result of its task.
 abbrev pub done_number : Result Done Failure → ℕ
 done_number (Ok (Reported status)) = status_number status
 done_number (Ok (Served end)) = serving_number end

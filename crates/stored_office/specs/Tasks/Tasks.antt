@@ -1,4 +1,4 @@
--- Defines the effects of tasks on an office's store, and the results of tasks.
+-- Defines what each task does to an office's store, what it prints, and its results.
 use Rattle.std.specs.Prelude.{ℕ, List, Option}
 use Rattle.sqlite.specs.Store.{Ghosts}
 use Rattle.office_rules.specs.History.{History}
@@ -21,7 +21,7 @@ use Rattle.stored_office.specs.declared.tasks.tasks.Task.TheVariants as task
 use Rattle.stored_office.specs.declared.tasks.tasks.Done.{Done}
 use Rattle.stored_office.specs.declared.tasks.tasks.Done.TheVariants.{Reported, Served, Entered, Checked, Polled, Ran}
 
--- States that the result `Done` belongs to the same kind of task as the given `Task`.
+-- States that a result is of the same kind as its task.
 abbrev pub IsOf : Task → Done → Type 0
 IsOf (task.Report register) (Reported end) = Unit {0}
 IsOf (task.ReportRange register form) (Reported end) = Unit {0}
@@ -44,8 +44,9 @@ module _ {B : Type 0} (ledger : B → Ledger) where
       × LooksUp (ledger polled) (ledger left)
 
 module _ {B : Type 0} (ledger : B → Ledger) (reports : Reporting) (past : History) where
-  -- States that the task changed the store from `found` to `left`, and ended with the result
-  -- `Done`. `reports` has the contents of the files and counters that an input text names.
+  -- States that the task changed the store from `found` to `left`, and the output from `had` to
+  -- `holds`, and had the result `Done`. `reports` has the contents of the files and counters that
+  -- an input text names.
   unfoldable pub Does : (moments later had holds : Option (List ℕ))
       → (found left : B) → Task → Done → Type 0
   Does moments later had holds found left (task.Report register) (Reported end) =

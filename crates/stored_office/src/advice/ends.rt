@@ -1,4 +1,4 @@
-//! Decides whether the program prints further messages after the end of a task.
+//! Decides whether further messages on standard error follow the end of a task.
 ghost use Rattle.std.specs.Prelude.{◌≡◌};
 ghost use Rattle.stored_office.specs.Advice.Ends as ends;
 
@@ -8,7 +8,7 @@ use office_program::{PollEnd, ServeEnd};
 use office_rounds::RoundFault;
 
 /// Returns whether explanations follow a round of polls. They follow only if the round was
-/// completed, or if the office refused it. Any other failure is reported without explanations.
+/// completed, or if the office refused to open or to poll. Any other failure has its own message.
 pub(crate) fn has_messages(end: PollEnd) -> bool
     ensures { result ≡ ends.has_messages end }
 {
@@ -58,9 +58,9 @@ fn is_refused_polling(end: PollEnd) -> bool
     }
 }
 
-/// Returns whether a task may have ended because the office's latest record is later than the
-/// clock. Returns true only for tasks that print just the refusal's number. The command `run`
-/// reports the meaning itself.
+/// Returns whether a task may have failed because the office's latest record is later than the
+/// clock, without saying so. These tasks print only the number of the refusal. The command `run`
+/// explains the refusal itself.
 pub fn may_be_ahead(done: Done) -> bool
     ensures { result ≡ ends.may_be_ahead done }
 {

@@ -1,4 +1,5 @@
-//! Writes messages about missing parts of a device's setup after a round of polls.
+//! Writes messages about missing parts of a device's setup, such as its point list, after a round
+//! of polls.
 ghost use Rattle.std.specs.Prelude.{◌≡◌, OnOk, false};
 ghost use Rattle.run_status.specs.Advice.Lacks.{LooksUp};
 ghost use Rattle.stored_office.specs.Advice.Ends.{has_messages};
@@ -12,7 +13,7 @@ use run_status::{DeviceLack, add_lacks, write_lack};
 use std::alloc::{AllocError, Global};
 use std::io::Write;
 
-// Appends a line to a text for each part that is missing in a device's setup.
+// Appends a line to a text for each missing part of a device's setup.
 fn write_lacks(text: &mut Vec<u8>, lacks: &[DeviceLack]) -> Result<(), AllocError>
     ensures { OnOk result (text.new.items ≡ with_lacks lacks.now text.old.items) }
 {
@@ -41,8 +42,8 @@ fn write_lacks_of<B: Books>(
 }
 
 /// Writes a line for each part of the device's setup that is missing in the store. Writes nothing
-/// after a failed round. A text that is no valid name counts as an unknown device. If the store,
-/// memory or the writer fails, only some of the lines are written.
+/// if the round failed without a refusal. A device name that is not valid counts as an unknown
+/// device. If the store, memory or the writer fails, some lines may be missing.
 pub fn say_lacks<B: Books, E: Write>(
     alloc: Global,
     books: &mut B,

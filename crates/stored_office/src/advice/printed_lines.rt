@@ -13,8 +13,8 @@ use office_program::PollEnd;
 use std::alloc::{AllocError, Global};
 use std::io::Write;
 
-// Returns whether `say_remarks` explains a printed refusal or rejected reading. The function
-// `say_lacks` explains refusal 1, for an unknown device or list.
+// Returns whether `say_remarks` explains a printed refusal or rejected reading. It leaves refusal
+// 1, for an unknown device or list, to `say_lacks`.
 fn is_left(remark: &Remark) -> bool
     ensures { result ≡ printing.is_left remark.now }
 {
@@ -38,7 +38,7 @@ fn write_line(text: &mut Vec<u8>, device: &Option<Name>, line: &[u8]) -> Result<
     }
 }
 
-// Appends the explanations of all printed lines of a round to a text.
+// Appends the explanations of all lines that a round printed to a text.
 fn write_remarks(
     text: &mut Vec<u8>,
     device: &Option<Name>,
@@ -55,8 +55,8 @@ fn write_remarks(
 }
 
 /// Writes the meaning and the remedy of each refusal and rejected reading that a round printed.
-/// Writes nothing after a failed round. If memory or the writer fails, only some of the lines are
-/// written.
+/// Writes nothing if the round failed without a refusal. If memory or the writer fails, some lines
+/// may be missing.
 pub fn say_remarks<E: Write>(
     alloc: Global,
     device: &str,

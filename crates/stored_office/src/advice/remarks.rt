@@ -1,5 +1,5 @@
-//! Finds printed lines of a round that need an explanation. A round is one poll for each read of a
-//! device's plan.
+//! Finds the lines printed by a round that need an explanation, and writes the explanations. A
+//! round is one poll for each read of a device's plan.
 ghost use Rattle.std.specs.Prelude.{◌≡◌, OnOk, option_map};
 ghost use Rattle.script_lines.specs.LineWords.Words.{words_of};
 ghost use Rattle.run_status.specs.Advice.Sentences.{with_meaning, with_subject};
@@ -12,7 +12,7 @@ use run_status::append_bytes;
 use script_lines::{Words, end_of_words, next_name, next_number};
 use std::alloc::AllocError;
 
-/// A printed line of a round of polls that needs an explanation.
+/// The content of a line that a round of polls printed and that needs an explanation.
 #[derive(Clone, Copy, Debug, PartialEq, Eq)]
 pub(crate) enum Remark {
     /// The line `refused N`: a refusal of the office, with its number.
@@ -31,7 +31,8 @@ fn small(number: u64) -> Option<u32>
     }
 }
 
-// Reads the next word of a line, which must be `wanted`. Returns None for another word.
+// Reads the next word of a line, and checks that it is `wanted`. Returns None for another word, and
+// at the end of the line.
 fn next_exactly(words: &mut Words<'_>, wanted: &[u8]) -> Option<()>
     ensures { option_map (λ none. words.new) result ≡ remarks.exactly wanted.now words.old }
 {
@@ -42,7 +43,7 @@ fn next_exactly(words: &mut Words<'_>, wanted: &[u8]) -> Option<()>
     }
 }
 
-// Returns the refusal in a line `refused N`. None for any other line.
+// Returns the refusal in a line `refused N`, or None for any other line.
 fn refusal_in(line: &[u8]) -> Option<Remark>
     ensures { result ≡ remarks.refusal_of (words_of line.now) }
 {
@@ -54,7 +55,7 @@ fn refusal_in(line: &[u8]) -> Option<Remark>
     Some(Remark::Refused(number))
 }
 
-// Returns the rejected reading in a line `held METER RAW cause N`. None for any other line.
+// Returns the rejected reading in a line `held METER RAW cause N`, or None for any other line.
 fn hold_in(line: &[u8]) -> Option<Remark>
     ensures { result ≡ remarks.hold_of (words_of line.now) }
 {
@@ -70,7 +71,7 @@ fn hold_in(line: &[u8]) -> Option<Remark>
     Some(Remark::Held(meter, number))
 }
 
-/// Returns the refusal or the rejected reading in a printed line. None for any other line.
+/// Returns the refusal or the rejected reading in a printed line, or None for any other line.
 pub(crate) fn remark_in(line: &[u8]) -> Option<Remark>
     ensures { result ≡ remarks.remark_of (words_of line.now) }
 {
@@ -80,8 +81,8 @@ pub(crate) fn remark_in(line: &[u8]) -> Option<Remark>
     }
 }
 
-// Appends the name of the device or meter that an explanation is about to a text, if there is such
-// a name.
+// Appends the beginning of an explanation to a text: the name of the device or meter, or `-` if
+// there is no name.
 fn write_subject(text: &mut Vec<u8>, name: &Option<Name>) -> Result<(), AllocError>
     ensures { OnOk result (text.new.items ≡ with_subject name.now text.old.items) }
 {
@@ -92,7 +93,7 @@ fn write_subject(text: &mut Vec<u8>, name: &Option<Name>) -> Result<(), AllocErr
     }
 }
 
-// Appends `before` to a text, and then the meaning of a number and its remedy.
+// Appends `before` to a text, then the meaning of a printed number, and what to do about it.
 fn append_meaning(text: &mut Vec<u8>, before: &[u8], meaning: &Meaning) -> Result<(), AllocError>
     ensures { OnOk result (text.new.items ≡ with_meaning before.now meaning.now text.old.items) }
 {
@@ -103,8 +104,8 @@ fn append_meaning(text: &mut Vec<u8>, before: &[u8], meaning: &Meaning) -> Resul
     append_bytes(text, b"\n")
 }
 
-// Appends the meaning of a number and its remedy to a text. Appends nothing if the program never
-// prints this number for its kind.
+// Appends a line with the meaning and the remedy of a printed number to a text. Appends nothing if
+// the program never prints this number for its kind.
 fn write_number_of(
     text: &mut Vec<u8>,
     subject: &Option<Name>,
@@ -124,8 +125,8 @@ fn write_number_of(
     }
 }
 
-/// Appends a line with the meaning of a printed number and its remedy to a text. Appends nothing if
-/// the number has no meaning. If memory runs out, the line is incomplete.
+/// Appends a line with the meaning and the remedy of a refusal or rejected reading to a text.
+/// Appends nothing if its number has no meaning. If memory runs out, the line is incomplete.
 pub(crate) fn write_remark(
     text: &mut Vec<u8>,
     device: &Option<Name>,

@@ -1,4 +1,5 @@
-//! Runs an office over a store in a database.
+//! Runs of an office over a store in a database. Their contracts are the main theorem about an
+//! office.
 ghost use Rattle.std.specs.Prelude.{ℕ, List, [], IfErr, IfOk, IfSome};
 ghost use Rattle.office_core.specs.EventRun.{HandsBack, IsCleanOnlyIfWas, RecordsIfClean};
 ghost use Rattle.office_rules.specs.Lawfulness.{IsPast};
@@ -12,9 +13,10 @@ use office_store::SqlBooks;
 use sqlite::{Alter, Connection};
 use std::alloc::Global;
 
-/// Processes events over a store in a database. The main theorem about an office has two premises.
-/// The store has exactly the records of a history of accepted events, also after a crash. The disk
-/// returned what was written to it.
+/// Opens an office over a store in a database, and processes events. The main theorem about an
+/// office applies on two conditions. The store must have exactly the records of a history of
+/// accepted events, and must still have them after a crash. The disk must return what was written
+/// to it.
 pub fn run_stored<S: Alter + Drop>(
     alloc: Global,
     books: SqlBooks<S>,
@@ -32,9 +34,9 @@ pub fn run_stored<S: Alter + Drop>(
     run(alloc, books, opened, events)
 }
 
-/// Processes events over a new store, with the days of a time zone. The only premise is that the
-/// disk returned what was written to it. Returns None if the store could not be created, or if the
-/// office could not be opened.
+/// Creates a store in an empty database, opens an office over it, and processes events. Its days
+/// are those of the time zone `zone`. The main theorem applies if the disk returns what was written
+/// to it. Returns None if the store could not be created, or if the office could not be opened.
 pub fn run_created<S: Alter + Drop>(
     alloc: Global,
     connection: Connection<S>,

@@ -1,4 +1,4 @@
-//! Maps the result of a task to the ending of its command.
+//! Maps the result of a task to the ending of its command: the exit status and the message.
 ghost use Rattle.std.specs.Prelude.{◌≡◌};
 ghost use Rattle.command_io.specs.Statuses.{status_number};
 ghost use Rattle.office_program.specs.Texts.Rounds.{round_status};
@@ -11,7 +11,7 @@ use office_rounds::RoundFault;
 use office_running::RunFault;
 use stored_files::{Ending, Failure, ending_of};
 
-// Returns the ending of a command, from the result of its round of polls.
+// Returns the ending of a command that polled a device, from the result of the round of polls.
 fn ending_of_round<'a>(done: Result<(), RoundFault>, host: &'a str, port: u16) -> Ending<'a>
     ensures { ending_number result ≡ status_number (round_status done) }
 {
@@ -24,7 +24,7 @@ fn ending_of_round<'a>(done: Result<(), RoundFault>, host: &'a str, port: u16) -
     }
 }
 
-// Returns the ending of a command that served HTTP on a port of a host.
+// Returns the ending of the command `serve`, which served HTTP on a port of a host.
 fn ending_of_serving<'a>(end: ServeEnd, host: &'a str, port: u16) -> Ending<'a>
     ensures { ending_number result ≡ serving_number end }
 {
@@ -36,7 +36,7 @@ fn ending_of_serving<'a>(end: ServeEnd, host: &'a str, port: u16) -> Ending<'a>
     }
 }
 
-// Returns the ending of a command that polled the device at a port of a host.
+// Returns the ending of the command that polls a device once, at port `port` of `host`.
 fn ending_of_polling<'a>(end: PollEnd, host: &'a str, port: u16) -> Ending<'a>
     ensures { ending_number result ≡ polling_number end }
 {
@@ -47,7 +47,8 @@ fn ending_of_polling<'a>(end: PollEnd, host: &'a str, port: u16) -> Ending<'a>
     }
 }
 
-// Returns the ending of the command `run`, which served HTTP on a port of a host.
+// Returns the ending of the command `run`, which polled devices and served HTTP on a port of a
+// host.
 fn ending_of_run<'a>(end: Result<(), RunFault>, host: &'a str, port: u16) -> Ending<'a>
     ensures { ending_number result ≡ run_number end }
 {
@@ -63,7 +64,7 @@ fn ending_of_run<'a>(end: Result<(), RunFault>, host: &'a str, port: u16) -> End
 }
 
 /// Returns the ending of a command, from the result of its task. `host` and `port` are the address
-/// of the task's sockets.
+/// that the task connected to or listened on. The message names this address.
 pub fn ending_of_done<'a>(done: Result<Done, Failure<'a>>, host: &'a str, port: u16) -> Ending<'a>
     ensures { ending_number result ≡ done_number done.entry }
 {

@@ -1,4 +1,4 @@
-//! Defines and executes the program's tasks over an office.
+//! The tasks of commands that need an office, and their execution.
 ghost use Rattle.std.specs.Prelude.{◌≡◌, Err, IfOk, IfErr};
 ghost use Rattle.office_rules.specs.History.{History};
 ghost use Rattle.office_core.specs.Leaving.{BooksStand};
@@ -26,45 +26,45 @@ use std::io::Write;
 use std::net::Net;
 use std::rt::Files;
 
-/// A task that a command executes over the store of an office.
+/// What a command does with an office and its store.
 #[derive(Clone, Copy)]
 pub enum Task<'a> {
-    /// Reports the energy of an accounting register, as `report_books` does.
+    /// Prints the energy of an accounting register, as `report_books` does.
     Report {
         register: &'a str,
     },
-    /// Reports the energy of an accounting register on a range of days, in the form `form`, as
+    /// Prints the energy of an accounting register in a range of days, in the form `form`, as
     /// `report_range_books` does.
     ReportRange {
         register: &'a str,
         form: &'a ReportForm,
     },
-    /// Prints the statements of the meters at an accounting register on a range of days, as
+    /// Prints the statements of the meters of an accounting register for a range of days, as
     /// `statement_books` does.
     Statement {
         register: &'a str,
         form: &'a StatementForm,
     },
-    /// Serves HTTP for `connections` connections, as `serve_books` does. `names` are further names
-    /// of the host in requests.
+    /// Serves HTTP for `connections` connections, as `serve_books` does. `names` are host names
+    /// that the `Host` header of a request may have, besides those of this machine.
     Serve {
         host: &'a str,
         port: u16,
         names: &'a [&'a str],
         connections: u32,
     },
-    /// Requests the events in the lines of a text, with `caller` in the idempotency keys, as
-    /// `enter_books` does.
+    /// Feeds the office the events in the lines of a text, with `caller` in their idempotency keys,
+    /// as `enter_books` does.
     Enter {
         caller: &'a str,
         text: &'a [u8],
     },
-    /// Checks the lines of a text without requesting their events, as `check_books` does.
+    /// Checks the lines of a text without changing the office, as `check_books` does.
     Check {
         caller: &'a str,
         text: &'a [u8],
     },
-    /// Polls one round of the device at a port of a host, as `poll_books` does. Then reports
+    /// Polls the device at a port of a host in one round, as `poll_books` does. Then reports
     /// missing parts of the device's setup, as `say_lacks` does.
     Round {
         device: &'a str,
@@ -89,7 +89,8 @@ pub enum Done {
     Ran(Result<(), RunFault>),
 }
 
-/// Executes a task over a store. `files` reads the files and counters that an input text names.
+/// Executes a task over a store, and returns the store and the task's result. `files` reads the
+/// files and counters that an input text names.
 fn carry_out<
     R: Net + std::rt::Clock + Files,
     B: Books,
