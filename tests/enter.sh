@@ -99,16 +99,16 @@ is 'a caller that is no name' "$? $(paste -sd ';' out)" '1 refused 12'
 printf '1 device ninth 8 5 1\n' | "$program" enter --db office.db --caller other > out 2> err
 is 'the numbers of another caller' "$? $(paste -sd ';' out)" '0 ok'
 sleep 1
-enter '24 manual main 6000 0\n25 manual main 5001 0\n'
-is 'an entry past the ceiling' "$came" '1 doubted 1000000;ok / '
+enter '24 manual main 1005000 0\n25 manual main 5001 0\n'
+is 'an entry past the ceiling' "$came" '1 doubted 1000000000;ok / '
 sleep 1
-enter '24 manual main 6000 0 !\n26 void m1 2\n'
+enter '24 manual main 1005000 0 !\n26 void m1 2\n'
 is 'one that is meant, and can not be voided' "$came" '1 ok;refused 16 / '
-enter '24 manual main 6000 0 !\n'
+enter '24 manual main 1005000 0 !\n'
 is 'the same again' "$came" '0 ok / '
-enter '24 manual main 6000 0\n'
+enter '24 manual main 1005000 0\n'
 is 'the same without its mark' "$came" '1 refused 11 / '
-enter '27 close main 9000 0 !\n28 register main inv 3 40094 0 !\n' -n
+enter '27 close main 1009000 0 !\n28 register main inv 3 40094 0 !\n' -n
 is 'marks, looked at' "$came" '1 new;bad line 2 / '
 
 # The messages of a round to people, after its output for scripts.
