@@ -41,7 +41,7 @@ pub(crate) fn to_next_second<R: std::rt::Clock>(rt: &R, time: &mut RunTime) -> u
 }
 
 /// Returns the timestamp for the next events. It is the time of the system clock, or the run's
-/// latest timestamp if the clock is behind it. Timestamps therefore never decrease.
+/// latest timestamp if the clock shows an earlier time. Timestamps therefore never decrease.
 ///
 /// Reports, once for each occurrence, that the clock was set back, or that it jumped ahead by more
 /// than a minute.

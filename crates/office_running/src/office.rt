@@ -33,8 +33,8 @@ pub struct Ran<B> {
 /// in time are dropped and counted. Reports on `errors`, once each, what a device lacks, and the
 /// meaning of each refusal and each rejected reading.
 ///
-/// While the clock is behind the latest timestamp, events get the latest timestamp; the run reports
-/// that once. All timestamps are in seconds since 1970-01-01 UTC.
+/// While the clock shows an earlier time than the latest timestamp, events get the latest
+/// timestamp. The run reports that once. All timestamps are in seconds since 1970-01-01 UTC.
 pub fn run_office<R: Net + std::rt::Clock + Files, B: Books, C: Clock, W: Write, E: Write>(
     rt: &R,
     alloc: Global,

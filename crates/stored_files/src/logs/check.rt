@@ -127,8 +127,7 @@ pub(crate) fn taken_frames(alloc: Global, log: &[u8], size: PageSize) -> Result<
 }
 
 /// Checks that recovery would replay all complete transactions of a log. A damaged transaction
-/// looks like one that a crash left incomplete. Only a later transaction shows that it was
-/// complete.
+/// looks as if a crash had left it incomplete. Only a later transaction shows that it was complete.
 pub(crate) fn check_log(alloc: Global, log: &[u8], size: PageSize) -> Result<(), LogFault>
     ensures sound { OnOk result (IsSound (bytes_of size) log.now) }
     ensures cause { IfErr result (IsCause (bytes_of size) log.now) }
