@@ -1,7 +1,8 @@
-//! Sets up a new office from the store of an old office, which is called a file rollover.
+//! Sets up a new office (a new database file) from the store of an old office, which is called a
+//! file rollover.
 //!
 //! The new office has the devices, point lists and accounting registers of the old office. Each
-//! open meter of the old office is opened in the new office at its last valid entry.
+//! open meter continues in the new office from its last valid (not voided) entry.
 
 mod carried;
 mod commands;

@@ -1,4 +1,5 @@
-//! Rolls a store over into a new store, and reports on several stores of one office together.
+//! Begins a new store in which the meters of an old store continue, and reports on several stores
+//! of one office together.
 #![tactic(auto)]
 
 mod carrying;

@@ -1,4 +1,5 @@
--- Proves that the function `refusal` returns the fault that belongs to the kind of a `clap` error.
+-- Proves that the function `refusal` maps each kind of `clap` error to the fault that the contract
+-- requires.
 use Rattle.std.proofs.Common.{◌≡◌, ◌≢◌, ◌∙◌, ◌⊎◌, inl, inr, List, [], ◌∷◌, rules, sym, subst}
 use Rattle.std.specs.Borrow.{Bor}
 use Rattle.clap.specs.Words.{IsAmong, Kinds, Text}

@@ -7,9 +7,9 @@ use Rattle.command_words.specs.declared.faults.ValueFault.TheVariants as value
 use Rattle.command_words.specs.declared.faults.WordsFault.{WordsFault}
 use Rattle.command_words.specs.declared.faults.WordsFault.TheVariants.{Wrong, Help, Version, Memory}
 
--- States that the fault may be reported for a `clap` error. A request for help or the version gives
--- `Help` or `Version`. `Wrong` requires another error, which is not out of memory. `Memory` (out of
--- memory) may be reported for any error.
+-- States which faults the program may report when the argument parser `clap` returns an error of
+-- the given kind. `Help` and `Version` need a request for them. `Memory` (out of memory) is always
+-- allowed.
 abbrev pub IsRefusal : ErrorKind → WordsFault → Type 0
 IsRefusal kind (Wrong text) =
     (kind ≢ DisplayHelp) × (kind ≢ DisplayVersion) × (kind ≢ OutOfMemory)
@@ -17,7 +17,7 @@ IsRefusal kind (Help text) = kind ≡ DisplayHelp
 IsRefusal kind Version = kind ≡ DisplayVersion
 IsRefusal kind Memory = ⊤
 
--- States that the fault may be reported for an option value that is missing or invalid.
+-- States which faults the program may report when an option's value is missing or invalid.
 abbrev pub IsMisreading : ValueFault → WordsFault → Type 0
 IsMisreading fault (Wrong text) = fault ≢ value.Memory
 IsMisreading fault (Help text) = ⊥

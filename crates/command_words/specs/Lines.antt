@@ -17,8 +17,8 @@ use Rattle.command_words.specs.declared.line.FormWords.{FormWords}
 use Rattle.command_words.specs.declared.line.Sealing.{Sealing}
 use Rattle.command_words.specs.declared.line.Sealing.TheVariants as sealing
 
--- The options that set the form of a report. They are days, period, unit, output format, and
--- whether the report is a statement.
+-- The options that determine what a report shows: days, period, unit, output format, and whether it
+-- is a statement (a list of meters for checking a bill).
 pub record Form : Type 0 where
   pub from : Option Text
   pub till : Option Text
@@ -59,7 +59,7 @@ pub data Line : Type 0 where
   Explain : (what number : Text) → Line
   Completions : Line
 
--- Converts the executable value `FormWords`, which the code uses, to its logical model `Form`.
+-- Maps a runtime value of the type `FormWords` to its logical model `Form`, for contracts.
 abbrev pub seen_form : FormWords → Form
 seen_form form = record {
   from = option_map (λ text. text.now) form.from;
@@ -70,13 +70,13 @@ seen_form form = record {
   statement = form.statement;
 }
 
--- Converts the executable value `Sealing`, which the code uses, to its logical model `Seal`.
+-- Maps a runtime value of the type `Sealing` to its logical model `Seal`, for contracts.
 abbrev pub seen_sealing : Sealing → Seal
 seen_sealing sealing.Nothing = Nothing
 seen_sealing sealing.Print = Print
 seen_sealing (sealing.Against file) = Against file.now
 
--- Converts the executable value `CommandLine`, which the code uses, to its logical model `Line`.
+-- Maps a runtime value of the type `CommandLine` to its logical model `Line`, for contracts.
 abbrev pub seen : CommandLine → Line
 seen (line.Replay zone) = Replay zone.now
 seen (line.ReplayFile db) = ReplayFile db.now
@@ -105,7 +105,7 @@ seen (line.Run dbs listen every devices lasts carry earlier hosts most_kept verb
 seen (line.Explain what number) = Explain what.now number.now
 seen line.Completions = Completions
 
--- ---- the values of options that several commands have
+-- ---- options that several commands have
 
 -- The time zone from the option `--zone`, by default `UTC0`.
 abbrev pub zone_in : List Row → Text
@@ -115,7 +115,7 @@ zone_in rows = text_or (codes "UTC0") (codes "zone") rows
 abbrev pub host_in : List Row → Text
 host_in rows = text_or (codes "127.0.0.1") (codes "host") rows
 
--- The path of the office's file, from the option `--db`.
+-- The path of the database file, from the option `--db`.
 abbrev pub db_in : List Row → Option Text
 db_in rows = text_at (codes "db") rows
 
@@ -134,7 +134,7 @@ connections_in rows = number_at 1000000 (codes "connections") rows
 abbrev pub hosts_in : List Row → Option (List Text)
 hosts_in rows = host_names_of (texts_at (codes "host-name") rows)
 
--- ---- the command lines of all commands, from their options
+-- ---- the parsed command line of each command, from its options
 
 -- The command `replay` with a time zone or a file. None if both are given, because the file has its
 -- own zone.
@@ -168,8 +168,8 @@ round_in rows =
     given (text_at (codes "device") rows) (λ device.
     given (port_in rows) (λ port. Some (Round db device (host_in rows) port))))
 
--- The form of a report. None if the report is a statement and also has a period, because statements
--- have no periods.
+-- The options of a report. None for a statement (a list of meters for checking a bill) with a
+-- period, because a statement has no periods.
 abbrev pub unless_by : (statement : Bool) → Option Period → Form → Option Form
 unless_by statement period form = if statement && is_some period then None else Some form
 
@@ -191,7 +191,7 @@ form_in rows =
       statement = statement;
     }))))
 
--- The command `report` over one file, or over several files of one office.
+-- The command `report` over one database file, or over several successive files.
 abbrev pub report_of : (db : Text) → (files : List Text) → (register : Text) → Form → Line
 report_of db files register form =
     if nat_lt 1 (length files) then ReportFiles files register form else Report db register form
@@ -223,8 +223,8 @@ carry_in rows =
     given (text_at (codes "to") rows) (λ to.
     given (number_if 4294967295 (codes "until") rows) (λ until. Some (Carry from to until))))
 
--- What an audit does with a seal. None if the audit should both print a seal and compare the file
--- with a seal.
+-- What an audit does with a seal (a digest of a file's past). None if the audit should both print a
+-- seal and compare the file with a seal.
 abbrev pub sealing_of : (prints : Bool) → (against : Option Text) → Option Seal
 sealing_of prints None = Some (if prints then Print else Nothing)
 sealing_of prints (Some file) = if prints then None else Some (Against file)
@@ -234,13 +234,15 @@ sealing_of prints (Some file) = if prints then None else Some (Against file)
 abbrev pub sealing_in : List Row → Option Seal
 sealing_in rows = sealing_of (is_set (codes "seal") rows) (text_at (codes "against") rows)
 
--- True if an audit prints a seal, or compares the file with a stored seal.
+-- True if an audit prints a seal (a digest of a file's past), or compares the file with a stored
+-- seal.
 abbrev pub asks_seal : Seal → Bool
 asks_seal Nothing = false
 asks_seal Print = true
 asks_seal (Against file) = true
 
--- The command `audit` for the given files. None if a seal is requested for several files.
+-- The command `audit` for the given files. None if a seal (a digest of a file's past) is requested
+-- for several files.
 abbrev pub one_sealed : (dbs : List Text) → Seal → Option Line
 one_sealed dbs seal =
     if asks_seal seal && nat_lt 1 (length dbs) then None else Some (Audit dbs seal)

@@ -86,8 +86,9 @@ is_host_name (byte ∷ bytes) = list_all is_host_byte (byte ∷ bytes)
 abbrev pub host_names_of : List Text → Option (List Text)
 host_names_of names = if list_all is_host_name names then Some names else None
 
--- States that a fault may be reported for an option whose expected value is `due`. `Memory` (out of
--- memory) may always be reported, and other faults only if `due` is None.
+-- States which faults the program may report for an option that should have the value `due`.
+-- `Memory` (out of memory) is always allowed, other faults only if no valid value exists (`due` is
+-- None).
 abbrev pub IsDue : {A : Type 0} → ValueFault → Option A → Type 0
 IsDue fault.Memory due = ⊤
 IsDue (fault.Missing option) due = None ≡ due
@@ -101,8 +102,8 @@ IsDue (fault.Without option other) due = None ≡ due
 IsDue (fault.Device part fault) due = None ≡ due
 IsDue (fault.HostName word) due = None ≡ due
 
--- States that reading an option returns a value whose logical model is `due`, or a fault that
--- `IsDue` allows.
+-- States that a function reads an option correctly. It returns the value that the model `due`
+-- requires, or a fault that `IsDue` allows.
 abbrev pub Reads : {T A : Type 0} → (T → A) → Option A → Result T ValueFault → Type 0
 Reads seen due result =
     MatchResult result (λ value. Some (seen value) ≡ due) (λ fault. IsDue fault due)

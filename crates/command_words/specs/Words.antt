@@ -26,13 +26,13 @@ line_of words = line_in (subcommand_of program words)
 abbrev pub errors_of : List Text → Kinds
 errors_of words = fault_of program words
 
--- States that the kind of a `clap` error is a real error, and not a request for help or for the
--- version.
+-- States that a `clap` error is a real error. `clap` also reports requests for help or for the
+-- version as errors.
 abbrev pub IsFault : ErrorKind → Type 0
 IsFault kind = (kind ≢ DisplayHelp) × (kind ≢ DisplayVersion)
 
--- States that one of the kinds of `clap` errors is a real error, and not a request for help or for
--- the version.
+-- States that one of the `clap` errors is a real error. `clap` also reports requests for help or
+-- for the version as errors.
 abbrev pub HasFault : Kinds → Type 0
 HasFault [] = ⊥
 HasFault (kind ∷ kinds) = IsFault kind ⊎ HasFault kinds
@@ -42,8 +42,8 @@ HasFault (kind ∷ kinds) = IsFault kind ⊎ HasFault kinds
 abbrev pub Spells : List (Bor Text) → CommandLine → Type 0
 Spells words line = (errors_of (texts words) ≡ []) × (Some (seen line) ≡ line_of (texts words))
 
--- States that a fault may be reported for the arguments. `Wrong` requires a real error of `clap` or
--- an invalid option value. `Help` and `Version` require a request by the user.
+-- States which faults the program may report for the arguments. `Wrong` requires a real error of
+-- `clap` or an invalid option value. `Help` and `Version` require a request by the user.
 abbrev pub IsFaultOf : List (Bor Text) → WordsFault → Type 0
 IsFaultOf words (Wrong text) =
     HasFault (errors_of (texts words))

@@ -1,4 +1,4 @@
-//! The reasons why arguments result in no command, with their messages.
+//! The reasons why the program rejects its arguments, with their error messages.
 use crate::table::NumberOption;
 use crate::values::DeviceFault;
 use std::error::Error;
@@ -60,8 +60,8 @@ pub enum ValueFault<'a> {
     Memory,
 }
 
-/// The reason why arguments result in no command: a fault, or a request for help or for the
-/// version.
+/// The reason why the program executes no command: invalid arguments, out of memory, or a request
+/// for help or for the version.
 #[derive(Debug, PartialEq, Eq, Drop)]
 pub enum WordsFault {
     /// The arguments are invalid. The text for standard error states the reason.
@@ -83,7 +83,7 @@ fn write_words<W: fmt::Write>(f: &mut Formatter<W>, words: &[&str]) -> fmt::Resu
     Ok(())
 }
 
-// The error texts have the form of `clap`'s own error texts.
+// Error messages for invalid option values. They have the form of `clap`'s own messages.
 impl<'a> Display for ValueFault<'a> {
     fn fmt<W: fmt::Write>(&self, f: &mut Formatter<W>) -> fmt::Result {
         match self {
@@ -141,7 +141,8 @@ impl<'a> Display for ValueFault<'a> {
     }
 }
 
-// For `Wrong` and `Help`, this is the complete text from `clap` or from a `ValueFault`.
+// The message for the user. `Wrong` and `Help` contain it already, from `clap` or from a
+// `ValueFault`.
 impl Display for WordsFault {
     fn fmt<W: fmt::Write>(&self, f: &mut Formatter<W>) -> fmt::Result {
         match self {

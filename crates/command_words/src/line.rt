@@ -2,7 +2,8 @@
 use crate::values::Device;
 use energy_report::{EnergyUnit, Format, Period};
 
-/// The options that set the form of a report. `from` and `till` are days, as the user wrote them.
+/// The options that determine what a report shows. `from` and `till` are days, as the user wrote
+/// them.
 #[derive(Clone, Copy, Debug, PartialEq, Eq)]
 pub struct FormWords<'a> {
     pub from: Option<&'a str>,
@@ -18,11 +19,11 @@ pub struct FormWords<'a> {
 /// What an audit does with a seal, which is a signed-off digest of a file's past.
 #[derive(Clone, Copy, Debug, PartialEq, Eq)]
 pub enum Sealing<'a> {
-    /// The audit uses no seal.
+    /// The audit uses no seal (a digest of a file's past).
     Nothing,
-    /// The audit prints a new seal of the audited file.
+    /// The audit prints a seal (a digest of its past) for the audited file.
     Print,
-    /// The audit compares the file with the seal at this path.
+    /// The audit compares the file with the seal (a digest of its past) at this path.
     Against(&'a str),
 }
 
@@ -30,11 +31,13 @@ pub enum Sealing<'a> {
 /// range, and durations are in seconds.
 #[derive(Debug, PartialEq, Eq, Drop)]
 pub enum CommandLine<'a> {
-    /// Executes a script from standard input, with a store in memory.
+    /// Executes a script (a text of commands, events and queries) from standard input, with a store
+    /// in memory.
     Replay {
         zone: &'a str,
     },
-    /// Executes a script from standard input, with an office's file as its store.
+    /// Executes a script (a text of commands, events and queries) from standard input, with a
+    /// database file as its store.
     ReplayFile {
         db: &'a str,
     },
@@ -43,7 +46,7 @@ pub enum CommandLine<'a> {
     Plan,
     /// Prints the SunSpec models in a Modbus memory image from standard input.
     Chain,
-    /// Creates the tables of a new office in a file.
+    /// Creates the tables of a new, empty database in a file.
     Create {
         db: &'a str,
         zone: &'a str,
@@ -74,27 +77,28 @@ pub enum CommandLine<'a> {
         host: &'a str,
         port: u16,
     },
-    /// Reports the energy of an accounting register by days or another period, or prints a
-    /// statement of the register's meters.
+    /// Reports the energy of an accounting register (a named counter of a device) by days or
+    /// another period. With the option `--statement`, prints a statement of the register's meters
+    /// instead.
     Report {
         db: &'a str,
         register: &'a str,
         form: FormWords<'a>,
     },
-    /// Prints the report or statement of an accounting register over several files of one office,
-    /// the oldest first.
+    /// Prints the report or statement of an accounting register (a named counter of a device) over
+    /// several successive database files, the oldest first.
     ReportFiles {
         files: Vec<&'a str>,
         register: &'a str,
         form: FormWords<'a>,
     },
-    /// Copies an office's file to a new file.
+    /// Copies a database file to a new file.
     Backup {
         db: &'a str,
         to: &'a str,
     },
-    /// Recovers the readable records of an office whose write-ahead log is damaged, and writes them
-    /// to a new file.
+    /// Recovers the readable records of a database whose write-ahead log is damaged, and writes
+    /// them to a new file.
     Recover {
         db: &'a str,
         to: &'a str,
@@ -106,9 +110,9 @@ pub enum CommandLine<'a> {
         to: &'a str,
         until: Option<u32>,
     },
-    /// Audits the rows of a file, and compares them with a seal. For several files, the oldest
-    /// first, also checks that each file continues the previous file. A seal requires a single
-    /// file.
+    /// Audits the rows of a file, and compares them with a seal (a digest of a file's past). For
+    /// several files, the oldest first, also checks that each file continues the previous file. A
+    /// seal requires a single file.
     Audit {
         dbs: Vec<&'a str>,
         seal: Sealing<'a>,
@@ -152,7 +156,8 @@ pub enum CommandLine<'a> {
         most_kept: Option<u32>,
         verbose: bool,
     },
-    /// Explains a number that the program printed after a word, such as `held 2`.
+    /// Explains a numeric code that the program printed after a word, such as `held 2` (a rejected
+    /// reading).
     Explain {
         what: &'a str,
         number: &'a str,

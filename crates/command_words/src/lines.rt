@@ -148,7 +148,7 @@ fn carry_line<'a>(found: &ArgMatches<'a>) -> Result<CommandLine<'a>, ValueFault<
     })
 }
 
-// Parses the options `--seal` and `--against` of `audit`.
+// Parses the options `--seal` and `--against` of `audit`. A seal is a digest of a file's past.
 fn sealing<'a>(found: &ArgMatches<'a>) -> Result<Sealing<'a>, ValueFault<'a>>
     ensures { Reads seen_sealing (sealing_in (rows_in found.now)) result }
 {
@@ -169,8 +169,8 @@ fn sealing<'a>(found: &ArgMatches<'a>) -> Result<Sealing<'a>, ValueFault<'a>>
     Ok(Sealing::Against(seal))
 }
 
-// Returns the name of the given seal option, `--seal` or `--against`, or None if no seal is
-// requested.
+// Returns the name of the option that requests a seal (a digest of a file's past), `--seal` or
+// `--against`. None if the user requested no seal. Error messages name this option.
 fn seal_option(seal: Sealing<'_>) -> Option<&'static str>
     ensures { is_some result ≡ asks_seal (seen_sealing seal.entry) }
 {
@@ -181,7 +181,8 @@ fn seal_option(seal: Sealing<'_>) -> Option<&'static str>
     }
 }
 
-// Returns the command `audit` for the given files. Fails if a seal is requested for several files.
+// Returns the command `audit` for the given files. Fails if a seal (a digest of a file's past) is
+// requested for several files.
 fn audit_of<'a>(dbs: Vec<&'a str>, seal: Sealing<'a>) -> Result<CommandLine<'a>, ValueFault<'a>>
     ensures { Reads seen (one_sealed (texts dbs.entry.items) (seen_sealing seal.entry)) result }
 {

@@ -84,8 +84,7 @@ pub const TIMEOUT: NumberOption<'static> = NumberOption {
     most: 60,
 };
 
-/// The periods by which a report sums energy. `UNITS` and `FORMATS` are the report's units and
-/// output formats.
+/// The words that the options for a report's period, unit and output format accept.
 pub const PERIODS: &[&str] = &["day", "month", "year"];
 
 pub const UNITS: &[&str] = &["mwh", "kwh"];
@@ -530,12 +529,12 @@ const COMPLETIONS: CommandText<'static> = CommandText {
     }],
 };
 
-// The table of the first commands, in the order of the help text.
+// The first commands of the help text, in its order.
 const COMMANDS: &[CommandText<'static>] = &[
     REPLAY, PLAN, CHAIN, SCAN, CREATE, ENTER, SERVE, ROUND, REPORT,
 ];
 
-// The table of the remaining commands, in the order of the help text.
+// The remaining commands of the help text, in its order.
 const LATER_COMMANDS: &[CommandText<'static>] = &[
     BACKUP,
     RECOVER,

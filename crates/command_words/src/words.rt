@@ -22,7 +22,7 @@ fn found_in<'a>(alloc: Global, words: &'a [&'a str]) -> Result<ArgMatches<'a>, E
     matches_of(alloc, program(), words)
 }
 
-// Returns the fault for a `clap` error, with the error text of `clap`.
+// Converts a `clap` error to the program's own fault type, with the error text of `clap`.
 fn refusal(alloc: Global, error: &Error) -> WordsFault
     ensures { IsRefusal (kind_of error.now) result }
 {
@@ -42,7 +42,7 @@ fn refusal(alloc: Global, error: &Error) -> WordsFault
     }
 }
 
-// Returns the fault for an invalid option value, with its error text.
+// Returns the fault for an option value that is missing or invalid, with its error message.
 fn wrong_value(alloc: Global, fault: &ValueFault) -> WordsFault
     ensures { IsMisreading fault.now result }
 {

@@ -1,4 +1,4 @@
--- The definitions evaluated at both ends of each limit.
+-- Checks the definitions at both ends of each limit.
 use Rattle.std.specs.Prelude.{pos, negsuc}
 use Rattle.std.proofs.Common.{◌≡◌, ℕ, ◌+◌, ◌==◌, ◌||◌, ◌&&◌, nat_le, nat_lt, Bool, true, false, if◌then◌else◌, List, [], ◌∷◌, length, Some, None, refl}
 use Rattle.sun_chain.specs.Image.{Words}

@@ -19,8 +19,8 @@ from n bytes = take (length bytes - n) (drop n bytes)
 pub whole_again : (n : ℕ) (bytes : List ℕ) → take n bytes ++ from n bytes ≡ bytes
 whole_again n bytes = ap (λ t. take n bytes ++ t) (take_rest bytes n) ∙ take-append-drop n bytes
 
--- The frames of two concatenated byte lists are those of the first, followed by those of its rest
--- with the second.
+-- The complete frames of the stream `a ++ b` are those of `a`, followed by those that the bytes
+-- left over from `a` form with `b`.
 pub frames-then : (a b : List ℕ) → (frames (a ++ b) ≡ frames a ++ frames (rest a ++ b)) × (rest (a ++ b) ≡ rest (rest a ++ b))
 frames-then a b =
     let first = Reads-is a in
@@ -39,7 +39,7 @@ frames-then a b =
       ends = next.ends;
     }
 
--- An incomplete or invalid frame contains no complete frame, and is its own rest.
+-- An incomplete or invalid frame contains no complete frame: all of its bytes are left over.
 pub rest_alone : (b : List ℕ) → IsOpen b ⊎ IsBad b → (frames b ≡ []) × (rest b ≡ b)
 rest_alone b ends = Reads-only b [] b record { joined = refl; each = tt; ends = ends }
 
@@ -54,7 +54,7 @@ frame_alone b whole =
 pub open_nil : IsOpen []
 open_nil = inl (lit< tt)
 
--- Bytes after an invalid length field leave the stream's rest invalid.
+-- If a stream has an invalid length field after its complete frames, more bytes do not change that.
 pub bad_stays : (b left : List ℕ) → IsBad b → IsBad (rest (b ++ left))
 bad_stays b left bad =
     let same : span_of (b ++ left) ≡ span_of b = span_of-append b left bad.0 in
@@ -94,21 +94,22 @@ need_rest what r piece taken buffered reports is need all =
     let stays : buffered.rest ≡ r ++ piece = ap (λ (h : Buffered). h.rest) is_need in
     (stays ∙ sym alone.1, subst IsOpen (sym stays) is_open, alone.0, is_need)
 
--- After a feed that ends at an invalid length field, the rest of the stream is invalid.
+-- After a feed that ends at an invalid length field, the stream has that invalid header after its
+-- last complete frame.
 pub garbled_rest : (what : Framing) (r piece : List ℕ) (taken : ℕ) → ReportsFraming what (r ++ take taken piece) → what ≡ Garbled → IsBad (rest (r ++ piece))
 garbled_rest what r piece taken reports garbled =
     let b = r ++ take taken piece in
     let bad : ReportsFraming Garbled b = subst (λ w. ReportsFraming w b) garbled reports in
     subst (λ y. IsBad (rest y)) (sym (piece_is r piece taken)) (bad_stays b (from taken piece) bad.0)
 
--- An incomplete frame without further bytes completes no frame and is its own rest.
+-- If no bytes follow an incomplete frame, no frame is completed, and all bytes are left over.
 pub nothing_came : (r : List ℕ) → IsOpen r → (frames (r ++ []) ≡ []) × (r ≡ rest (r ++ []))
 nothing_came r is_open =
     let alone = rest_alone r (inl is_open) in
     (ap frames (append-nil r) ∙ alone.0, sym alone.1 ∙ sym (ap rest (append-nil r)))
 
--- The frames of more bytes are those of the bytes that arrived until now, followed by those of
--- their rest with the new bytes.
+-- The frames of a longer stream are those of the bytes that arrived until now, followed by those
+-- that the bytes left over form with the new bytes.
 pub came_more : (r came more : List ℕ) → (frames (r ++ (came ++ more)) ≡ frames (r ++ came) ++ frames (rest (r ++ came) ++ more)) × (rest (r ++ (came ++ more)) ≡ rest (rest (r ++ came) ++ more))
 came_more r came more =
     let joined : r ++ (came ++ more) ≡ (r ++ came) ++ more = sym (append_assoc r came more) in

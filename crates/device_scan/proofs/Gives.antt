@@ -13,8 +13,8 @@ part_after a b c x y first second = (
   Appends-trans a b c x second.0 first second.3,
 )
 
--- Writing `x` completely and then `y`, completely or in part, writes their concatenation,
--- completely or in part.
+-- If a link received all of `x`, and then all or a part of `y`, it received all or a part of their
+-- concatenation.
 pub got_both : {X E : Type 0} (result : Result X E) (a b c : Option (List ℕ)) (x y : List ℕ) → Appends a b x → GotText result y b c → GotText result (x ++ y) a c
 got_both (Ok done) a b c x y first second = Appends-trans a b c x y first second
 got_both (Err error) a b c x y first second = part_after a b c x y first second

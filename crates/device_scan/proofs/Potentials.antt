@@ -85,7 +85,8 @@ head_step word models address None =
 head_step word models address (Some id) =
     found_potential models address (model_in word models address) (λ model. model_stands word models address model)
 
--- Each read of a scan lowers the bound by at least 125.
+-- Each read of a scan lowers the number `potential`, which bounds the remaining reads, by at least
+-- 125.
 pub less_potential : (word : Words) (stage : Stage) (span : Span) → wanted stage ≡ Some span → potential (stage_after word stage) + 125 ≤ potential stage
 less_potential word (Mark address) span is =
     elim (is_marked word address) as (λ b. potential (if b then Head (address + 2) 0 else other_mark address) + 125 ≤ potential (Mark address))

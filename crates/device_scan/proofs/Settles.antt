@@ -25,7 +25,8 @@ if_ok_then P Q (Err e) holds step = tt
 abbrev brings : Ask → List ℕ → Option (List ℕ)
 brings ask frame = words_in ask (fields_of frame)
 
--- Later frames decide the result of a request only if the earlier frames do not.
+-- The result of a request is that of the earlier frames, or that of the later frames if the earlier
+-- frames include no response.
 pub settled_both : (ask : Ask) (fs gs : List (List ℕ)) → settled ask (fs ++ gs) ≡ first_of (settled ask fs) (settled ask gs)
 settled_both ask [] gs = refl
 settled_both ask (f ∷ fs) gs =
@@ -41,8 +42,8 @@ pub first_none : {X : Type 0} (a : Option X) → first_of a None ≡ a
 first_none None = refl
 first_none (Some x) = refl
 
--- One frame decides the result exactly if it is a Modbus frame with the request's transaction
--- identifier.
+-- One frame is the response to a request exactly if it is a Modbus frame with the request's
+-- transaction identifier.
 one_frame : (ask : Ask) (f : List ℕ) (is : Bool) → is_reply ask f ≡ is → settled ask (f ∷ []) ≡ cond is (Some (brings ask f)) None
 one_frame ask f true e = ap (λ (b : Bool). option_map (brings ask) (cond b (Some f) None)) e
 one_frame ask f false e = ap (λ (b : Bool). option_map (brings ask) (cond b (Some f) None)) e
@@ -53,12 +54,13 @@ own_reply ask f own = ap (λ (b : Bool). b && (tid_of f == ask.id)) (eq-eqb _ _ 
 foreign_reply : (ask : Ask) (f : List ℕ) → (IsOwn f → ⊥) → is_reply ask f ≡ false
 foreign_reply ask f foreign = ap (λ (b : Bool). b && (tid_of f == ask.id)) (ne_eqb _ _ foreign)
 
--- A frame reader without a frame decides no result.
+-- If the frame reader has no frame, the request has no response yet.
 pub none_held : (ask : Ask) (held : Option (List ℕ)) → None ≡ option_map fields_of held → settled ask (frames_held held) ≡ None
 none_held ask None is = refl
 none_held ask (Some f) is = cc
 
--- A frame in the reader with another transaction identifier than the request decides no result.
+-- If the frame in the reader has another transaction identifier than the request, the request has
+-- no response yet.
 pub other_held : (ask : Ask) (held : Option (List ℕ)) (fields : Fields) → Some fields ≡ option_map fields_of held → IfSome held IsOwn → fields.tid ≢ ask.id → settled ask (frames_held held) ≡ None
 other_held ask None fields is own other = cc
 other_held ask (Some f) fields is own other =
@@ -74,7 +76,8 @@ same_held ask (Some f) fields is own equal =
     let tids : fields.tid ≡ tid_of f = ap (λ (x : Fields). x.tid) same in
     one_frame ask f true (own_reply ask f own ∙ eq-eqb _ _ (sym tids ∙ equal)) ∙ ap (λ (x : Fields). Some (words_in ask x)) (sym same)
 
--- The frame that a feed completed decides the same result as the frame in the reader afterwards.
+-- The frame that a call of `feed` completed gives a request the same result as the frame that is
+-- then in the reader.
 settled_ended : (ask : Ask) (what : Framing) (b : List ℕ) → ReportsFraming what b → settled ask (ended what b) ≡ settled ask (frames_held (buffered_after what b).frame)
 settled_ended ask Need b reports = refl
 settled_ended ask Whole b reports = refl
@@ -90,7 +93,8 @@ own_after Garbled b reports = tt
 pub own_held : (what : Framing) (b : List ℕ) (buffered : Buffered) → ReportsFraming what b → buffered ≡ buffered_after what b → IfSome buffered.frame IsOwn
 own_held what b buffered reports is = subst (λ (h : Buffered). IfSome h.frame IsOwn) (sym is) (own_after what b reports)
 
--- A chunk decides the result that its first feed decides, or else that of the remaining bytes.
+-- The result of a request from a chunk is that of the first frame that the chunk completes, or
+-- otherwise that of its remaining bytes.
 pub piece_settles : (ask : Ask) (what : Framing) (r piece : List ℕ) (taken : ℕ) (buffered : Buffered) → ReportsFraming what (r ++ take taken piece) → buffered ≡ buffered_after what (r ++ take taken piece)
     → settled ask (frames (r ++ piece)) ≡ first_of (settled ask (frames_held buffered.frame)) (settled ask (frames (buffered.rest ++ from taken piece)))
 piece_settles ask what r piece taken buffered reports is =
@@ -106,7 +110,8 @@ piece_settles ask what r piece taken buffered reports is =
     ∙ ap (λ (x : Option (Option (List ℕ))). first_of x (settled ask (frames (rest b ++ left)))) front
     ∙ ap (λ (y : List ℕ). first_of (settled ask (frames_held buffered.frame)) (settled ask (frames (y ++ left)))) stays
 
--- A feed that consumes all of a chunk and completes no frame decides no result.
+-- If a call of `feed` consumes all of a chunk and completes no frame, the chunk contains no
+-- response to the request.
 pub need_settles : (ask : Ask) (what : Framing) (r piece : List ℕ) (taken : ℕ) (buffered : Buffered) → ReportsFraming what (r ++ take taken piece) → buffered ≡ buffered_after what (r ++ take taken piece)
     → what ≡ Need → taken ≡ length piece → settled ask (frames_held buffered.frame) ≡ settled ask (frames (r ++ piece))
 need_settles ask what r piece taken buffered reports is need all =
@@ -119,7 +124,7 @@ pub heard_piece : (heard later : Option (Option (List ℕ))) (held piece : Optio
 heard_piece heard later held piece result first next =
     next ∙ ap (λ (x : Option (Option (List ℕ))). first_of x piece) first ∙ first_assoc heard held piece
 
--- A turn that receives no bytes leaves the incomplete frame unchanged.
+-- If a turn (one read of the link) receives no bytes, the incomplete frame is unchanged.
 pub hears_nothing : (a b : Option (List ℕ)) (r : List ℕ) → IsOpen r → Keeps a b → Hears a b r r []
 hears_nothing a b r is_open kept = record { took = Consumes-kept a a b [] (Consumes-nil a) kept; read = (nothing_came r is_open).1; is_open = is_open }
 
@@ -159,7 +164,7 @@ turn_bytes ask a b r s bytes turn took read is_open reports = record { came = by
 pub turn_idle : (ask : Ask) (a b : Option (List ℕ)) (r : List ℕ) → IsOpen r → Keeps a b → HearsTurn ask a b r r Idle
 turn_idle ask a b r is_open kept = record { came = []; hears = hears_nothing a b r is_open kept; reports = ap (settled ask) (nothing_came r is_open).0 }
 
--- True if bytes arrived over the link and decided no result.
+-- True if the bytes that arrived over the link do not include the response to the request.
 pub record Waits (ask : Ask) (a b : Option (List ℕ)) (r s : List ℕ) : Type 0 where
   pub came : List ℕ
   pub hears : Hears a b r s came

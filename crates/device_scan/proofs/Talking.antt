@@ -1,4 +1,4 @@
--- Lemmas about consecutive requests, reads and exchanges of a scan.
+-- Lemmas about the consecutive requests and reads of a scan, and the words that they return.
 use Rattle.std.specs.Prelude.{slice_index}
 use Rattle.std.proofs.Common.{◌≡◌, ℕ, ◌+◌, ◌*◌, ◌<◌, ◌≤◌, List, [], ◌∷◌, ◌++◌, length, Option, None, Some, Result, Ok, Bool, true, false, ◌==◌, if◌then◌else◌, drop, map, refl, sym, ap, ◌∙◌, subst, append-nil, append_assoc, length-append, arith, option_map}
 use Rattle.std.specs.List.{flat_map}
@@ -46,7 +46,8 @@ requests_two unit span id next result a b c first second = (
       (got_both result a b c (request_under unit span id) (request_under unit span next) first second),
 )
 
--- The frame of a request for holding registers is the frame of an `Inquiry`.
+-- The frame of a request for holding registers is the frame of the `Inquiry` with the same
+-- transaction identifier, address and count.
 pub holding_frame : (id unit : ℕ) (function : ReadFunction) (address count : ℕ) → function ≡ HoldingRegisters
     → request_frame (record { id = id; unit = unit; span = record { function = function; address = address; count = count } }) ≡ inquiry_frame unit (record { id = id; address = address; count = count })
 holding_frame id unit function address count is =
@@ -157,7 +158,7 @@ pub reads_full : (unit : ℕ) (a b : Line) (span : Span) (answer : Option (List 
 reads_full unit a b span answer words (AtOnce all said tries) is = tries_full unit a b span answer words tries is
 reads_full unit a b span answer words (Again mid first next) is = tries_full unit mid b span answer words next is
 
--- Lemmas about consecutive exchanges of a scan.
+-- Lemmas about consecutive reads of a scan and the words that they return.
 
 pub same_words : (a b : Words) → ((address : ℕ) → a address ≡ b address) → a ≡ b
 same_words a b same = λ i. λ address. same address i
@@ -170,7 +171,8 @@ talks_more : (unit : ℕ) (a : Line) (xs : List Exchange) (x : Exchange) (b c : 
 talks_more unit a [] x b c talk reads = (c, subst (λ (l : Line). Reads unit l c x.span x.words) (sym talk) reads, refl)
 talks_more unit a (first ∷ xs) x b c talk reads = (talk.0, talk.1, talks_more unit talk.0 xs x b c talk.2 reads)
 
--- True if the exchanges until now lead to this state of the link, these words and this stage.
+-- True if the exchanges (the scan's reads and their results) lead to this state of the link, these
+-- words and this stage.
 pub record Progress (unit : ℕ) (old now : Line) (word : Words) (stage : Stage) (exchanges : List Exchange) : Type 0 where
   pub asked : (later : List Exchange) → AsksInTurn word stage later → AsksInTurn nothing begun (exchanges ++ later)
   pub words : word ≡ words_reported nothing exchanges
@@ -262,7 +264,8 @@ going_more unit old_bytes old_given bytes given later_bytes later_given asked_un
       takes = omega arith;
     }
 
--- The scan ends if its stage requires no further read.
+-- If the stage of a scan requires no further read, the scan ends with the effects that `Scans`
+-- defines.
 pub going_ends : (unit : ℕ) (old_bytes old_given bytes given : Option (List ℕ)) (asked_unit : ℕ) (open_bytes : List ℕ) (next : ℕ) (word found : Words) (stage : Stage) (old_taken taken : ℕ) →
     Going unit old_bytes old_given bytes given asked_unit open_bytes next word stage old_taken taken → wanted stage ≡ None → found ≡ word → Scans unit old_bytes old_given bytes given found
 going_ends unit old_bytes old_given bytes given asked_unit open_bytes next word found stage old_taken taken going over is =
@@ -303,7 +306,7 @@ smaller word stage next span is goes =
     let same : potential next ≡ potential (stage_after word stage) = ap potential goes in
     omega arith
 
--- The words of a response are as many as the request asked for.
+-- If a response has words, their number is the requested number.
 pub seen_full : {Z : Type 0} (answer : Option (Vec ℕ Z)) (count : ℕ) → ((words : List ℕ) → words_seen answer ≡ Some words → length words ≡ count) → IfSome answer (λ words. length words.items ≡ count)
 seen_full None count full = tt
 seen_full (Some words) count full = full words.items refl

@@ -17,7 +17,7 @@ pub record Ask : Type 0 where
   pub unit : ℕ
   pub span : Span
 
--- The value of a `Try`.
+-- The value of a `Try`, which is one read request.
 abbrev pub ask_of : Try → Ask
 ask_of attempt = record { id = attempt.id; unit = attempt.unit; span = span_view attempt.span }
 

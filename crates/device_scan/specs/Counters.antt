@@ -1,4 +1,4 @@
--- Defines the count and the scale of a counter in the words of one read.
+-- Defines the count and the scale of a device's counter in the words (registers) of one read.
 use Rattle.std.specs.Prelude.{◌≡◌, ℕ, ℤ, pos, negsuc, ◌+◌, ◌-◌, ◌==◌, ◌&&◌, nat_le, int_le, min, max, Bool, if◌then◌else◌, List, slice_index, Some, None, option_and_then}
 use Rattle.std.specs.Option.{option_map}
 use Rattle.std.specs.declared.option.Option.{Option}

@@ -1,5 +1,5 @@
--- Defines the bytes that a link transfers in each direction during a scan, if the link reports
--- them.
+-- Defines the bytes that a link (the connection to a device) transfers in each direction during a
+-- scan, if the link reports them.
 use Rattle.std.specs.Prelude.{◌≡◌, ℕ, ◌+◌, ◌%◌, ◌≤◌, Bool, true, false, List, ◌++◌, length, Vec, IfOk, Ok, Err, Some, None, unwrap_or}
 use Rattle.std.specs.Io.KnownBytes.{Appends, Consumes}
 use Rattle.std.specs.List.{flat_map}
@@ -41,14 +41,15 @@ pub record Hears (old_bytes new_bytes : Option (List ℕ)) (old_open new_open ca
     pub read : new_open ≡ rest (old_open ++ came)
     pub is_open : IsOpen new_open
 
--- The facts about the frames that arrived for the request that each result of a turn implies.
+-- States for each result of a turn whether the frames that arrived include the response to the
+-- request. A turn is one read of the link.
 abbrev pub TurnReports : Ask → List (List ℕ) → Turn → Type 0
 TurnReports ask frames Idle = settled ask frames ≡ None
 TurnReports ask frames More = settled ask frames ≡ None
 TurnReports ask frames (Settled answer) = settled ask frames ≡ Some (words_seen answer)
 
--- The effect of a turn that reads the link once: the result of the turn is the result of the frames
--- in the new bytes.
+-- The effect of a turn, which is one read of the link. The result of the turn follows from the
+-- frames that the new bytes complete.
 pub record HearsTurn (ask : Ask) (old_bytes new_bytes : Option (List ℕ))
     (old_open new_open : List ℕ) (turn : Turn) : Type 0 where
   pub came : List ℕ

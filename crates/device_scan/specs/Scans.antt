@@ -23,21 +23,21 @@ pub record Exchange : Type 0 where
   pub span : Span
   pub words : Option (List ℕ)
 
--- The memory image without any words.
+-- The words of a device from which nothing has been read: none at any address.
 abbrev pub nothing : Words
 nothing address = None
 
--- The image after a read from `address`. The words of the response replace earlier words, and
--- `None` changes nothing.
+-- The words received until now, by address, after a read from `address`. The words of the response
+-- replace earlier words, and `None` changes nothing.
 abbrev pub append_answer : Words → ℕ → Option (List ℕ) → Words
 append_answer word address None = word
 append_answer word address (Some words) = add_words word address words
 
--- The image after one more read.
+-- The words received until now, by address, after one more read.
 abbrev pub words_after : Words → Exchange → Words
 words_after word exchange = append_answer word exchange.span.address exchange.words
 
--- The image after a list of reads.
+-- The words received until now, by address, after a list of reads.
 abbrev pub words_reported : Words → List Exchange → Words
 words_reported word [] = word
 words_reported word (exchange ∷ exchanges) = words_reported (words_after word exchange) exchanges

@@ -40,7 +40,8 @@ model_of Over = None
 abbrev pub is_known : ℕ → Bool
 is_known id = id == 1 || (nat_le 101 id && nat_le id 103) || (nat_le 201 id && nat_le id 204)
 
--- The first stage of a scan, which reads the `SunS` mark at address 40000.
+-- The first stage of a scan, which reads the `SunS` mark at address 40000. A stage determines the
+-- next read.
 abbrev pub begun : Stage
 begun = Mark 40000
 
@@ -49,8 +50,8 @@ abbrev pub other_mark : ℕ → Stage
 other_mark address =
     if address == 40000 then Mark 50000 else if address == 50000 then Mark 0 else Over
 
--- The stage after `models` models: reading the head at this address, or the end of the scan past
--- address 65535.
+-- The stage after `models` models: reading the head (ID and length) of the next model at this
+-- address, or the end of the scan past address 65535.
 abbrev pub head_at : (models address : ℕ) → Stage
 head_at models address = if nat_le address 65535 then Head address models else Over
 
@@ -83,18 +84,20 @@ model_in word models address =
     (word (address + 1)))
     (word address)
 
--- The stage after a head that was not read: reading the ID alone, because the end of the chain may
--- be the device's last register.
+-- The stage after the head (ID and length) of a model was not read: reading the ID alone, because
+-- the end of the chain may be the device's last register.
 abbrev pub ending_at : (address : ℕ) → Stage
 ending_at address = if nat_lt address 65535 then Ending address else Over
 
--- The stage after a read of a head, by the ID that was read, or by `None` if the ID was not read.
+-- The stage after a read of a model's head (ID and length), by the ID that was read, or by `None`
+-- if the ID was not read.
 abbrev pub after_head : Words → (models address : ℕ) → Option ℕ → Stage
 after_head word models address None = ending_at address
 after_head word models address (Some id) =
     option_map_or (in_model (models + 1)) (model_in word models address) Over
 
--- The stage after the read of a stage. `word` has the words that the scan has received until now.
+-- The stage that follows the read of this stage. `word` has the words that the scan has received
+-- until now.
 abbrev pub stage_after : Words → Stage → Stage
 stage_after word (Mark address) =
     if is_marked word address then Head (address + 2) 0 else other_mark address

@@ -1,4 +1,4 @@
--- An accepted reading may be recorded as an entry, with the energy that the verdict states.
+-- The rules record each accepted reading as an entry, with the energy that the verdict states.
 use Rattle.std.proofs.Common.{◌==◌, ◌≢◌, nat_le, ◌≡◌, ℕ, ℤ, ◌+◌, ◌-◌, ◌*◌, ◌<◌, ◌≤◌, false, not, nat_lt, if◌then◌else◌, Option, Some, None, ap, sym, refl, ◌∙◌, arith}
 use Rattle.std.proofs.lemmas.Bool.Decides.{nat_tests, Decides-int_eq}
 use Rattle.std.specs.List.{find}
@@ -90,7 +90,8 @@ pub accepted_is_plausible : AcceptedIsPlausible
 accepted_is_plausible range terms last reading rolls step =
     (plausible_where_accepted range terms last reading rolls step, accepted_where_plausible range terms last reading rolls step)
 
--- The energy between two counts equals the energy of the number of counts between them.
+-- The energy from one count to another is the number of counts between them, times the energy `u`
+-- of one count.
 pub gained : (u from dist to_ : ℕ) → to_ ≡ from + dist → to_ * u - from * u ≡ dist * u
 gained u from dist to_ e = ap (λ n. n * u - from * u) e ∙ (let f : (from + dist) * u - from * u ≡ dist * u = omega arith in f)
 

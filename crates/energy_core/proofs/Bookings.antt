@@ -1,5 +1,4 @@
--- An entry that was recorded may follow the last entry, and continues the account of the
--- installation.
+-- An entry that was recorded may follow the last entry. The entries with it obey the rules again.
 use Rattle.std.proofs.Common.{◌≡◌, ℕ, ◌+◌, ◌*◌, ◌^◌, ◌<◌, ◌≤◌, false, nat_lt, nat_le, List, [], ◌∷◌, Option, Some, None, Ok, ap, subst, refl, ◌∙◌, arith}
 use Rattle.std.proofs.lemmas.Bool.Decides.{nat_tests}
 use Rattle.std.proofs.lemmas.Int.{ints}

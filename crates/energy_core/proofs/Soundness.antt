@@ -1,4 +1,4 @@
--- The invariant of an installation's account, which accepted readings preserve.
+-- The invariant of an installed meter's entries and energy, which accepted readings preserve.
 use Rattle.std.proofs.Common.{◌≡◌, ℕ, ◌+◌, ◌-◌, ◌*◌, ◌^◌, ◌<◌, ◌≤◌, List, [], ◌∷◌, sym, refl, ◌∙◌, arith}
 use Rattle.std.specs.List.{All, sum_by}
 use Rattle.std.proofs.lemmas.List.Elements.{All-nil, All-cons}
@@ -48,7 +48,7 @@ accounts_are_sound range opening es last total below scale h =
       steps = shareable range opening es h.follow (omega (arith, h.within));
     }
 
--- The entries of an installation have an account, with the counter's state and total energy after
+-- The entries of an installed meter obey the rules, with the counter's state and total energy after
 -- these entries.
 abbrev HasAccount : ℕ → Last → List Entry → Type 0
 HasAccount range opening es = IsAccount range opening es (last_of opening es) (whole_energy range opening es)

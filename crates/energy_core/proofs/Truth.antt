@@ -1,4 +1,5 @@
--- The readings of a true run are all accepted, and their recorded energy is the true energy.
+-- All readings of an honest meter that is polled often enough are accepted, and their recorded
+-- energy is the true energy.
 use Rattle.std.proofs.Common.{◌≡◌, ◌≢◌, ℕ, ℤ, ◌+◌, ◌-◌, ◌*◌, ◌%◌, ◌<◌, ◌≤◌, true, false, not, List, [], ◌∷◌, map, IsTrue, nat_le, nat_lt, if◌then◌else◌, refl, ap, sym, ◌∙◌, arith}
 use Rattle.std.proofs.Math.Nat.{mod-lt, mul-le-mul_right, add-mul}
 use Rattle.std.proofs.lemmas.Bool.{cases_lt}
@@ -58,12 +59,13 @@ less_than_a_turn ceiling unit seconds range d slow long =
 not_beyond_range : (range count : ℕ) → 0 < range → nat_le range (count % range) ≡ false
 not_beyond_range range count pos = let below : count % range < range = mod-lt count pos in grind (arith, nat_tests)
 
--- The limits by which a reading of a true run is judged: the ceiling, and the true energy so far.
+-- The limits by which a reading of an honest meter (a true run) is judged: the ceiling on power,
+-- and the true energy so far.
 abbrev terms_after : (ceiling : ℕ) → ℤ → Item → Item → Terms
 terms_after ceiling sf first a = record { ceiling = ceiling; total = advance sf first a }
 
--- A reading of a true run is accepted with the true energy, if only its speed or its range could
--- reject it.
+-- A reading of a true run is accepted with the true energy, if no cause except `TooFast` and
+-- `NotBelowRange` could reject the reading.
 one_reading : (range ceiling : ℕ) (sf : ℤ) (first a b : Item) → 0 < range → a.count ≤ b.count
     → IsTrue (can_count ceiling (unit_of sf) (b.at - a.at) (b.count - a.count))
     → ((c : Cause) → c ≢ cause.TooFast → c ≢ cause.NotBelowRange

@@ -1,6 +1,6 @@
--- The entries of an installation, the steps between entries, and the energy of each step. A list of
--- entries begins with the latest, and does not contain the opening entry. `range` is the number of
--- counts in a full turn of the counter.
+-- The entries of an installation (an installed meter), the steps between entries, and the energy of
+-- each step. A list of entries begins with the latest, and does not contain the opening entry.
+-- `range` is the number of counts in a full turn of the counter.
 use Rattle.std.specs.Prelude.{◌≡◌, ℕ, ℤ, ◌+◌, ◌-◌, ◌*◌, ◌/◌, ◌≤◌, ◌<◌, ◌≤ℤ◌, List, [], ◌∷◌}
 use Rattle.energy_core.specs.declared.limits.TheConstants.{INTERVAL_SECONDS, MAX_INTERVALS, MAX_SCALE, MAX_TOTAL, MIN_SCALE}
 use Rattle.energy_core.specs.declared.entries.Last.{Last}
@@ -28,8 +28,8 @@ abbrev pub last_of : Last → List Entry → Last
 last_of opening [] = opening
 last_of opening (e ∷ es) = after (last_of opening es) e
 
--- The count that the counter reached at an entry. A `Step` includes its full turns. A `Change`
--- counts what the counter showed before it was set.
+-- The count that the counter reached at an entry. For a reading (`Step`), the count includes the
+-- full turns. For a reset or rescale (`Change`), it is the count before the counter was set.
 abbrev pub reached : (range : ℕ) → Entry → ℕ
 reached range (entry.Step at raw rolls) = raw + rolls * range
 reached range (entry.Change at before new sf) = before
@@ -49,7 +49,7 @@ steps_of range opening [] = []
 steps_of range opening (e ∷ es) = step_to range (last_of opening es) e ∷ steps_of range opening es
 
 -- The energy in mWh of all recorded full turns, plus the energy of the count that the counter
--- showed before each change.
+-- showed before each reset or rescale.
 abbrev pub recorded : (range : ℕ) → Last → List Entry → ℕ
 recorded range opening [] = 0
 recorded range opening (entry.Step at raw rolls ∷ es) =

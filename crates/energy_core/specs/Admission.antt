@@ -60,13 +60,13 @@ answered range last e None = Ok (after last e, step_to range last e)
 abbrev pub entered : (range total : ℕ) → Last → Entry → Result (Last × Step) TermFault
 entered range total last e = answered range last e (find (refuses range total last e) faults)
 
--- After the entries `es`, the account has the counter's state `r.0`, and a total that grew by the
--- step `r.1`.
+-- After the entries `es`, the counter's state is `r.0`, and the total energy has grown by the
+-- energy of the step `r.1`.
 abbrev pub ContinuesAccount : (range : ℕ) → Last → List Entry → (total : ℕ) → Last × Step → Type 0
 ContinuesAccount range opening es total r = IsAccount range opening es r.0 (total + r.1.mwh)
 
--- If `answer` records the entry, the entry extends every account with the counter's state `last`
--- and the energy `total`.
+-- If `answer` records the entry `e`, then `e` may follow any lawful entries after which the
+-- counter's state is `last` and the energy is `total`.
 abbrev pub AccountsGoOnBy : (range total : ℕ) → Last → Entry → Result (Last × Step) TermFault
     → Type 0
 AccountsGoOnBy range total last e answer = (opening : Last) (es : List Entry)

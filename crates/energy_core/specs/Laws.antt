@@ -1,4 +1,4 @@
--- Theorems about the definitions of accounts and verdicts, for every list of entries and of
+-- Theorems about recorded energy and about verdicts on readings, for every list of entries and of
 -- readings.
 use Rattle.std.specs.Prelude.{◌≡◌, ℕ, ◌+◌, ◌*◌, ◌<◌, ◌≤◌, ◌↔◌, List, [], ◌∷◌, Ok, All, sum_by, nat_lt, if◌then◌else◌}
 use Rattle.energy_core.specs.declared.limits.TheConstants.{MAX_INTERVALS, MAX_TOTAL}
@@ -15,8 +15,9 @@ use Rattle.energy_core.specs.Verdict.{distance, verdict_of, IsPlausible}
 use Rattle.energy_core.specs.Admission.{entered, IsBooked}
 use Rattle.energy_core.specs.Readings.{entries_of_readings}
 
--- Theorem: the energies of the steps, the opening value and the values that changes set equal the
--- last value plus `recorded`.
+-- Theorem: the energies of the steps, the opening value and the values that resets and rescales set
+-- add up to the last value plus `recorded`. `recorded` is the energy of all full turns and of the
+-- counts before resets and rescales.
 abbrev pub StepsAddUp : Type 0
 StepsAddUp = (range : ℕ) (opening : Last) (es : List Entry) → NeverFalls range opening es
     → sum_by (λ (s : Step). s.mwh) (steps_of range opening es) + value_of opening + set_anew es
@@ -43,8 +44,8 @@ AcceptedIsPlausible = (range : ℕ) (terms : Terms) (last : Last) (reading : Rea
     × (rolls ≡ (if nat_lt reading.raw last.raw then 1 else 0))
     × (step ≡ distance range last.raw reading.raw * unit_of last.sf))
 
--- Theorem: an accepted reading may be recorded as an entry, with the energy that the verdict
--- states.
+-- Theorem: `entered`, the check of entries, records each accepted reading, with the energy that the
+-- verdict states.
 abbrev pub AcceptedIsEntered : Type 0
 AcceptedIsEntered = (range : ℕ) (terms : Terms) (last : Last) (reading : Reading) (rolls step : ℕ)
     → last.raw < range
@@ -55,26 +56,28 @@ AcceptedIsEntered = (range : ℕ) (terms : Terms) (last : Last) (reading : Readi
       record { from = last.at; till = reading.at; mwh = step },
     )
 
--- Theorem: an installation that was just opened has an account with 0 mWh.
+-- Theorem: a meter that was just installed has recorded 0 mWh.
 abbrev pub AccountsBegin : Type 0
 AccountsBegin = (range : ℕ) (opening : Last) → IsAccount range opening [] opening 0
 
--- Theorem: recording one more entry extends the account of an installation by that entry.
+-- Theorem: if the entries of an installed meter obey the rules (`IsAccount`), the entries with one
+-- more recorded entry obey the rules too.
 abbrev pub AccountsGoOn : Type 0
 AccountsGoOn = (range : ℕ) (opening : Last) (es : List Entry) (last : Last) (total : ℕ)
     (e : Entry) (next : Last) (step : Step)
     → IsAccount range opening es last total → IsBooked range total last e next step
     → IsAccount range opening (e ∷ es) next (total + step.mwh)
 
--- The step can be divided among the intervals that it touches.
+-- The step's length and energy are within the limits for dividing the step among the quarter hours
+-- that it touches.
 pub record IsShareable (step : Step) : Type 0 where
   pub later : step.from < step.till
   pub span : intervals_touched step.from step.till ≤ MAX_INTERVALS
   pub within : step.mwh ≤ MAX_TOTAL
 
--- The account of an installation is sound. The counter's count is below its range, its scale factor
--- is from -3 to 3, and no entry's count goes back. The total energy is the sum of the steps, and
--- each step can be divided among its intervals.
+-- The recorded state of an installed meter is sound. The counter's count is below its range, its
+-- scale factor is from -3 to 3, and no entry's count goes back. The total energy is the sum of the
+-- steps, and each step can be divided among its intervals.
 pub record IsSound (range : ℕ) (opening : Last) (es : List Entry) (last : Last)
     (total : ℕ) : Type 0 where
   pub raw : last.raw < range
@@ -83,14 +86,15 @@ pub record IsSound (range : ℕ) (opening : Last) (es : List Entry) (last : Last
   pub sum : total ≡ sum_by (λ (s : Step). s.mwh) (steps_of range opening es)
   pub steps : All IsShareable (steps_of range opening es)
 
--- Theorem: every account of an installation is sound if the opening entry shows a count below the
--- range at a scale factor from -3 to 3.
+-- Theorem: entries that obey the rules (`IsAccount`) have a sound state if the opening entry shows
+-- a count below the range at a scale factor from -3 to 3.
 abbrev pub AccountsAreSound : Type 0
 AccountsAreSound = (range : ℕ) (opening : Last) (es : List Entry) (last : Last) (total : ℕ)
     → opening.raw < range → IsScale opening.sf
     → IsAccount range opening es last total → IsSound range opening es last total
 
--- Theorem: after any list of readings, the accepted readings are entries that have an account.
+-- Theorem: after any list of readings, the entries that the accepted readings became obey the rules
+-- (`IsAccount`).
 abbrev pub ReadingsKeepAccounts : Type 0
 ReadingsKeepAccounts = (range ceiling : ℕ) (opening : Last) (rs : List Reading)
     → opening.raw < range

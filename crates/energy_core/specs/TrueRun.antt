@@ -1,5 +1,5 @@
 -- A true run: the list of counts that a meter really made over time. The list begins with the
--- latest count, and does not contain the count at the opening.
+-- latest count, and does not contain the count at the meter's installation.
 use Rattle.std.specs.Prelude.{◌≡◌, ◌≢◌, ℕ, ℤ, ◌-◌, ◌*◌, ◌%◌, ◌<◌, ◌≤◌, IsTrue, false, List, [], ◌∷◌, map}
 use Rattle.energy_core.specs.declared.entries.Last.{Last}
 use Rattle.energy_core.specs.declared.entries.Step.{Step}
@@ -25,7 +25,8 @@ shown range sf item = record { at = item.at; raw = item.count % range; sf = sf }
 abbrev pub reported : (range : ℕ) → ℤ → Item → Reading
 reported range sf item = record { at = item.at; raw = item.count % range; sf = sf }
 
--- The latest item of a true run. For an empty list, it is the item at the opening.
+-- The latest item (time and true count) of a run. For an empty list, it is the item `first` at the
+-- meter's installation.
 abbrev pub newest : Item → List Item → Item
 newest first [] = first
 newest first (b ∷ items) = b
@@ -41,7 +42,7 @@ IsTrueRun ceiling sf first (b ∷ items) =
     × IsTrue (can_count ceiling (unit_of sf) (b.at - a.at) (b.count - a.count))
     × IsTrueRun ceiling sf first items
 
--- The true energy between two items of a true run, in mWh.
+-- The true energy between two items (times and true counts) of a run, in mWh.
 abbrev pub advance : ℤ → Item → Item → ℕ
 advance sf a b = (b.count - a.count) * unit_of sf
 
@@ -76,8 +77,8 @@ pub record IsBookedTruly (range ceiling : ℕ) (sf : ℤ) (first : Item) (items 
         (entries_of_readings range ceiling (shown range sf first) (map (reported range sf) items))
         ≡ advance sf first (newest first items)
 
--- Theorem: a true run that is polled often enough is recorded truly, however often the counter
--- rolled over.
+-- Theorem: if a meter shows its true counts and is polled often enough, its energy is recorded
+-- truly, however often the counter rolled over.
 abbrev pub TruthIsBooked : Type 0
 TruthIsBooked = (range ceiling : ℕ) (sf : ℤ) (first : Item) (items : List Item) → 0 < range
     → IsTrueRun ceiling sf first items → IsReadOftenEnough range ceiling sf first items

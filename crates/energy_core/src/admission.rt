@@ -117,8 +117,6 @@ fn last_after(last: &Last, entry: &Entry) -> Last
 
 /// Records an entry after the counter's last entry. Returns the counter's state after the new
 /// entry, and the step between the two entries. On error, returns the first fault that applies.
-///
-/// Folding a list of entries with this function computes the account of an installation.
 pub fn enter<C: Counter>(
     counter: &C,
     terms: &Terms,

@@ -6,12 +6,9 @@ use crate::entries::Last;
 use crate::limits::{MAX_SCALE, MAX_UNIT, MIN_SCALE};
 use crate::measures::unit;
 
-/// Returns the energy in mWh from the counter's last entry to the count `reached`, or 0 if
-/// `reached` is less. `reached` is the count that the counter would have without rollovers and
-/// resets.
-///
-/// This crate computes all energy with this function. `reached` may be greater than any number that
-/// a counter shows.
+/// Returns the energy in mWh from the counter's last entry to the count `reached`, which includes
+/// the full turns since that entry. Returns 0 if `reached` is less than the last entry's count.
+/// This crate computes all energy with this function.
 pub fn energy_up_to(last: &Last, reached: u128) -> u128
     requires reached { reached ≤ 2 ^ 97 }
     requires scale_low { MIN_SCALE ≤ℤ last.now.sf }

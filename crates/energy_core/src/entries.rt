@@ -9,7 +9,7 @@ pub struct Last {
     pub sf: i16,
 }
 
-/// An entry of an installation after the opening entry.
+/// An entry of an installed meter, after the opening entry that recorded the installation.
 #[derive(Clone, Copy, Debug, PartialEq, Eq)]
 pub enum Entry {
     /// A reading, a correction by hand or a closing. The counter reached `raw` after `rolls` full

@@ -21,30 +21,30 @@ pub fn accepted_is_plausible()
     ensures { AcceptedIsPlausible }
 {}
 
-/// Theorem: an accepted reading may be recorded as an entry, with the energy that the verdict
-/// states.
+/// Theorem: `enter`'s rules record each accepted reading, with the energy that the verdict states.
 pub fn accepted_is_entered()
     ensures { AcceptedIsEntered }
 {}
 
-/// Theorem: an installation that was just opened has an account with 0 mWh.
+/// Theorem: a meter that was just installed has recorded 0 mWh.
 pub fn accounts_begin()
     ensures { AccountsBegin }
 {}
 
-/// Theorem: recording one more entry extends the account of an installation by that entry.
+/// Theorem: if the entries of an installed meter obey the rules (`IsAccount`), the entries with one
+/// more recorded entry obey the rules too.
 pub fn accounts_go_on()
     ensures { AccountsGoOn }
 {}
 
-/// Theorem: every account of an installation is sound if the opening entry shows a count below the
-/// range at a scale factor from -3 to 3.
+/// Theorem: entries that obey the rules (`IsAccount`) have a sound state if the opening entry shows
+/// a count below the range at a scale factor from -3 to 3.
 pub fn accounts_are_sound()
     ensures { AccountsAreSound }
 {}
 
-/// Theorem: after any list of accepted and rejected readings, the entries of an installation have
-/// an account.
+/// Theorem: after any list of readings, the entries that the accepted readings became obey the
+/// rules (`IsAccount`).
 pub fn readings_keep_accounts()
     ensures { ReadingsKeepAccounts }
 {}

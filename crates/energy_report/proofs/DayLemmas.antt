@@ -12,6 +12,7 @@ use Rattle.energy_report.specs.declared.spelled_day.Parts.{Parts}
 use Rattle.energy_report.specs.Days.{AreFew, DigitIs, IsReadAs, PairIs, PartsAre, parts_text}
 
 -- ---- texts of numbers with two digits
+-- If two bytes are the digits `a` and `b`, they are the text of the number `a * 10 + b`.
 
 pub pair : (tens ones a b : ℕ) → DigitIs tens (Some a) → DigitIs ones (Some b) → PairIs tens ones (Some (a * 10 + b))
 pair tens ones a b first second =
@@ -30,6 +31,7 @@ no_ones tens ones none n few is =
     none (n % 10) (omega arith) (sym here)
 
 -- ---- the numbers of year, month and day in a date
+-- True if the text has the form `YYYY-MM-DD` with these numbers.
 
 pub record Pairs (parts : Parts) (text : List ℕ) : Type 0 where
   pub size : length text ≡ 10
@@ -67,6 +69,7 @@ spelled parts text size first second century year month day = (
 )
 
 -- ---- the civil days that texts represent
+-- An integer of at least 0 equals its absolute value.
 
 natural : (z : ℤ) → pos 0 ≤ℤ z → z ≡ pos (unsigned_abs z)
 natural (pos n) le = refl

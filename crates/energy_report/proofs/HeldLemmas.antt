@@ -1,5 +1,4 @@
--- Lemmas about rejected readings that a sink counted one by one, and about the text of their
--- counts.
+-- Lemmas about rejected readings that were counted one by one, and about the text of their counts.
 use Rattle.std.proofs.Common.{◌≡◌, ℕ, ◌+◌, ◌<◌, ◌≤◌, ◌==◌, Bool, true, false, cond, not, ◌&&◌, List, [], ◌∷◌, ◌++◌, length, take, get_or, refl, sym, ◌∙◌, ap, append-nil, append_assoc}
 use Rattle.std.specs.Prelude.{codes}
 use Rattle.std.specs.List.{filter, flat_map}
@@ -22,6 +21,7 @@ use Rattle.energy_report.specs.StatementTexts.{are_none, count_piece, count_text
 use Rattle.energy_report.proofs.TallyLemmas.{counts}
 
 -- ---- counts of rejected readings by cause
+-- The counts of the eight causes for which readings are rejected.
 
 abbrev eight : (a b d e f g h i : ℕ) → RejectedCounts
 eight a b d e f g h i = record {
@@ -66,13 +66,14 @@ counted_on zone range before (held ∷ holds) from to z r is took =
     counted_on zone range (before ++ held ∷ []) holds next to (took.1.zone ∙ z) (took.1.range ∙ r) here took.2
     ∙ ap (held_within zone range) (append_assoc before (held ∷ []) holds)
 
--- After a sink receives a list of rejected readings, its counts equal `held_within` of these
--- readings.
+-- After `RejectedWithin` receives a list of rejected readings, its counts equal `held_within` of
+-- these readings.
 pub counted_all : (zone : Zone) (range : DayRange) (holds : List HeldReading) (from to : RejectedWithin) → HasCountedNone zone range from
     → TakesAll CountsReading from holds to → to.counts ≡ held_within zone range holds
 counted_all zone range holds from to fresh took = counted_on zone range [] holds from to fresh.zone_is fresh.range_is fresh.none took
 
 -- ---- the text of the counts of rejected readings
+-- True if the count of a cause is not 0.
 
 abbrev is_some : HeldCount → Bool
 is_some one = not (one.count == 0)
@@ -111,7 +112,7 @@ text_with format before x =
 none_more : (before : List HeldCount) (x : HeldCount) → are_none (some_of (before ++ x ∷ [])) ≡ (are_none (some_of before) && (x.count == 0))
 none_more before x = ap are_none (filter-append is_some before (x ∷ [])) ∙ none_with (some_of before) x (x.count == 0)
 
--- After the text of the next count is appended, the text is that of the earlier counts and the next
+-- Appending the text of the next count to the text of the first counts yields the text of one more
 -- count.
 pub piece_more : (format : Format) (xs : List HeldCount) (i : ℕ) (d : HeldCount) (old page new : List ℕ) (none : Bool) → i < length xs
     → page ≡ old ++ counts_text format (some_of (take i xs)) → none ≡ are_none (some_of (take i xs))

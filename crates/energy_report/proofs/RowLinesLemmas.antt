@@ -1,4 +1,4 @@
--- Lemmas about the text that a sink wrote for a list of rows.
+-- Lemmas about the text that `RowLines` wrote for a list of rows.
 use Rattle.std.proofs.Common.{◌≡◌, ◌+◌, ◌≤◌, ◌⊎◌, inl, inr, ℕ, zero, suc, Bool, true, false, Option, List, [], ◌∷◌, ◌++◌, length, refl, sym, ap, subst, ◌∙◌, append_assoc, arith}
 use Rattle.std.specs.List.{flat_map}
 use Rattle.std.proofs.Math.Nat.{min-eq_left, min-eq_right, min-le_right}
@@ -12,7 +12,7 @@ use Rattle.energy_report.specs.declared.row_lines.RowLines.{RowLines}
 abbrev pub TakesLine : {W T : Type 0} → (W → Option (List ℕ)) → (T → List ℕ) → RowLines W → T → RowLines W → Type 0
 TakesLine contents line old row new = WritesLine contents (line row) old new
 
--- After a write fails, the sink drops all further rows.
+-- After a write fails, `RowLines` drops all further rows.
 all_dropped : {W T : Type 0} (contents : W → Option (List ℕ)) (line : T → List ℕ) (rows : List T) (from to : RowLines W) → from.failed ≡ true
     → TakesAll (TakesLine contents line) from rows to → to ≡ from
 all_dropped contents line [] from to failed took = took
@@ -21,7 +21,8 @@ all_dropped contents line (row ∷ rows) from to failed took =
     let still : took.0.failed ≡ true = rw here failed in
     all_dropped contents line rows took.0 to still took.2 ∙ here
 
--- If a text was written completely or in part, then the same output is a part of each longer text.
+-- If a part of a text was written, then a part of each longer text with the same beginning was
+-- written.
 pub longer : (x y : List ℕ) (a b : Option (List ℕ)) → GotPart x a b → GotPart (x ++ y) a b
 longer x y a b got =
     (got.0, got.1 ++ y, ap (λ (front : List ℕ). front ++ y) got.2 ∙ append_assoc got.0 got.1 y, got.3)
@@ -97,7 +98,7 @@ either : {P : Type 0} (b : Bool) → (b ≡ false → P) → (b ≡ true → P) 
 either false works failed = works refl
 either true works failed = failed refl
 
--- After all rows, the sink has written the lines of all rows, or only a part of these lines if a
+-- After all rows, `RowLines` has written the lines of all rows, or only a part of these lines if a
 -- write failed.
 pub all_written : {W T : Type 0} (contents : W → Option (List ℕ)) (line : T → List ℕ) (rows : List T) (from to : RowLines W)
     → from.failed ≡ false → Fits from.count → TakesAll (TakesLine contents line) from rows to

@@ -74,6 +74,7 @@ without_day form days t absent =
     ap (rows_by form.period) (filter-append test days (t ∷ []) ∙ ap (λ v. filter test days ++ cond v (t ∷ []) []) absent ∙ append-nil (filter test days))
 
 -- ---- the number of rows of a report
+-- Adding a row in front of a list of rows, merged or not, adds at most one row.
 
 few-either : (b : Bool) (row next : Row) (rows : List Row) → length (cond b (joined row next ∷ rows) (row ∷ next ∷ rows)) ≤ suc (length (next ∷ rows))
 few-either true row next rows = omega arith
@@ -101,6 +102,7 @@ few form days =
     omega (arith, few_rows form.period (days_in form.range days), few_days (λ total. is_in form.range total.day) days)
 
 -- ---- sums of counts and energies that saturate
+-- Limiting a number to `most` before an addition does not change the limited sum.
 
 pub capped : (most a b : ℕ) → min (min a most + b) most ≡ min (a + b) most
 capped most a b = elim (cases_lt a most) [

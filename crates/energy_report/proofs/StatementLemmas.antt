@@ -48,6 +48,7 @@ begun_more form done row =
     begun form done row [] ∙ ap (λ text. begun_text form done ++ text) (append-nil (piece form (length done) row))
 
 -- ---- the row of a statement at an index of the list of meters
+-- A list is its elements before an index, the element there, and the rest.
 
 around : {X : Type 0} (xs : List X) (i : ℕ) (d : X) → i < length xs → take i xs ++ get_or xs i d ∷ drop (suc i) xs ≡ xs
 around [] i d lt = absurd (omega (arith, lt))
@@ -92,6 +93,7 @@ next form rows i row lt is =
     ∙ ap (begun_text form) (ap (λ (x : MeterStatement). take i rows ++ x ∷ []) is ∙ sym (take_more rows i row lt))
 
 -- ---- concatenations of more than two texts
+-- Appending two texts one after the other is the same as appending their concatenation.
 
 pub pushed : (p q r x y : List ℕ) → q ≡ p ++ x → r ≡ q ++ y → r ≡ p ++ (x ++ y)
 pushed p q r x y first second = second ∙ ap (λ front. front ++ y) first ∙ append_assoc p x y

@@ -57,7 +57,8 @@ whole form days (row ∷ rows) is =
     ap (λ those. rows_text form (map shown those)) is
     ∙ ap (λ n. begun_text form (row ∷ rows) ++ ending form n) (length-map (row ∷ rows) shown)
 
--- If a text was written completely or in part, then the same output is a part of each longer text.
+-- If a part of a text was written, then a part of each longer text with the same beginning was
+-- written.
 pub longer : (x y : List ℕ) (a b : Option (List ℕ)) → GotPart x a b → GotPart (x ++ y) a b
 longer x y a b got =
     (got.0, got.1 ++ y, ap (λ (front : List ℕ). front ++ y) got.2 ∙ append_assoc got.0 got.1 y, got.3)

@@ -74,7 +74,7 @@ parts_text parts =
     pad2 parts.century ++ pad2 parts.year ++ codes "-" ++ pad2 parts.month ++ codes "-"
     ++ pad2 parts.day
 
--- True if each number of the date is below 100.
+-- True if each number of the date has at most two digits.
 pub record AreFew (parts : Parts) : Type 0 where
   pub century : parts.century < 100
   pub year : parts.year < 100

@@ -1,4 +1,4 @@
--- The model of a sink that adds up the energy of interval rows.
+-- The model of `EnergyWithin`, which receives interval rows one by one and adds up their energy.
 use Rattle.std.specs.Prelude.{◌≡◌, ◌+◌, ◌-◌, ◌^◌, min, if◌then◌else◌}
 use Rattle.interval_core.specs.declared.shares.Share.{Share}
 use Rattle.interval_core.specs.declared.zone.Zone.{Zone}
@@ -6,14 +6,14 @@ use Rattle.energy_report.specs.declared.energy_within.EnergyWithin.{EnergyWithin
 use Rattle.interval_core.specs.declared.day_range.DayRange.{DayRange}
 use Rattle.interval_core.specs.Ranges.{has_moment}
 
--- True if a sink is new, with the given zone and range and an energy of 0.
+-- True if an `EnergyWithin` is new, with the given zone and range and an energy of 0.
 pub record IsFresh (zone : Zone) (range : DayRange) (new : EnergyWithin) : Type 0 where
   pub zone_is : new.zone ≡ zone
   pub range_is : new.range ≡ range
   pub none : new.mwh ≡ 0
 
--- The effect of an interval row on the sink. If the row's quarter hour starts in the range, the
--- sink adds the row's energy, up to 2^128 - 1 mWh. Other rows leave the sink unchanged.
+-- The effect of receiving an interval row. If the row's quarter hour starts in the range, its
+-- energy is added to the sum, up to 2^128 - 1 mWh. Other rows change nothing.
 pub record AddsShare (old : EnergyWithin) (row : Share) (new : EnergyWithin) : Type 0 where
   pub zone : new.zone ≡ old.zone
   pub range : new.range ≡ old.range

@@ -83,8 +83,8 @@ RowsAreWhole = (period : Period) (days : List DayTotal) → AreInOrder (map acco
 abbrev pub IsHeld : DayTotal → Type 0
 IsHeld total = (total.count < 2 ^ 32) × (total.mwh < 2 ^ 128)
 
--- Theorem: the report without options (all days, one row for each day, mWh, text) is the same text
--- as the list of days.
+-- Theorem: the report without options (all days, one row for each day, mWh, text) is the text
+-- `days_text` of the list of days.
 abbrev pub PlainReportsAreListsOfDays : Type 0
 PlainReportsAreListsOfDays = (days : List DayTotal) → AreInOrder (map account_of days)
     → All IsHeld days → report_text plain_form days ≡ days_text days

@@ -1,10 +1,10 @@
--- The model of a sink that writes a line for each row.
+-- The model of `RowLines`, which receives rows one by one and writes a line for each row.
 use Rattle.std.specs.Prelude.{◌≡◌, ℕ, ◌+◌, min, Bool, true, false, List, Option, if◌then◌else◌}
 use Rattle.std.specs.Io.KnownBytes.{Appends}
 use Rattle.energy_report.specs.declared.row_lines.RowLines.{RowLines}
 use Rattle.sun_points.specs.Writing.{GotPart}
 
--- A number that saturates at 2^64 - 1.
+-- A count that saturates at 2^64 - 1, the greatest `u64`.
 abbrev pub counted : ℕ → ℕ
 counted n = min n 18446744073709551615
 
@@ -12,7 +12,7 @@ counted n = min n 18446744073709551615
 abbrev pub one_more_if : (counts : Bool) → (count : ℕ) → ℕ
 one_more_if counts count = counted (count + (if counts then 1 else 0))
 
--- True if the sink wrote the text of `count` rows and counted the rows. If a write failed, only a
+-- True if the text of `count` rows was written and the rows were counted. If a write failed, only a
 -- part of the text was written.
 pub record HasWritten {W : Type 0} (contents : W → Option (List ℕ)) (text : List ℕ) (count : ℕ)
     (old new : RowLines W) : Type 0 where
@@ -22,8 +22,8 @@ pub record HasWritten {W : Type 0} (contents : W → Option (List ℕ)) (text : 
       × (new.count ≡ counted (old.count + count))
   pub part : new.failed ≡ true → GotPart text (contents old.output.now) (contents new.output.now)
 
--- The effect of a row on the sink. The sink writes the line of the row and counts the row. After a
--- failed write, the sink drops the row.
+-- The effect of receiving a row. The line of the row is written and the row is counted. After a
+-- failed write, further rows are dropped.
 pub record WritesLine {W : Type 0} (contents : W → Option (List ℕ)) (line : List ℕ)
     (old new : RowLines W)
     : Type 0 where

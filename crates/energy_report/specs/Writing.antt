@@ -66,8 +66,8 @@ pub record IsWritten {W : Type 0} (contents : W → Option (List ℕ)) (days : L
   pub count : new.count ≡ length done
   pub text : Appends (contents old) (contents new.output.now) (begun_text new.form done)
 
--- True if the written text is a part of every report that begins with the given days. This holds
--- after a failed write.
+-- True if the written text is a part of every report that begins with the given days, as after a
+-- failed write.
 abbrev pub IsBroken : {W : Type 0} → (W → Option (List ℕ)) → List DayTotal
     → (old : W) (new : ReportRows W) → Type 0
 IsBroken contents days old new = (more : List DayTotal)

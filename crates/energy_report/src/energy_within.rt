@@ -1,4 +1,4 @@
-//! A sink that adds up the energy of interval rows in a range of civil days.
+//! Adds up the energy of interval rows that arrive one by one, for a range of civil days.
 ghost use Rattle.std.specs.Prelude.{◌≡◌, if◌then◌else◌};
 
 use interval_core::{DayRange, Share, Zone};
@@ -18,7 +18,7 @@ pub struct EnergyWithin {
 impl EnergyWithin {
     ghost use Rattle.energy_report.specs.Energies.{IsFresh};
 
-    /// Creates a sink with an energy of 0 mWh.
+    /// Creates a sum of 0 mWh, before any interval row.
     pub fn new(zone: Zone, range: DayRange) -> EnergyWithin
         ensures { IsFresh zone range result }
     {
@@ -29,7 +29,7 @@ impl EnergyWithin {
         }
     }
 
-    /// Returns the energy in mWh of the interval rows that the sink received so far.
+    /// Returns the energy in mWh of the interval rows received so far.
     pub fn mwh(&self) -> u128
         ensures { result ≡ self.now.mwh }
     {

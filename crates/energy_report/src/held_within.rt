@@ -1,4 +1,4 @@
-//! A sink that counts the rejected readings in a range of civil days by cause.
+//! Counts rejected readings that arrive one by one, by cause, for a range of civil days.
 
 use crate::held_counts::RejectedCounts;
 use interval_core::{DayRange, Zone};
@@ -18,7 +18,7 @@ impl RejectedWithin {
     ghost use Rattle.std.specs.Prelude.{◌≡◌};
     ghost use Rattle.energy_report.specs.HeldSinks.{HasCountedNone};
 
-    /// Creates a sink whose counts are all 0.
+    /// Creates counts that are all 0, before any rejected reading.
     pub fn new(zone: Zone, range: DayRange) -> RejectedWithin
         ensures { HasCountedNone zone range result }
     {
@@ -29,7 +29,7 @@ impl RejectedWithin {
         }
     }
 
-    /// Returns the number of rejected readings for each cause that the sink received so far.
+    /// Returns, for each cause, the number of rejected readings received so far.
     pub fn counts(&self) -> RejectedCounts
         ensures { result ≡ self.now.counts }
     {

@@ -19,7 +19,7 @@ pub struct RowLines<'o, W> {
 impl<'o, W: Write> RowLines<'o, W> {
     ghost use Rattle.std.specs.Prelude.{false};
 
-    /// Creates a sink that has received no row and writes to `output`.
+    /// Creates a writer of lines that has received no row. The lines are written to `output`.
     pub fn to(output: &'o mut W) -> RowLines<'o, W>
         ensures output { result.output.ghost_name ≡ output.entry.ghost_name }
         ensures same { result.output.now ≡ output.old }

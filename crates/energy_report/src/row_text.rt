@@ -185,6 +185,7 @@ fn push_period(line: &mut Line, period: Period, day: Day)
 }
 
 // ---- texts of energies in mWh and kWh
+// Returns the text of an energy, in mWh or in kWh with six decimals.
 
 pub(crate) fn energy(unit: EnergyUnit, mwh: u128) -> Energy
     ensures bytes { result ≡ text.energy_text unit mwh }

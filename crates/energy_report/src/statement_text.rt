@@ -186,6 +186,7 @@ fn push_worth(page: &mut Page, format: Format, unit: EnergyUnit, stand: &Option<
 }
 
 // ---- texts of the counts of rejected readings
+// Returns the separator between two counts of rejected readings.
 
 fn held_mark(format: Format) -> &'static [u8]
     ensures word { result.now ≡ text.held_mark format }
@@ -276,6 +277,7 @@ fn push_one(page: &mut Page, format: Format, one: &HeldCount)
 }
 
 // ---- the statement of a meter as fields of a line
+// Appends the statement of a meter, with the separator `mark` between its fields.
 
 fn push_fields(page: &mut Page, form: &StatementForm, mark: &[u8], row: &MeterStatement)
     requires room { length page.old ≤ 2 }
@@ -318,6 +320,7 @@ fn push_count_fields(page: &mut Page, mark: &[u8], tally: &EntryTally)
 }
 
 // ---- the statement of a meter as a JSON object
+// Appends the statement of a meter as a JSON object.
 
 fn push_object(page: &mut Page, unit: EnergyUnit, row: &MeterStatement)
     requires { length page.old ≤ 2 }

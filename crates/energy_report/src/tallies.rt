@@ -144,6 +144,7 @@ fn is_rescale(entry: &MeterEntry) -> bool
 }
 
 // ---- the tally after one more meter entry
+// Returns whether both conditions are true.
 
 pub(crate) fn both(one: bool, other: bool) -> bool
     ensures { result ≡ one && other }

@@ -1,4 +1,5 @@
--- The account of a meter after one reading.
+-- A meter that was installed with 5000 counts and read once with 5300 counts. Proves its last entry
+-- and its total energy.
 use Rattle.std.proofs.Common.{pos, List, [], ◌∷◌, refl, arith}
 use Rattle.energy_core.specs.declared.entries.Last.{Last}
 use Rattle.energy_core.specs.declared.entries.Entry.{Entry}

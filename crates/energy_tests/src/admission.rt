@@ -71,8 +71,8 @@ static CASES: [Case; 21] = [
         entry: step!(5_000_000, 5300, 0),
         answer: booked!(last!(5_000_000, 5300, 0), 2_701_800, 0),
     },
-    // Steps over 3,000 quarter hours, which begin in the last second or in the first second of a
-    // quarter hour. Each step is also tested with one second more.
+    // Steps (energy between two entries) over 3,000 quarter hours, which begin in the last second
+    // or in the first second of a quarter hour. Each step is also tested with one second more.
     Case {
         total: 0,
         last: last!(899, 5200, 0),
@@ -117,8 +117,8 @@ static CASES: [Case; 21] = [
         entry: step!(2000, 5202, 0),
         answer: Err(TermFault::TotalFull),
     },
-    // A reset or a rescale of the counter. The step ends at the value before the change, and the
-    // counter continues from the value after the change.
+    // A reset or a rescale of the counter. The energy is counted up to the value before the change,
+    // and the counter continues from the value after the change.
     Case {
         total: 200_000,
         last: PREVIOUS,
@@ -216,8 +216,8 @@ static BELOW_A_MILLION: [Case; 7] = [
     },
 ];
 
-/// Entries of a counter with the least range: 255 full turns of 65,536 counts, and the greatest
-/// number that it shows.
+/// Entries of a counter with the least range: 255 rollovers of 65,536 counts, and the greatest
+/// number that the counter shows.
 static BELOW_65536: [Case; 5] = [
     Case {
         total: 0,

@@ -10,7 +10,8 @@ use meter_audit::{
 };
 use std::test::Fail;
 
-/// A table row of a reading of 5200 counts at 1900 s, after an opening of 5000 counts at 1000 s.
+/// A table row of a reading of 5200 counts at 1900 s. The meter was installed at 1000 s with 5000
+/// counts.
 const FIRST: TableRow = TableRow {
     place: 2,
     kind: RowKind::Reading,
@@ -45,7 +46,7 @@ const SHARES: [Share; 2] = [
     },
 ];
 
-/// Returns the fault for which a row after the opening is refused, or `None`.
+/// Returns the fault for which a row after the meter's first entry is refused, or `None`.
 fn refused(row: TableRow) -> Option<RowFault>
     requires { row.place < 2 ^ 63 }
 {
@@ -55,7 +56,7 @@ fn refused(row: TableRow) -> Option<RowFault>
     }
 }
 
-/// Checks the interval rows that follow from one checked table row.
+/// Checks the interval rows (energy by quarter hour) that follow from one checked table row.
 #[test]
 fn rows_give_intervals(rt: HostRuntime) {
     let mut progress = start(rt.alloc(), &HOUSE);
@@ -67,7 +68,7 @@ fn rows_give_intervals(rt: HostRuntime) {
     assert!(rt; progress.wanted.as_slice() == &SHARES[1..]);
 }
 
-/// Checks that the next table row adds energy to the last interval row.
+/// Checks that the next table row adds energy to the last interval row (energy of a quarter hour).
 #[test]
 fn a_row_adds_to_the_last_interval(rt: HostRuntime) -> Result<(), Fail> {
     let mut progress = start(rt.alloc(), &HOUSE);
@@ -82,7 +83,7 @@ fn a_row_adds_to_the_last_interval(rt: HostRuntime) -> Result<(), Fail> {
     Ok(())
 }
 
-/// Checks that a voided table row adds no interval rows.
+/// Checks that a voided (cancelled) table row adds no interval rows (energy by quarter hour).
 #[test]
 fn a_voided_row_gives_none(rt: HostRuntime) {
     let mut progress = start(rt.alloc(), &HOUSE);
@@ -96,7 +97,8 @@ fn a_voided_row_gives_none(rt: HostRuntime) {
     assert!(rt; progress.wanted.is_empty());
 }
 
-/// Checks that a voided reading directly after a valid row is checked like a valid reading.
+/// Checks that a voided (cancelled) reading directly after a valid row is checked like a valid
+/// reading.
 #[test]
 fn a_voided_row_is_checked_after_a_valid_one(rt: HostRuntime) {
     let fast = TableRow {
@@ -113,7 +115,7 @@ fn a_voided_row_is_checked_after_a_valid_one(rt: HostRuntime) {
     assert!(rt; check_rows(&HOUSE, &[before, following]).is_ok());
 }
 
-/// Checks that the check continues with the next sequence number after a refused row.
+/// Checks that the audit continues with the next sequence number after a refused row.
 #[test]
 fn a_refused_row_is_passed_over(rt: HostRuntime) {
     let mut progress = start(rt.alloc(), &HOUSE);
@@ -145,8 +147,8 @@ fn columns_are_looked_at(rt: HostRuntime) {
     assert!(rt; refused(voided) == Some(RowFault::CannotBeVoided));
 }
 
-/// Checks that a reading above the meter's ceiling is refused. An entry by hand may exceed the
-/// ceiling, but its count may not go back.
+/// Checks that a reading above the meter's ceiling (its greatest power) is refused. An entry by
+/// hand may exceed the ceiling, but its count may not go back.
 #[test]
 fn numbers_are_looked_at(rt: HostRuntime) {
     let fast = TableRow {
@@ -196,8 +198,8 @@ fn nothing_comes_after_a_closing(rt: HostRuntime) {
     assert!(rt; check_rows(&HOUSE, &[closing, SECOND]) == Err(wanted));
 }
 
-/// Checks that the audit reports the first interval row whose energy differs from the energy
-/// computed from the entries.
+/// Checks that the audit reports the first interval row (energy of a quarter hour) that differs
+/// from the energy computed from the entries.
 #[test]
 fn intervals_differ(rt: HostRuntime) {
     assert!(rt; first_difference(&SHARES, &SHARES).is_none());
@@ -218,7 +220,8 @@ fn intervals_differ(rt: HostRuntime) {
     assert!(rt; first_difference(&SHARES, &[SHARES[0], other]) == Some(wanted));
 }
 
-/// Checks that the audit reports an interval row that only one of the two lists has.
+/// Checks that the audit reports an interval row (energy of a quarter hour) that only one of the
+/// two lists has.
 #[test]
 fn an_interval_alone(rt: HostRuntime) {
     let wanted = IntervalDifference {

@@ -1,10 +1,11 @@
-//! Tests the interval rows and the last entry of a meter after one of its readings was voided.
+//! Tests the interval rows (energy by quarter hour) and the last entry of a meter after one of its
+//! readings was voided.
 use crate::samples::HOUSE;
 use energy_core::{Entry, Last};
 use interval_core::Share;
 use meter_journal::{EntryKind, EntryRow, checked_tally, interval_rows, tally_after};
 
-/// Two readings: 5200 counts at 1900 s, which is voided, and 5300 counts at 2800 s.
+/// Two readings: 5200 counts at 1900 s, which is voided (cancelled), and 5300 counts at 2800 s.
 const ROWS: [EntryRow; 2] = [
     EntryRow {
         place: 2,
@@ -43,7 +44,7 @@ const SHARES: [Share; 3] = [
     },
 ];
 
-/// Checks that the last entry and the total energy of a meter exclude a voided row.
+/// Checks that the last entry and the total energy of a meter exclude a voided (cancelled) row.
 #[test]
 fn books_after_a_void(rt: HostRuntime) {
     let tally = tally_after(&HOUSE, &ROWS);
@@ -58,7 +59,7 @@ fn books_after_a_void(rt: HostRuntime) {
     assert!(rt; tally.total == 300_000);
 }
 
-/// Checks that rows that may not follow one another have no tally.
+/// Checks that rows have no total if they may not follow one another.
 #[test]
 fn rows_that_may_be_any(rt: HostRuntime) {
     let tally = checked_tally(&HOUSE, &ROWS).expect(&rt, "no tally");
@@ -70,7 +71,7 @@ fn rows_that_may_be_any(rt: HostRuntime) {
     assert!(rt; checked_tally(&HOUSE, &[ROWS[1], back]).is_none());
 }
 
-/// Checks that the interval rows of a meter exclude a voided row.
+/// Checks that the interval rows (energy by quarter hour) of a meter exclude a voided row.
 #[test]
 fn rows_after_a_void(rt: HostRuntime) {
     let shares = interval_rows(rt.alloc(), &HOUSE, &ROWS).expect(&rt, "no intervals");

@@ -1,4 +1,4 @@
-//! Tests the civil days of interval rows in a time zone.
+//! Tests the civil days of interval rows (energy by quarter hour) in a time zone.
 use crate::shares::{share, shares_of, step};
 use energy_core::Step;
 use interval_core::{DayFault, DayFold, DayTotal, Share, Zone, by_day};
@@ -83,7 +83,7 @@ static CASES: [Case; 7] = [
     },
 ];
 
-/// Returns a `DayFold` to which the given rows were added one by one.
+/// Adds the given rows one by one to a `DayFold`, which sums energy by civil day.
 fn folded(
     rt: &impl Abort,
     alloc: Global,
@@ -118,8 +118,8 @@ fn are_reported(totals: &[DayTotal], days: &[Reported]) -> bool {
             .all(|(total, reported)| is_reported(total, reported))
 }
 
-/// Returns whether rows add up to the expected days. The function checks a fold, a clone of the
-/// fold, and the list of the fold's days.
+/// Returns whether rows add up to the expected days. Also checks a clone of the running sum, and
+/// the list of its days.
 fn folds_to(
     rt: &impl Abort,
     alloc: Global,
@@ -148,7 +148,7 @@ fn days_follow_the_clocks_of_a_zone(rt: HostRuntime) {
     }
 }
 
-/// Interval rows. Two of them are in the quarter hour from 2700 s.
+/// Interval rows (energy by quarter hour). Two of them are in the quarter hour from 2700 s.
 static ROWS: [Share; 5] = [
     share!(900, 177_777),
     share!(1800, 111_111),

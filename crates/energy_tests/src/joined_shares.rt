@@ -1,9 +1,11 @@
-//! Tests that shares of several steps are merged into one row for each quarter hour.
+//! Tests that the energies of several steps (between consecutive entries) are merged into one row
+//! for each quarter hour.
 use energy_core::Step;
 use interval_core::Share;
 use meter_journal::{append_shares, join};
 
-/// The expected interval rows of the two steps in the test `steps_share_an_interval`.
+/// The expected interval rows (energy by quarter hour) of the two steps in the test
+/// `steps_share_an_interval`.
 const ROWS: [Share; 3] = [
     Share {
         start: 900,
@@ -19,7 +21,7 @@ const ROWS: [Share; 3] = [
     },
 ];
 
-/// Checks that two steps in one quarter hour share its row.
+/// Checks that two steps (each between two entries) in one quarter hour are merged into one row.
 #[test]
 fn steps_share_an_interval(rt: HostRuntime) {
     let mut rows = Vec::new(rt.alloc());
@@ -51,7 +53,7 @@ const NEXT: Share = Share {
     mwh: 0,
 };
 
-/// Checks that the row of a quarter hour stays pending until a share of another quarter hour
+/// Checks that the row of a quarter hour stays pending until energy of another quarter hour
 /// arrives.
 #[test]
 fn one_row_stays_open(rt: HostRuntime) {

@@ -12,7 +12,7 @@ const TURNING: Last = Last {
     sf: 0,
 };
 
-/// Checks that the sequence numbers of entries continue from the number of the opening.
+/// Checks that the sequence numbers of entries continue from the number of the meter's first entry.
 #[test]
 fn places_count_on(rt: HostRuntime) {
     let entry = Entry::Step {
@@ -43,7 +43,7 @@ fn a_closing_alone_closes(rt: HostRuntime) {
     assert!(rt; !EntryKind::Reset.is_closing() && !EntryKind::Rescale.is_closing());
 }
 
-/// Checks that the reading after a voided reading keeps its own rollover.
+/// Checks that the reading after a voided (cancelled) reading keeps its own rollover.
 #[test]
 fn a_void_over_a_rollover(rt: HostRuntime) {
     let mut rows = [reading(2, 1900, 4_294_967_290, 0), reading(3, 2800, 104, 1)];
@@ -52,7 +52,7 @@ fn a_void_over_a_rollover(rt: HostRuntime) {
     assert!(rt; rows[1] == reading(3, 2800, 104, 1));
 }
 
-/// Checks that the rollover of a voided reading moves to the reading after it.
+/// Checks that the rollover of a voided (cancelled) reading moves to the reading after it.
 #[test]
 fn a_void_moves_a_rollover(rt: HostRuntime) {
     let mut rows = [reading(2, 1900, 4, 1), reading(3, 2800, 104, 0)];
@@ -61,8 +61,8 @@ fn a_void_moves_a_rollover(rt: HostRuntime) {
     assert!(rt; rows[1] == reading(3, 2800, 104, 1));
 }
 
-/// Checks that only a reading may be voided, and only if the next valid row is a reading or does
-/// not exist.
+/// Checks that only a reading may be voided (cancelled), and only if the next valid row is a
+/// reading or does not exist.
 #[test]
 fn only_readings_are_voided(rt: HostRuntime) {
     let row = reading(2, 1900, 5200, 0);

@@ -1,4 +1,4 @@
-//! Tests which readings are accepted, the energy by quarter hour and civil day, and the journal of
+//! Tests which readings are accepted, the energy by quarter hour and civil day, and the history of
 //! one meter.
 #![tactic(auto)]
 

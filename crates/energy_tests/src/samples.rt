@@ -28,7 +28,7 @@ pub(crate) fn reading(place: u64, at: u64, raw: u32, rolls: u8) -> EntryRow
     }
 }
 
-/// Returns an entry row, marked as voided.
+/// Returns an entry row, marked as voided (cancelled).
 pub(crate) fn struck(row: EntryRow) -> EntryRow
     ensures place { result.place ≡ row.place }
     ensures stands { result.stands ≡ false }

@@ -1,4 +1,5 @@
-//! Tests the shares of a step, which are its energies in the quarter hours that it touches.
+//! Tests the shares of a step (the energy between two entries), one share for each quarter hour
+//! that it touches.
 use energy_core::Step;
 use interval_core::{INTERVAL, Share, Shares};
 use std::alloc::{AllocError, Global};
@@ -9,7 +10,7 @@ struct Case {
     shares: &'static [Share],
 }
 
-/// Creates a step from its two times and its energy in mWh.
+/// Creates a step (the energy between two entries) from its two times and its energy in mWh.
 macro_rules! step {
     ($from:expr, $till:expr, $mwh:expr) => {
         Step {
@@ -67,10 +68,11 @@ static CASES: [Case; 8] = [
     },
 ];
 
-/// The energies in mWh of steps from 0 s that touch 3,000 quarter hours.
+/// The energies in mWh of steps (between two entries) that begin at 0 s and touch 3,000 quarter
+/// hours.
 static LONG: [u64; 3] = [0, 1000, 4_000_000_000_000_000_000];
 
-/// Returns the list of the shares of a step.
+/// Returns how the energy of a step (between two entries) is divided among quarter hours.
 pub fn shares_of(rt: &impl Abort, alloc: Global, step: &Step) -> Result<Vec<Share>, AllocError> {
     assert!(rt; step.from < step.till);
     assert!(rt; (step.till - 1) / 900 - step.from / 900 < 3000);
@@ -86,7 +88,8 @@ fn sum(shares: &[Share]) -> u64 {
     sum
 }
 
-/// Checks that the energy of a step is spread over the quarter hours that it touches.
+/// Checks that the energy of a step (between two entries) is spread over the quarter hours that it
+/// touches.
 #[test]
 fn a_step_is_spread_over_its_intervals(rt: HostRuntime) {
     for (i, case) in CASES.iter().enumerate() {
@@ -95,7 +98,8 @@ fn a_step_is_spread_over_its_intervals(rt: HostRuntime) {
     }
 }
 
-/// Checks that the shares of a step over 3,000 quarter hours add up to the step's energy.
+/// Checks that no energy is lost if a step (between two entries) is divided among 3,000 quarter
+/// hours.
 #[test]
 fn three_thousand_intervals_lose_nothing(rt: HostRuntime) {
     for mwh in LONG {

@@ -1,7 +1,7 @@
 //! Constants and macros that the tests of energy share.
 use energy_core::Last;
 
-/// The greatest total energy of an installation, in mWh.
+/// The greatest total energy of an installed meter, in mWh.
 pub const TOTAL_LIMIT: u64 = 4_000_000_000_000_000_000;
 
 pub const PREVIOUS: Last = Last {

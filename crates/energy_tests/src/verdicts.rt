@@ -68,7 +68,8 @@ static CASES: [Case; 22] = [
         reading: reading!(1901, 5202, 0),
         verdict: held!(TooFast),
     },
-    // Readings after a rollover, with power at the ceiling and below it.
+    // Readings after a rollover, with power at the ceiling (the meter's greatest power) and below
+    // it.
     Case {
         ceiling: 1000,
         total: 0,
@@ -98,7 +99,7 @@ static CASES: [Case; 22] = [
         reading: reading!(2800, 5199, 0),
         verdict: held!(TooFast),
     },
-    // Readings after the longest time in which the counter cannot make a full turn.
+    // Readings after the longest time in which the counter cannot complete a rollover.
     Case {
         ceiling: 1_000_000,
         total: 0,
@@ -195,7 +196,7 @@ static CASES: [Case; 22] = [
         reading: reading!(1900, 0, 1),
         verdict: held!(NotAccumulated),
     },
-    // A reading of a meter with the greatest ceiling.
+    // A reading of a meter with the greatest ceiling (power limit) that is allowed.
     Case {
         ceiling: 1_000_000_000,
         total: 0,
@@ -259,8 +260,9 @@ static BELOW_A_MILLION: [Case; 7] = [
     },
 ];
 
-/// Creates a case with a total energy of 0. Its arguments are the ceiling, the scale factor, the
-/// last entry's time and count, the reading's time and count, and the verdict.
+/// Creates a case with a total energy of 0. Its arguments are the ceiling (the meter's greatest
+/// power), the scale factor, the last entry's time and count, the reading's time and count, and the
+/// verdict.
 macro_rules! case {
     ($ceiling:expr, $sf:expr, $from:expr, $before:expr, $at:expr, $raw:expr, $verdict:expr) => {
         Case {
@@ -277,7 +279,7 @@ static LEAST_RANGE: [Case; 5] = [
     case!(100_000, 0, 0, 65_535, 900, 65_535, accepted!(0, 0)),
     case!(100_000, 0, 0, 65_535, 900, 1, accepted!(1, 2000)),
     case!(100_000, 0, 0, 5, 900, 65_536, held!(NotBelowRange)),
-    // A full turn of the counter, 65,536 Wh, takes 2,359.26 seconds at 100 kW.
+    // A complete rollover of the counter, 65,536 Wh, takes 2,359.26 seconds at 100 kW.
     case!(100_000, 0, 0, 5, 2359, 6, accepted!(0, 1000)),
     case!(100_000, 0, 0, 5, 2360, 6, held!(GapTooLong)),
 ];
@@ -286,8 +288,8 @@ static GREATEST_RANGE: [Case; 22] = [
     case!(1, 0, 0, 4_294_967_295, 4, 4_294_967_295, accepted!(0, 0)),
     case!(1, 0, 0, 4_294_967_294, 4, 4_294_967_295, accepted!(0, 1000)),
     case!(1000, 0, 0, 4_294_967_295, 900, 1, accepted!(1, 2000)),
-    // A full turn of the counter, 4,294,967,296 Wh, takes 15,461.88 seconds at the greatest ceiling
-    // of 1 GW. In 15,461 seconds, 1 GW is 4,294,722,222.2 Wh.
+    // A complete rollover of the counter, 4,294,967,296 Wh, takes 15,461.88 seconds at the greatest
+    // ceiling of 1 GW. In 15,461 seconds, 1 GW is 4,294,722,222.2 Wh.
     case!(1_000_000_000, 0, 0, 5, 15_461, 6, accepted!(0, 1000)),
     case!(1_000_000_000, 0, 0, 5, 15_462, 6, held!(GapTooLong)),
     case!(1_000_000_000, 0, 0, 1, 15_461, 4_294_722_224, FARTHEST),
@@ -300,8 +302,8 @@ static GREATEST_RANGE: [Case; 22] = [
         4_294_722_225,
         held!(TooFast)
     ),
-    // In 18 seconds, 1 W is 5 mWh, and the greatest ceiling of 1 GW is 5,000 kWh. The counter may
-    // show one count more.
+    // In 18 seconds, 1 W is 5 mWh, and the greatest ceiling (power limit) of 1 GW is 5,000 kWh. The
+    // counter may show one count more.
     case!(1, -3, 0, 1, 18, 7, accepted!(0, 6)),
     case!(1, -3, 0, 1, 18, 8, held!(TooFast)),
     case!(
@@ -322,8 +324,8 @@ static GREATEST_RANGE: [Case; 22] = [
     case!(1_000_000, 1, 0, 1, 900, 2, accepted!(0, 10_000)),
     case!(1_000_000, 2, 0, 1, 900, 2, accepted!(0, 100_000)),
     case!(1_000_000, 3, 0, 1, 900, 2, accepted!(0, 1_000_000)),
-    // Steps over 3,000 quarter hours, which begin in the last second or in the first second of a
-    // quarter hour. Each step is also tested with one second more.
+    // Steps (energy between two entries) over 3,000 quarter hours, which begin in the last second
+    // or in the first second of a quarter hour. Each step is also tested with one second more.
     case!(1000, 0, 899, 1, 2_700_000, 2, accepted!(0, 1000)),
     case!(1000, 0, 899, 1, 2_700_001, 2, held!(SpanTooLong)),
     case!(1000, 0, 900, 1, 2_700_900, 2, accepted!(0, 1000)),
@@ -357,19 +359,21 @@ pub(crate) fn ranged(rt: &impl Abort, range: u64) -> Ranged {
     Ranged::new(range).expect(rt, "no lawful range")
 }
 
-/// Checks the verdicts on readings of a 32-bit counter.
+/// Checks which readings of a 32-bit counter are accepted, and why others are rejected.
 #[test]
 fn readings_are_judged_on_a_counter_of_32_bits(rt: HostRuntime) {
     judges(&rt, &Acc32, &CASES);
 }
 
-/// Checks the verdicts on readings of a counter that rolls over at 1,000,000 counts.
+/// Checks which readings of a counter that rolls over at 1,000,000 counts are accepted, and why
+/// others are rejected.
 #[test]
 fn readings_are_judged_below_a_million(rt: HostRuntime) {
     judges(&rt, &ranged(&rt, 1_000_000), &BELOW_A_MILLION);
 }
 
-/// Checks the verdicts on readings of counters with the least and the greatest range.
+/// Checks which readings of counters with the least and the greatest range are accepted, and why
+/// others are rejected.
 #[test]
 fn readings_are_judged_at_both_ends_of_ranges(rt: HostRuntime) {
     judges(&rt, &ranged(&rt, 65_536), &LEAST_RANGE);

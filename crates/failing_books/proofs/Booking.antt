@@ -36,7 +36,7 @@ beneath old new n facts (Err fault) books = record {
   goes = record { clean = books.goes.clean; faults = refl; zone = books.goes.zone };
 }
 
--- A write that reaches the store below satisfies the guarantees of a write.
+-- If a write is passed on to the store below, its result satisfies the guarantees of a write.
 pub passed : (old between new : ListBooks) (n k m : Failures) (facts : List Fact) (done result : Result (Unit {0}) BooksFault)
     → between ≡ old → k ≡ n → result ≡ done → m ≡ faults_after done k → Books (ledger_of between) (ledger_of new) facts done
     → Books (refusing (ledger_of old) n) (refusing (ledger_of new) m) facts result

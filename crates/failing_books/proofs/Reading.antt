@@ -18,7 +18,7 @@ beneath old new n result reads = record {
   keeps = keeps old new n (faults_after result n) reads.keeps;
 }
 
--- A lookup that reaches the store below satisfies the guarantees of a lookup.
+-- If a lookup is passed on to the store below, its result satisfies the guarantees of a lookup.
 pub read_on : {T : Type 0} → (old between new : ListBooks) (n k m : Failures) (found result : Result T BooksFault)
     → between ≡ old → k ≡ n → result ≡ found → m ≡ faults_after found k → OnlyReads (ledger_of between) (ledger_of new) found
     → OnlyReads (refusing (ledger_of old) n) (refusing (ledger_of new) m) result
@@ -42,7 +42,7 @@ read_first old between new n k m x handed result whole stays same noted reads =
       keeps = keeps (ledger_of old) (ledger_of between) n m reads.keeps;
     })
 
--- A lookup that reaches the store below has the result of the store below.
+-- If a lookup is passed on to the store below, it returns the result of the store below.
 pub as_found : {T : Type 0} (So : T → Type 0) (found result : Result T BooksFault) → result ≡ found → IfOk found So → IfOk result So
 as_found {T} So found result is so = let P : Result T BooksFault → Type 0 = λ r. IfOk r So in subst P (sym is) so
 

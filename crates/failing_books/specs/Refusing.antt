@@ -5,7 +5,8 @@ use Rattle.office_events.specs.declared.facts.Fact.{Fact}
 use Rattle.office_books.specs.declared.failures.Failures.{Failures}
 use Rattle.office_books.specs.Ledgers.{Ledger}
 
--- The model has the records of the store below, but a separate failure counter.
+-- The model of a store with the records of the store below (`beneath`), and with its own failure
+-- counter.
 abbrev pub refusing : Ledger → Failures → Ledger
 refusing beneath failures = record {
   holds = beneath.holds;

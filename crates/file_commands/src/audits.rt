@@ -1,5 +1,5 @@
-//! Audits an office's files, and prints or checks a seal of a file. A seal is a signed-off digest
-//! of the file's past.
+//! Audits database files of `sunreg`, and prints or checks a seal of a file. A seal is a signed-off
+//! digest of the file's past.
 use crate::files::{OfficeFiles, Opening};
 use crate::opening::open_in;
 use command_words::Sealing;
@@ -14,14 +14,14 @@ use stored_files::{
     write_joins, write_seal,
 };
 
-/// The maximum length of a seal that the command `audit` reads, in bytes. A seal of 4,096 meters,
-/// each with a thousand voided entries, is shorter.
+/// The maximum length of a seal (a digest of a file's past) that the command `audit` reads, in
+/// bytes. A seal of 4,096 meters, each with a thousand voided (cancelled) entries, is shorter.
 const MOST_SEAL: u64 = 300_000_000;
 
-/// The first bytes of each seal.
+/// The first bytes of each seal (a digest of a file's past).
 const SEAL_BEGIN: &[u8; 5] = b"seal ";
 
-// Prints the seal of an office's tables.
+// Prints the seal of a database: a signed-off digest of its past.
 fn print_seal<S: Alter>(
     rt: &HostRuntime,
     connection: &mut Connection<S>,
@@ -32,8 +32,8 @@ fn print_seal<S: Alter>(
     Ok(true)
 }
 
-// Checks the tables against a seal, and prints the result. Returns whether they still match the
-// seal.
+// Compares the tables with a seal, a signed-off digest of their past, and prints the result.
+// Returns whether they still match the seal.
 fn hold_to<S: Alter>(
     rt: &HostRuntime,
     connection: &mut Connection<S>,
@@ -44,8 +44,8 @@ fn hold_to<S: Alter>(
     write_checked(rt.alloc(), &checked, &mut output)
 }
 
-// Audits the tables, and returns whether no difference was found. In that case, prints a seal or
-// checks the tables against a seal, as `seal` requests.
+// Audits the tables, and returns whether no difference was found. In that case, prints a seal (a
+// digest of the tables) or compares the tables with a seal, as `seal` requests.
 fn audit_over<S: Alter>(
     rt: &HostRuntime,
     connection: &mut Connection<S>,
@@ -78,8 +78,8 @@ fn audit_in<'a, D: Databases>(
     }
 }
 
-// Returns the length of a file that should contain a seal, or `None` if the file is longer than any
-// seal. Fails if the file is not regular.
+// Returns the length of a file that should contain a seal (a digest of a database's past), or
+// `None` if the file is longer than any seal. Fails if the file is not regular.
 fn seal_length(rt: &HostRuntime, file: &str) -> io::Result<Option<u64>> {
     let found = fs::metadata(rt, file)?;
     if !found.is_file() {
@@ -93,8 +93,8 @@ fn seal_length(rt: &HostRuntime, file: &str) -> io::Result<Option<u64>> {
     })
 }
 
-// Returns the bytes of a file that should contain a seal. Returns `None` if the file is too long
-// for a seal, or does not begin like a seal.
+// Returns the bytes of a file that should contain a seal (a digest of a database's past). Returns
+// `None` if the file is too long for a seal, or does not begin like a seal.
 fn seal_in(rt: &HostRuntime, file: &str) -> io::Result<Option<Vec<u8>>> {
     let Some(length) = seal_length(rt, file)? else {
         return Ok(None);
@@ -120,7 +120,8 @@ fn ended(reported: Result<bool, Failure<'_>>) -> Ending<'_> {
     }
 }
 
-// Audits the tables of a database, and checks them against the seal in a file.
+// Audits the tables of a database, and compares them with the seal (a digest of their past) in a
+// file.
 fn audit_against<'a, D: Databases>(
     rt: &HostRuntime,
     databases: &D,
@@ -151,9 +152,9 @@ fn audit_against<'a, D: Databases>(
     }
 }
 
-/// Audits an office's file by checking its rows against the rules for journals and polls. If
-/// requested, also prints a seal of the rows, or checks the rows against a seal. Writes nothing to
-/// the file.
+/// Audits a database file: checks that its rows follow the rules for meter entries and polls. If
+/// requested, also prints a seal (a digest of the rows), or compares the rows with a seal. Writes
+/// nothing to the database file.
 pub fn audit<'a, D: OfficeFiles>(
     rt: &HostRuntime,
     files: &D,
@@ -167,9 +168,9 @@ pub fn audit<'a, D: OfficeFiles>(
     }
 }
 
-// ---- audits of several files of one office
+// ---- audits of several successive database files
 
-// Returns the fault that the audit reports for a file whose time zone could not be read.
+// Converts a failure to read a file's time zone into the fault that the audit reports.
 fn zone_fault(fault: OpenFault) -> AuditFault {
     match fault {
         OpenFault::NotOurs => AuditFault::NotOurs,
@@ -179,7 +180,8 @@ fn zone_fault(fault: OpenFault) -> AuditFault {
     }
 }
 
-// Checks whether a file continues the earlier files.
+// Checks whether a file continues the earlier files: its meters begin with their last entries
+// there.
 fn join_next<'a, S: Alter>(
     rt: &HostRuntime,
     connection: &mut Connection<S>,
@@ -193,9 +195,9 @@ fn join_next<'a, S: Alter>(
     }
 }
 
-// Audits the tables of one of several files, and returns whether no difference was found. If this
-// file and all earlier files have no differences, also checks whether this file continues the
-// earlier files.
+// Audits the tables of one of several successive files, and returns whether no difference was
+// found. If no file so far has differences, also checks whether this file continues the earlier
+// files.
 fn audit_next<'a, S: Alter>(
     rt: &HostRuntime,
     connection: &mut Connection<S>,
@@ -252,7 +254,7 @@ fn audit_files<'a, D: Databases>(
     }
 }
 
-// Returns the first path that equals an earlier path in the list, or `None`.
+// Returns the first path that occurs twice in a list, or `None`.
 fn twice<'a>(paths: &[&'a str]) -> Option<&'a str> {
     for (index, path) in paths.iter().enumerate() {
         if paths[..index].iter().any(|other| *other == *path) {
@@ -262,8 +264,8 @@ fn twice<'a>(paths: &[&'a str]) -> Option<&'a str> {
     None
 }
 
-/// Audits an office's files, the oldest first, and checks whether each file continues the previous
-/// file. Writes nothing to the files, and opens one file at a time.
+/// Audits successive database files, the oldest first, and checks whether each file continues the
+/// previous file. Writes nothing to the files, and opens one file at a time.
 pub fn audit_several<'a, D: OfficeFiles>(
     rt: &HostRuntime,
     files: &D,

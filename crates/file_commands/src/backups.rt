@@ -1,5 +1,5 @@
-//! Copies an office's file and log into one complete new file, even while a process runs the
-//! office.
+//! Copies a database file and its log into one complete new file, even while another process uses
+//! the file.
 use crate::copies::{Pair, copy_sound, make_whole, remove, sound_pair_at};
 use crate::parts::{finish_part, part_of};
 use stored_files::{CopyFault, Ending, Failure};
@@ -18,7 +18,7 @@ pub(crate) fn copy_failure<'a>(db: &'a str, to: &'a str, fault: CopyFault) -> Fa
     }
 }
 
-// Copies an office's file and its log to new files with temporary names.
+// Copies a database file and its log to new files with temporary names.
 fn copy_parts<'a>(
     rt: &HostRuntime,
     db: &'a str,
@@ -33,7 +33,7 @@ fn copy_parts<'a>(
     }
 }
 
-// Merges the log of a copy into the copied file, and renames the file to its final name.
+// Completes a copy: merges its log into the file, and renames the file to its final name.
 fn finish<'a>(rt: &HostRuntime, db: &'a str, to: &'a str, part: &Pair) -> Result<(), Failure<'a>> {
     match make_whole(rt, part.file.as_str()) {
         Ok(()) => finish_part(rt, to, part),
@@ -57,7 +57,7 @@ fn back_up<'a>(rt: &HostRuntime, db: &'a str, to: &'a str) -> Result<(), Failure
     made
 }
 
-/// Copies an office's file and log into one new file. Another process may be running the office.
+/// Copies a database file and its log into one new file. Another process may be using the file.
 pub fn backup<'a>(rt: &HostRuntime, db: &'a str, to: &'a str) -> Ending<'a> {
     match back_up(rt, db, to) {
         Ok(()) => Ending::Fine,

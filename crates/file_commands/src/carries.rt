@@ -1,4 +1,4 @@
-//! Rolls an office over into a new file, in which each open meter continues from its last entry.
+//! Rolls a database over into a new file, in which each open meter continues from its last entry.
 use crate::copies::{Pair, make_whole, remove};
 use crate::escaped::Escaped;
 use crate::files::{OfficeFiles, Opening};
@@ -12,11 +12,11 @@ use std::io::{self, Write};
 use std::str::from_utf8;
 use stored_files::{CarryEnd, CopyFault, Databases, Ending, Failure, Named, carry_stored};
 
-/// A reason why an office's file could not be rolled over into a new file.
+/// A reason why a database file could not be rolled over into a new file.
 #[derive(Drop)]
 pub enum NotCarried<'a> {
     Failed(Failure<'a>),
-    /// The office in the file at `path` refused a command of the file rollover, or failed.
+    /// A command of the file rollover was refused, or its store failed, in the file at `path`.
     Refused { path: &'a str, why: Refusal },
     /// A meter of the file at `path` has no entry at or before the requested time.
     NotYet { path: &'a str, meter: Name },
@@ -78,7 +78,7 @@ fn carry_into_part<'a, D: Databases>(
     }
 }
 
-// Merges the log of a new file into the file, and renames the file from its temporary to its final
+// Completes a rollover: merges the new file's log into the file, and renames the file to its final
 // name.
 fn finish<'a>(rt: &HostRuntime, to: &'a str, part: &Pair) -> Result<(), Failure<'a>> {
     match make_whole(rt, part.file.as_str()) {
@@ -110,8 +110,8 @@ fn carry_whole<'a, D: Databases>(
     }
 }
 
-/// Rolls the office in an open database over into a new file, in which the office's meters continue
-/// from their last entries. Returns the number of meters.
+/// Rolls an open database over into a new file, in which its meters continue from their last
+/// entries. Returns the number of meters.
 ///
 /// On failure, removes the incomplete file. If only the sync of the folder fails, the new file
 /// remains. First removes an incomplete file that an interrupted call left. This is safe, because
@@ -147,8 +147,7 @@ fn say_carried(rt: &HostRuntime, count: u64) -> Ending<'static> {
     }
 }
 
-/// Writes the meaning of a refusal and its remedy to `errors`, with the path of the file whose
-/// office refused.
+/// Writes the meaning of a refusal and its remedy to `errors`, with the path of the database file.
 pub(crate) fn write_refusal<W: Write>(errors: &mut W, path: &str, why: Refusal) -> io::Result<()> {
     match meaning_of(Kind::Refused, u32::from(why.number())) {
         Some(meaning) => write!(
@@ -186,8 +185,7 @@ fn print_refusal(rt: &HostRuntime, why: Refusal) -> io::Result<()> {
     write!(io::writer(rt), "refused {number}\n")
 }
 
-/// Prints a refusal of an office, and reports its meaning on standard error, with the path of the
-/// office's file.
+/// Prints a refusal, and reports its meaning on standard error, with the path of the database file.
 pub(crate) fn say_refused(rt: &HostRuntime, path: &str, why: Refusal) -> Ending<'static> {
     if print_refusal(rt, why).is_err() {
         return Ending::Failed(Failure::Streams);
@@ -237,9 +235,9 @@ fn carry_into<'a, D: Databases>(
     ending
 }
 
-/// Begins a new file in which each open meter of an office continues from its last entry, or from
-/// its last entry up to the time `until`. The old file is read through a temporary copy, so another
-/// process may be running its office.
+/// Begins a new database file in which each open meter continues from its last entry. With `until`,
+/// each meter continues from its last entry up to that time. Reads the old file through a temporary
+/// copy, so another process may be using that file.
 pub fn carry<'a, D: OfficeFiles>(
     rt: &HostRuntime,
     files: &D,

@@ -88,7 +88,7 @@ fn copy_file(rt: &HostRuntime, from: &str, to: &str) -> io::Result<()> {
 
 // Copies a file and then its log. Returns whether the log's header stayed the same during the copy.
 // If so, no checkpoint ran, and the two copies belong together. The copied log includes commits
-// that an office wrote during the copy.
+// that another process wrote during the copy.
 fn copy_pair(rt: &HostRuntime, source: &Pair, part: &Pair) -> io::Result<bool> {
     let before = header_of(rt, source.log.as_str())?;
     copy_file(rt, source.file.as_str(), part.file.as_str())?;
@@ -124,8 +124,8 @@ fn is_sound(rt: &HostRuntime, copy: &Pair) -> io::Result<bool> {
 }
 
 /// Copies a file and its log like [`copy_settled`], and also repeats the copy if the copied log has
-/// lost commits. If an office writes during the copy, the copied log can have later frames without
-/// earlier frames.
+/// lost commits. If another process writes during the copy, the copied log can have later frames
+/// without earlier frames.
 pub(crate) fn copy_sound(rt: &HostRuntime, source: &Pair, copy: &Pair) -> io::Result<bool> {
     for _ in 0..TRIES {
         if copy_settled(rt, source, copy)? && is_sound(rt, copy)? {
@@ -136,7 +136,7 @@ pub(crate) fn copy_sound(rt: &HostRuntime, source: &Pair, copy: &Pair) -> io::Re
     Ok(false)
 }
 
-/// Merges the log of an office's file into the file, which then needs no log. No other process may
+/// Merges the log of a database file into the file, which then needs no log. No other process may
 /// have the file open.
 pub(crate) fn make_whole(rt: &HostRuntime, file: &str) -> Result<(), CopyFault> {
     match whole_file(rt, file, Unknown) {
@@ -179,7 +179,7 @@ pub(crate) fn open_copy(
         Ok(false) => Err(FileFault::Busy),
         Err(_) => Err(FileFault::Unreadable),
     };
-    // (an open file exists until it is closed, so the file names of the copy can be removed now)
+    // An open file exists until it is closed, so the names of the copy can be removed now.
     remove(rt, &copy);
     opened
 }

@@ -1,4 +1,4 @@
-//! Reads the earlier files of an office, whose energy the command `run` also reports.
+//! Reads earlier database files, whose energy the command `run` also reports.
 use crate::carries::write_refusal;
 use crate::files::{OfficeFiles, Opening};
 use crate::joined_reports::{NotJoined, join_in, last_of};
@@ -8,12 +8,12 @@ use office_events::Name;
 use std::io::Write;
 use stored_files::{Databases, Ending, Failure, JoinedOffice};
 
-// A register name for the merged report. The name has no effect, because all accounting registers
-// are read.
+// Fills the parameter for one register's name. The name has no effect, because the energy of all
+// registers is read.
 const ANY: &[u8] = b"any";
 
-// Adds the energy of all accounting registers in a file to the merged energy. If the file does not
-// continue the earlier files, reports the reason.
+// Adds the energy of all accounting registers (named counters) in a file to the merged energy. If
+// the file does not continue the earlier files, reports the reason.
 fn join<'a, D: Databases, K: Keeping, E: Write>(
     rt: &HostRuntime,
     databases: &D,
@@ -40,8 +40,8 @@ fn join<'a, D: Databases, K: Keeping, E: Write>(
     }
 }
 
-// Returns the merged energy of all accounting registers in several files. Reads the files in order,
-// and opens one file at a time.
+// Returns the merged energy of all accounting registers (named counters) in several files. Reads
+// the files in order, and opens one file at a time.
 fn keep_all<'a, D: Databases, E: Write>(
     rt: &HostRuntime,
     databases: &D,
@@ -73,7 +73,7 @@ fn registers_of<'a>(
     }
 }
 
-// Checks that the current file continues the earlier files.
+// Checks that the current database file continues the earlier files.
 fn hold<'a, D: Databases, E: Write>(
     rt: &HostRuntime,
     databases: &D,
@@ -99,8 +99,8 @@ pub fn but_last<'a, 'f>(paths: &'f [&'a str]) -> &'f [&'a str] {
     &paths[..count]
 }
 
-// Reports how many earlier files are included in the energy that the command `run` reports. Also
-// reports the name of the first file.
+// Reports how many earlier files the energy of the command `run` includes, and the name of the
+// first file.
 fn say_earlier<E: Write>(errors: &mut E, current: &str, paths: &[&str]) {
     if let Some(first) = paths.first() {
         let count = paths.len();
@@ -112,9 +112,10 @@ fn say_earlier<E: Write>(errors: &mut E, current: &str, paths: &[&str]) {
     }
 }
 
-/// Returns the energy of all accounting registers in earlier files, the oldest first. Fails if the
-/// current file, which may be new, does not continue the earlier files. Only reads the files, one
-/// at a time. Writes the number of files, or the reason of the failure, to `errors`.
+/// Returns the energy of all accounting registers (named counters) in earlier files, the oldest
+/// first. Fails if the current file, which may be new, does not continue the earlier files. Only
+/// reads the files, one at a time. Writes the number of files, or the reason of the failure, to
+/// `errors`.
 pub fn earlier_registers<'a, D: OfficeFiles, E: Write>(
     rt: &HostRuntime,
     files: &D,

@@ -15,12 +15,13 @@ pub enum Opening {
     Copied,
 }
 
-/// A way to open an office's database files. Each command chooses how its files are opened.
+/// A way to open database files. Each command chooses how its files are opened.
 ///
-/// Functions are generic over this source. Only the program's outermost call names the files of the
-/// operating system, because the prover needs half a minute for each call over them.
+/// Commands are generic over this trait for the sake of proofs. The prover needs half a minute for
+/// each call over the files of the operating system, so only the program's outermost call names
+/// them.
 pub trait OfficeFiles: Databases + Copy {
-    /// Returns a source of the same files that opens them as `opening` says.
+    /// Returns the same files, with each file opened as `opening` says.
     fn opened(&self, opening: Opening) -> Self;
 }
 
@@ -32,7 +33,7 @@ pub struct Files<'r> {
 }
 
 impl<'r> Files<'r> {
-    /// Returns the files of the operating system, each opened in place.
+    /// Returns the files of the operating system. Each file itself is opened, not a copy.
     pub fn new(rt: &'r HostRuntime) -> Files<'r> {
         let opening = Opening::InPlace;
         Files { rt, opening }

@@ -1,5 +1,5 @@
-//! Converts command line options to the form of a report or statement: its days, unit and output
-//! format, and the period of a report's rows.
+//! Converts command line options to the options of a report or a statement (a list of meters for
+//! checking a bill).
 use command_words::FormWords;
 use energy_report::{
     EnergyUnit, Format, Period, RangeFault, ReportForm, StatementForm, read_range,
@@ -23,7 +23,7 @@ pub fn range_of<'a>(words: &FormWords<'a>) -> Result<DayRange, Ending<'a>> {
     }
 }
 
-/// Returns the form of a report, from its options and its range of days.
+/// Returns the options of a report, from its command line options and its range of days.
 pub fn form_of(words: &FormWords<'_>, range: DayRange) -> ReportForm {
     ReportForm {
         range,
@@ -33,7 +33,7 @@ pub fn form_of(words: &FormWords<'_>, range: DayRange) -> ReportForm {
     }
 }
 
-/// Returns the form of a statement, from its options and its range of days.
+/// Returns the options of a statement (a list of meters for checking a bill).
 pub fn statement_of(words: &FormWords<'_>, range: DayRange) -> StatementForm {
     StatementForm {
         range,

@@ -1,4 +1,5 @@
-//! Prints reports on an accounting register over several files of one office.
+//! Prints reports on an accounting register (a named counter of a device) over several successive
+//! database files.
 use crate::carries::say_refused;
 use crate::escaped::Escaped;
 use crate::files::{OfficeFiles, Opening};
@@ -18,7 +19,7 @@ use stored_files::{
     Databases, Ending, Failure, JoinFault, JoinedOffice, Named, ending_of, join_stored,
 };
 
-// The remedy that is printed if an office's files do not continue each other.
+// The remedy that is printed if the given files do not continue each other.
 const REMEDY: &str =
     "name the files oldest first, each carried from the one before, and void what the older one booked after the carry";
 
@@ -27,8 +28,8 @@ fn name_of(row: &Installation) -> &str {
     from_utf8(row.opening.meter.as_bytes()).unwrap_or("?")
 }
 
-// Reports that a meter does not continue from the earlier file. The message has the meter's
-// opening, and its last entry in the earlier file.
+// Reports that a meter does not continue from the earlier file. The message has the meter's first
+// entry in this file, and its last entry in the earlier file.
 fn say_apart<E: Write>(errors: &mut E, before: &str, path: &str, apart: &Apart) {
     let (before, path) = (Named(before), Named(path));
     let begins = &apart.begins.opening;
@@ -102,7 +103,7 @@ pub(crate) enum NotJoined<'a> {
     Apart,
 }
 
-// Maps a fault of adding a file to a merged report. If the file does not continue the earlier
+// Converts a fault of adding a file to a merged report. If the file does not continue the earlier
 // files, also reports the reason.
 fn not_joined<'a, E: Write>(
     errors: &mut E,
@@ -146,8 +147,8 @@ pub(crate) fn join_in<'a, D: Databases, K: Keeping, E: Write>(
     }
 }
 
-// Returns the merged data of all files for the report on an accounting register. Reads the files in
-// order, and opens one file at a time.
+// Returns the merged data of all files for the report on an accounting register (a named counter).
+// Reads the files in order, and opens one file at a time.
 fn join_all<'a, D: Databases, K: Keeping>(
     rt: &HostRuntime,
     databases: &D,
@@ -182,7 +183,7 @@ fn join_all<'a, D: Databases, K: Keeping>(
     Ok(joined)
 }
 
-// Flushes the output, and returns the ending of the command.
+// Flushes the output, and returns how the command ended.
 fn ended<W: Write + Drop>(output: &mut Buffered<W>, status: ExitStatus) -> Ending<'static> {
     match output.flush() {
         Ok(()) => ending_of(status),
@@ -190,14 +191,15 @@ fn ended<W: Write + Drop>(output: &mut Buffered<W>, status: ExitStatus) -> Endin
     }
 }
 
-// Prints the merged report on an accounting register over all files.
+// Prints the merged report on an accounting register (a named counter) over all files.
 fn print_report(rt: &HostRuntime, joined: JoinedFiles, form: &ReportForm) -> Ending<'static> {
     let mut output = Buffered::new(io::writer(rt));
     let status = report_joined(joined, form, &mut output);
     ended(&mut output, status)
 }
 
-// Prints the merged report on an accounting register, if one of the files has this register.
+// Prints the merged report on an accounting register (a named counter), if one of the files has
+// this register.
 fn report_recorded(
     rt: &HostRuntime,
     path: &str,
@@ -216,7 +218,8 @@ fn report_recorded(
     }
 }
 
-// Prints the merged statement of the meters at an accounting register, over all files.
+// Prints the merged statement of the meters at an accounting register (a named counter), over all
+// files. A statement lists meters, for checking a bill.
 fn print_statement(
     rt: &HostRuntime,
     joined: &JoinedStatement,
@@ -229,8 +232,8 @@ fn print_statement(
     }
 }
 
-// Prints the merged statement of the meters at an accounting register, if one of the files has this
-// register.
+// Prints the merged statement (for checking a bill) of the meters at an accounting register (a
+// named counter), if one of the files has this register.
 fn state_recorded(
     rt: &HostRuntime,
     path: &str,
@@ -257,7 +260,7 @@ pub fn last_of<'a>(paths: &[&'a str]) -> &'a str {
     }
 }
 
-// Prints the energy of an accounting register over several files.
+// Prints the energy of an accounting register (a named counter) over several files.
 fn report_register<'a, D: Databases>(
     rt: &HostRuntime,
     databases: &D,
@@ -271,7 +274,8 @@ fn report_register<'a, D: Databases>(
     }
 }
 
-// Prints the statement of the meters at an accounting register over several files.
+// Prints the statement (for checking a bill) of the meters at an accounting register (a named
+// counter) over several files.
 fn state_register<'a, D: Databases>(
     rt: &HostRuntime,
     databases: &D,
@@ -285,8 +289,8 @@ fn state_register<'a, D: Databases>(
     }
 }
 
-/// Prints the energy of an accounting register, or the statement of its meters, over several files
-/// of one office, the oldest first.
+/// Prints the energy of an accounting register (a named counter of a device), or the statement of
+/// its meters. Merges several successive database files, the oldest first.
 pub fn report_files<'a, D: OfficeFiles>(
     rt: &HostRuntime,
     files: &D,

@@ -1,4 +1,4 @@
-//! The commands over an office's files that do not poll devices or serve HTTP. Also has the file
+//! The commands over database files that do not poll devices or serve HTTP. Also has the file
 //! operations of the command `run`.
 #![tactic(auto)]
 

@@ -1,4 +1,4 @@
-//! Creates a new office in a file.
+//! Creates a new, empty database in a file.
 use crate::copies::{Pair, make_whole, remove};
 use crate::parts::{
     begin_new_part, check_name, finish_part, make_empty_log, rename_over, unwritable,
@@ -12,7 +12,7 @@ use stored_files::{
     length_of, log_of, real_path,
 };
 
-// Returns why no office can be created in a file that is not empty.
+// Returns why no database can be created in a file that is not empty.
 fn why_occupied<'a, D: Databases>(databases: &D, path: &'a str) -> Failure<'a> {
     match databases.make(path) {
         Ok(connection) if is_bare(&connection) => Failure::Occupied { path },
@@ -24,7 +24,7 @@ fn why_occupied<'a, D: Databases>(databases: &D, path: &'a str) -> Failure<'a> {
     }
 }
 
-// Creates the tables of a new office in a file with a temporary name, and merges the file's log
+// Creates the tables of a new database in a file with a temporary name, and merges the file's log
 // into it.
 fn fill_part<'a, D: Databases>(
     rt: &HostRuntime,
@@ -73,9 +73,8 @@ fn name_new<'a>(
     }
 }
 
-// Creates an office in a file with a temporary name, and renames the file to its final name. On
-// failure, removes the incomplete file. If only the sync of the folder fails, the office's file
-// remains.
+// Creates a database in a file with a temporary name, and renames the file to its final name. On
+// failure, removes the incomplete file. If only the sync of the folder fails, the file remains.
 fn make_office<'a, D: Databases>(
     rt: &HostRuntime,
     databases: &D,
@@ -100,7 +99,7 @@ fn make_office<'a, D: Databases>(
     }
 }
 
-// Creates an office at a path that has no file or an empty file. The log beside this path must be
+// Creates a database at a path that has no file or an empty file. The log beside this path must be
 // missing or empty.
 fn create_in<'a, D: Databases>(
     rt: &HostRuntime,
@@ -123,7 +122,7 @@ fn create_in<'a, D: Databases>(
     make_office(rt, databases, path, zone, length.is_some())
 }
 
-// Creates an office whose days follow the POSIX rule of a named time zone, and prints this rule.
+// Creates a database whose days follow the POSIX rule of a named time zone, and prints this rule.
 fn create_by_rule<'a, D: Databases>(
     rt: &HostRuntime,
     databases: &D,
@@ -144,8 +143,8 @@ fn report_similar(rt: &HostRuntime, zone: &str) {
     }
 }
 
-/// Creates an office in the file at a path. `zone` is the time zone of the office's days. It is a
-/// POSIX rule, or the name of a zone whose current rule is in the operating system's zone files.
+/// Creates a database in the file at a path. `zone` is the time zone of the days in reports. It is
+/// a POSIX rule, or the name of a zone whose current rule is in the operating system's zone files.
 pub fn create<'a, D: Databases>(
     rt: &HostRuntime,
     databases: &D,

@@ -1,4 +1,4 @@
-//! Opens an office's file, and reports a missing log or a large file.
+//! Opens a database file, and reports a missing log or a large file.
 use crate::escaped::Escaped;
 use sqlite::Connection;
 use std::io::{IsTerminal, Write};
@@ -32,8 +32,8 @@ fn say_opening<E: Write>(rt: &HostRuntime, errors: &mut E, path: &str, bytes: u6
     }
 }
 
-/// Opens the database of an office at a path. Reports a missing log, and fails if a log exists
-/// without its database file.
+/// Opens the database at a path. Reports a missing log, and fails if a log exists without its
+/// database file.
 pub fn open_in<'a, D: Databases>(
     rt: &HostRuntime,
     databases: &D,
@@ -43,7 +43,7 @@ pub fn open_in<'a, D: Databases>(
     open_reporting(rt, databases, path, false, &mut errors)
 }
 
-/// Opens the database of an office like [`open_in`], but writes reports to `errors`. If the file is
+/// Opens the database at a path like [`open_in`], but writes reports to `errors`. If the file is
 /// new, does not report that its log is missing.
 pub(crate) fn open_reporting<'a, D: Databases, E: Write>(
     rt: &HostRuntime,

@@ -6,7 +6,7 @@ use std::io::{self, ErrorKind};
 use std::os::unix::fs::OpenOptionsExt;
 use stored_files::{CopyFault, Databases, Failure, FileFault, real_path};
 
-/// The suffixes that the name of an office's file must not have. They mark logs, journals, shared
+/// The suffixes that the name of a database file must not have. They mark logs, journals, shared
 /// memory and incomplete files.
 const RESERVED: [&'static str; 4] = ["-wal", "-journal", "-shm", ".part"];
 
@@ -30,7 +30,7 @@ fn is_reserved(path: &str) -> bool {
     RESERVED.iter().any(|end| path.ends_with(*end))
 }
 
-/// Rejects a name with a reserved suffix for the file of a new office.
+/// Rejects a name with a reserved suffix for a new database file.
 pub(crate) fn check_name(to: &str) -> Result<(), Failure<'_>> {
     if is_reserved(to) {
         return Err(Failure::Uncopied {

@@ -1,4 +1,4 @@
-//! Recovers the readable records of an office with a damaged log into a new file.
+//! Recovers the readable records of a database with a damaged log into a new file.
 use crate::backups::copy_failure;
 use crate::copies::{Pair, copy_settled, pair_at, remove};
 use crate::escaped::Escaped;
@@ -71,8 +71,8 @@ fn fill_part<'a>(
     }
 }
 
-// Audits the recovered office, and returns whether no difference was found. In that case, prints a
-// report on the office's records, otherwise the differences.
+// Audits the recovered database, and returns whether no difference was found. In that case, prints
+// a report on its records, otherwise the differences.
 fn report_over<D: Databases>(
     rt: &HostRuntime,
     mut connection: Connection<D::Store>,

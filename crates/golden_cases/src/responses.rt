@@ -35,8 +35,8 @@ pub(crate) fn serve(
     }
 }
 
-/// Appends the response of `sunreg run` to a request, with the headers for browsers. Either a route
-/// of `sunreg run` or `office_http` produces the response.
+/// Appends the response of `sunreg run` to a request, with the headers for browsers. A route of
+/// `sunreg run` takes precedence over a route of `office_http`, which `sunreg serve` also has.
 pub(crate) fn run(
     alloc: Global,
     office: &mut Office<ListBooks>,

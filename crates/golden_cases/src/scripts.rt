@@ -7,7 +7,8 @@ use std::io::{self, ErrorKind, Write};
 use sunspec_text::{chain_text, plan_text};
 
 /// Returns the output of a golden test. If `by_lines` is set, each line after the first is a
-/// separate input. Otherwise the complete file is the input, but for `plan` without its first line.
+/// separate input. Otherwise the complete file is the input; for the command `plan`, the file
+/// without its first line.
 pub(crate) fn play<'r>(
     rt: &'r HostRuntime,
     loopback: &mut Loopback<'r, HostRuntime>,

@@ -17,7 +17,8 @@ use Rattle.http_answer.specs.Replies.{fault_said, refused, reply_bytes, reply_of
 use Rattle.http_answer.specs.Requests.{kept_request, number_asked}
 use Rattle.http_answer.specs.Rows.{meter_text}
 
--- An example `Office` without meters, with interval rows, that accepts a meter exchange.
+-- Example answers of the program: no meter exists, queries for interval rows return rows, and a
+-- meter exchange is accepted.
 abbrev office : Office
 office = record {
   meter = λ name. Err refusal.NotFound;

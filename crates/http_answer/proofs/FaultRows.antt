@@ -1,4 +1,4 @@
--- Lemmas on the JSON of the faulty rows of a point list, which is appended row after row.
+-- Lemmas on the JSON of the faulty rows of a point list (CSV), which is appended row after row.
 use Rattle.std.proofs.Common.{◌≡◌, ◌∙◌, ℕ, ◌+◌, ◌<◌, List, [], ◌∷◌, ◌++◌, length, get_or, take, refl, sym, ap, append_assoc}
 use Rattle.std.specs.Prelude.{codes, decimal}
 use Rattle.std.proofs.lemmas.List.{append-nil, take_more}

@@ -1,9 +1,10 @@
--- The JSON body of the response to a point list with faulty rows.
+-- The JSON body of the response to a faulty point list. A point list is CSV text that lists the
+-- Modbus registers of a device that the program polls.
 use Rattle.std.specs.Prelude.{ℕ, List, [], ◌∷◌, ◌++◌, codes, decimal}
 use Rattle.point_list.specs.declared.fault.FaultyRow.{FaultyRow}
 use Rattle.point_list.specs.Faults.{fault_number}
 
--- The JSON of a faulty row: its row number and the number of its fault.
+-- The JSON of a faulty row: the row's number in the point list, and the number of its fault.
 abbrev pub row_text : FaultyRow → List ℕ
 row_text faulty =
     codes "[" ++ decimal faulty.row ++ codes "," ++ decimal (fault_number faulty.fault) ++ codes "]"

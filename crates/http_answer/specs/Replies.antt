@@ -41,16 +41,18 @@ reply_bytes (Lines lines) = text_head ++ lines
 abbrev pub fault : Status → Reply
 fault status = Json status (fault_text status)
 
--- The JSON response that reports the program's refusal by its number.
+-- The JSON response that reports why the program refused the request, by the number of the reason.
 abbrev pub refused : Refusal → Reply
 refused why = Json (status_of why) (refused_text (refusal_number why))
 
--- The response to a query for one object: the object as JSON, or the program's refusal.
+-- The response to a query for one object: the object as JSON, or an error response if the program
+-- refused the query.
 abbrev pub row_reply : {X : Type 0} → (X → List ℕ) → Result X Refusal → Reply
 row_reply text (Ok row) = Json Fine (text row)
 row_reply text (Err why) = refused why
 
--- The response to a query for many rows: the rows as lines of text, or the program's refusal.
+-- The response to a query for many rows: the rows as lines of text, or an error response if the
+-- program refused the query.
 abbrev pub lines_reply : {X : Type 0} → (X → List ℕ) → Result X Refusal → Reply
 lines_reply text (Ok rows) = Lines (text rows)
 lines_reply text (Err why) = refused why
@@ -61,8 +63,8 @@ abbrev pub poll_reply : Office → Option ℕ → Reply
 poll_reply office None = refused refusal.NotFound
 poll_reply office (Some number) = row_reply poll_text (office.poll number)
 
--- The response to a query, by its route and the route's parameter. Routes that are not listed get
--- no query response from this definition.
+-- The response to a query, by its route and the route's parameter. A route that is no query gets
+-- 404.
 abbrev pub question_reply : Office → Route → Option (List ℕ) → Reply
 question_reply office route.Meter taken = row_reply meter_text (office.meter (name_asked taken))
 question_reply office route.Poll taken = poll_reply office (number_asked taken)

@@ -1,4 +1,5 @@
--- The JSON of a meter and of a poll. Names need no escaping in JSON.
+-- The JSON of a meter and of a poll. Names consist of letters, digits, `_` and `-`, so JSON need
+-- not escape them.
 use Rattle.std.specs.Prelude.{ℕ, Bool, true, false, List, ◌++◌, codes, decimal, Option, Some, None}
 use Rattle.std.specs.Fmt.{signed_decimal}
 use Rattle.poll_core.specs.Outcomes.{outcome_code, outcome_number}

@@ -1,4 +1,4 @@
--- The HTTP status for each refusal of the program.
+-- The HTTP status for each reason why the program refuses a query or a command.
 use Rattle.http_request.specs.declared.status.Status.{Status}
 use Rattle.http_request.specs.declared.status.Status.TheVariants.{NotFound as NotThere, Conflict, Unprocessable, Unavailable}
 use Rattle.office_events.specs.declared.refusals.Refusal.{Refusal}

@@ -1,4 +1,5 @@
-//! The JSON body of the response to a point list with faulty rows.
+//! The JSON body of the response to a faulty point list. A point list is CSV text that lists the
+//! Modbus registers of a device that the program polls.
 ghost use Rattle.std.specs.Prelude.{◌≡◌, ◌≤◌, ◌+◌, ◌*◌, ◌++◌, length, codes, decimal, All};
 ghost use Rattle.point_list.specs.Faults.{fault_number};
 ghost use Rattle.http_answer.specs.Commands.Few.{AreFew};

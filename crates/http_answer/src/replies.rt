@@ -32,7 +32,8 @@ pub fn append_refusal<L: Link>(refusal: Refusal, writer: &mut ResponseWriter<'_,
     write_json(status_of(refusal), body.bytes(), writer);
 }
 
-/// Writes the response to a command: the kind of the executed command, or the program's refusal.
+/// Writes the response to a command: the kind of the executed command, or the reason why the
+/// program refused the command.
 pub fn write_done<L: Link>(answer: Result<CommandKind, Refusal>, writer: &mut ResponseWriter<'_, L>)
     ensures { Puts writer.old writer.new (reply_bytes (row_reply done_text answer)) }
 {
@@ -59,7 +60,8 @@ pub fn write_command_fault<L: Link>(fault: &CommandFault, writer: &mut ResponseW
     }
 }
 
-/// Writes the response to the query for a meter: the meter as JSON, or the refusal.
+/// Writes the response to the query for a meter: the meter as JSON, or an error response if the
+/// program refused the query.
 pub fn append_meter<L: Link>(
     answer: &Result<Installation, Refusal>,
     writer: &mut ResponseWriter<'_, L>,
@@ -75,7 +77,8 @@ pub fn append_meter<L: Link>(
     }
 }
 
-/// Writes the response to the query for a poll: the poll as JSON, or the refusal.
+/// Writes the response to the query for a poll: the poll as JSON, or an error response if the
+/// program refused the query.
 pub fn append_poll<L: Link>(answer: &Result<PollRow, Refusal>, writer: &mut ResponseWriter<'_, L>)
     ensures { Puts writer.old writer.new (reply_bytes (row_reply poll_text answer.now)) }
 {

@@ -1,4 +1,4 @@
-//! The HTTP status for each refusal of the program.
+//! The HTTP status for each reason why the program refuses a query or a command.
 ghost use Rattle.std.specs.Prelude.{◌≡◌};
 ghost use Rattle.http_answer.specs.Statuses.{status_of};
 

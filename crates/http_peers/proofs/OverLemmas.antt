@@ -1,4 +1,4 @@
--- Lemmas on the energy of an accounting register over earlier files of the store.
+-- Lemmas on the energy of an accounting register over the earlier database files of a store.
 use Rattle.std.proofs.Common.{◌≡◌, ℕ, inl, inr, List, [], ◌∷◌, ◌++◌, map, Some, Result, Ok, Err, IsErr, refl, sym, ap, subst, ◌∙◌}
 use Rattle.std.specs.Prelude.{OnOk}
 use Rattle.std.specs.declared.alloc.Global.{Global}
@@ -85,7 +85,8 @@ module _ {B : Type 0} (ledger : B → Ledger) (a b : Office B) (zone : Zone) (ea
     puts = puts;
   }
 
-  -- If memory ran out for the energy report, the postcondition allows any text.
+  -- If memory runs out for the energy report, then the call's postcondition holds for any written
+  -- text.
   pub unwritten : {E : Type 0} (had holds : List ℕ) (days : Vec DayTotal Global) (result : Result (Result (Unit {0}) Refusal) E) → OnlyAsks ledger a b (Ok days)
       → IsErr result → AsksEnergyOver ledger a b zone earlier register form had holds result
   unwritten had holds days (Ok reported) asks fault = cc fault

@@ -160,7 +160,9 @@ response_queries ledger old new context route Failed responds = route_queries le
 
 -- ---- Responses with many quarter hours.
 
--- A response with quarter hours begins as its first chunk says, or the program only queried.
+-- If the store has the meter, and the call tried to begin the streamed response with its quarter
+-- hours, then `MayBeginRows` holds. The client got the first chunk, or the program only queried its
+-- store.
 pub begins : {B : Type 0} (ledger : B → Ledger) (old mid new : Office B) (meter : Option (List ℕ)) (from till : ℕ) (reply : List Share → List ℕ) (it : Installation)
     (text : Vec ℕ Global) (begun : Result (Result RemainingRows Refusal) AllocError) (before after : Option RemainingRows) (result : Option ClientResponse)
     → ReportsRow ledger old mid (Ok it) (λ facts. option_and_then (meter_of facts) meter) → OnlyAsks ledger old mid (Ok it)
@@ -182,8 +184,8 @@ pub begun_queries : {B : Type 0} (ledger : B → Ledger) (old new : Office B) (m
 begun_queries ledger old new meter from till reply before after response has =
     both_query ledger old has.mid new (queries_by ledger old has.mid (Ok has.it) has.asks) (queries_by ledger has.mid new has.begins.answer has.begins.asks)
 
--- What the program may do before the response of a route, or of `office_http`, is begun for the
--- meter and the time span that the request names.
+-- If the program may begin a response with a meter's rows, then it may begin the response of a
+-- route that asks for these rows.
 pub of_route : {B : Type 0} (ledger : B → Ledger) (old new : Office B) (route : RunRoute) (meter : Option (List ℕ)) (from till : ℕ)
     (before after : Option RemainingRows) (result : Option ClientResponse) → route ≡ Intervals meter (Between from till)
     → MayBeginRows ledger old new meter from till (with_rows []) before after result → MayBeginRoute ledger old new route before after result

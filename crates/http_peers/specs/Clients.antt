@@ -11,25 +11,26 @@ abbrev pub AreAt : {names : List (List ℕ)} → (at : ℕ) → List (Connection
 AreAt at [] = Unit {0}
 AreAt at (one ∷ earlier) = (one.at ≡ at) × AreAt at earlier
 
--- The program's state matches its earlier history, extended by some connections at the time `at`.
--- The Host header of each request is accepted.
+-- The program's state results from its earlier history of accepted events and then some HTTP
+-- connections at the time `at`. The Host header of each request was accepted.
 pub record StandsAfterClients {B : Type 0} (names : List (List ℕ)) (at : ℕ) (ledger : B → Ledger)
     (past : History) (office : Office B) : Type 0 where
   pub connections : List (Connection names)
   pub each : AreAt at connections
   pub stands : Stands ledger (history_with past connections) office
 
--- For any input of clients, the program is in the state after it executed complete requests at the
--- time `at`, and nothing else. The time zone is unchanged, and the mark that the store once
--- returned wrong data is not cleared.
+-- Whatever bytes clients send, the program has only executed complete requests at the time `at`.
+-- The time zone is unchanged. A store that has returned wrong data stays marked as not clean
+-- (`is_clean`).
 pub record ServesClients {B : Type 0} (names : List (List ℕ)) (at : ℕ) (ledger : B → Ledger)
     (old new : Office B) : Type 0 where
   pub stands : After ledger old new (λ past. StandsAfterClients names at ledger past new)
   pub clean : (ledger (books_in new)).is_clean → (ledger (books_in old)).is_clean
   pub zone : (ledger (books_in new)).zone ≡ (ledger (books_in old)).zone
 
--- The program only queried its store: its state still matches the same history of accepted events.
--- The time zone is unchanged, and the mark that the store once returned wrong data is not cleared.
+-- The program only queried its store, so its state results from the same history of accepted events
+-- as before. The time zone is unchanged. A store that has returned wrong data stays marked as not
+-- clean (`is_clean`).
 pub record OnlyQueries {B : Type 0} (ledger : B → Ledger) (old new : Office B) : Type 0 where
   pub stands : (past : History) → Stands ledger past old → Stands ledger past new
   pub clean : (ledger (books_in new)).is_clean → (ledger (books_in old)).is_clean

@@ -1,5 +1,5 @@
--- The energy report on an accounting register over earlier files of the store and the current file.
--- The days of the earlier files are summed up, one file after the other.
+-- The energy report on an accounting register, over the earlier database files of a store and the
+-- current file. The days of the earlier files are summed up, one file after the other.
 use Rattle.std.specs.Prelude.{◌≡◌, ◌⊎◌, ℕ, List, ◌∷◌, ◌++◌, Some, Result, Ok, Err, IfOk, OnOk}
 use Rattle.energy_report.specs.declared.form.ReportForm.{ReportForm}
 use Rattle.interval_core.specs.declared.zone.Zone.{Zone}
@@ -39,8 +39,8 @@ ReportsOver zone facts files register form before after (Err why) text =
     ⊎ ((why ≡ refusal.Store store.NoDay) × (after ≡ before)
     × AreOutOfTurn (rows_of_both (span_of form.range) (rows_over register files) facts register))
 
--- The reported days are the sums of the energy in the current file and in the earlier files. The
--- sums are exact if the total energy in mWh fits in 128 bits.
+-- The reported days are the sums of the energy in the current database file and in the earlier
+-- files. The sums are exact if the total energy in mWh fits in 128 bits.
 abbrev pub ReportsReportOver : {B : Type 0} → (B → Ledger) → (old new : Office B) → Zone
     → (earlier : EarlierDays) → (register : List ℕ) → ReportForm → Result (Unit {0}) Refusal
     → (text : List ℕ) → Type 0
@@ -51,7 +51,8 @@ ReportsReportOver ledger old new zone earlier register form answer text =
     → ReportsOver zone (facts_of past) files register form
     (failures_of ledger old) (failures_of ledger new) answer text)
 
--- The call queries the store once, and appends the energy report unless memory ran out.
+-- The call queries the store once, and appends the energy report, unless the program refuses the
+-- query or memory runs out.
 pub record AsksEnergyOver {B : Type 0} (ledger : B → Ledger) (old new : Office B)
     (zone : Zone) (earlier : EarlierDays) (register : List ℕ) (form : ReportForm) (had holds : List ℕ)
     {E : Type 0} (result : Result (Result (Unit {0}) Refusal) E) : Type 0 where
@@ -63,8 +64,8 @@ pub record AsksEnergyOver {B : Type 0} (ledger : B → Ledger) (old new : Office
       (ReportsReportOver ledger old new zone earlier register form answer report)
   pub puts : OnOk result (OnOk answer (holds ≡ had ++ report))
 
--- The call queries the store once, and appends the response with the energy report or the refusal,
--- unless memory ran out.
+-- The call queries the store once. Unless memory ran out, it appends the response with the energy
+-- report, or an error response if the program refused the query.
 pub record RepliesEnergyOver {B : Type 0} (ledger : B → Ledger) (old new : Office B)
     (zone : Zone) (earlier : EarlierDays) (register : List ℕ) (form : ReportForm) (from to : List ℕ)
     {E : Type 0} (result : Result (Unit {0}) E) : Type 0 where

@@ -1,4 +1,5 @@
--- Limits the bytes of commands that clients may add to the store.
+-- Limits the bytes of commands that clients may add to the store, because the store keeps every
+-- executed command.
 use Rattle.std.specs.Prelude.{◌≡◌, ◌==◌, ◌&&◌, ◌||◌, ◌-◌, if◌then◌else◌, List, ℕ, Bool, false, Option, Some, None, length, nat_lt, codes}
 use Rattle.std.specs.List.{starts_with}
 use Rattle.std.specs.Str.{bytes_eq}

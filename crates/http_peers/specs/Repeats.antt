@@ -3,7 +3,7 @@ use Rattle.std.specs.Prelude.{◌≡◌, ℕ, true, List, Option, Some, None}
 use Rattle.std.specs.Str.{bytes_eq}
 use Rattle.http_peers.specs.declared.repeats.Replied.{Replied}
 
--- The stored pair consists of this request and this response.
+-- The stored pair `it` has this request and this response.
 pub record IsOf (request reply : List ℕ) (it : Replied) : Type 0 where
   pub request_is : it.request.items ≡ request
   pub reply_is : it.reply.items ≡ reply

@@ -47,8 +47,9 @@ use Rattle.run_http.specs.declared.route.RunRoute.{RunRoute}
 use Rattle.run_http.specs.declared.route.RunRoute.TheVariants.{Own, Metrics, Site, Intervals, Entries, Voids, Energy, Meters}
 use Rattle.http_peers.specs.declared.run_context.RunContext.{RunContext}
 
--- The response with the energy of an accounting register: over the earlier files and the current
--- file if earlier files have the register (`earlier`), and otherwise from the current file alone.
+-- The response with the energy of an accounting register: over the earlier database files and the
+-- current file if earlier files have the register (`earlier`), and otherwise from the current file
+-- alone.
 abbrev pub RepliesDays : {B : Type 0} → (B → Ledger) → (old new : Office B) → Zone
     → (earlier : Option EarlierRegister) → (register : Option (List ℕ)) → ReportForm
     → (from to : List ℕ) → {E : Type 0} → Result (Unit {0}) E → Type 0
@@ -101,8 +102,9 @@ RespondsByRoute ledger old new context route Failed =
 
 -- ---- Responses with many quarter hours, which are sent in chunks.
 
--- The response that begins with `text`, given the result of writing it. If the program refused the
--- query, there is no such response. Then, and if memory ran out, the remaining rows are unchanged.
+-- The effect of beginning a streamed response with `text`: `after` has the rows of later chunks. If
+-- the program refused the query, there is no response yet. If memory ran out, the response is
+-- `Failed`.
 abbrev pub IsBegunWith : (text : Vec ℕ Global) → Result (Result RemainingRows Refusal) AllocError
     → (before after : Option RemainingRows) → Option ClientResponse → Type 0
 IsBegunWith text (Ok (Ok left)) before after response =
@@ -127,7 +129,8 @@ pub record BeginsRows {B : Type 0} (ledger : B → Ledger) (old new : Office B)
   pub begins : BeginsReply ledger mid new it from till reply text.items result
   pub is : IsBegunWith text result before after (Some response)
 
--- The call begins the response with the quarter hours of a meter, or only queries the store.
+-- Either the call begins a streamed response with the quarter hours of a meter, or it only queries
+-- the store. In the second case, the caller makes the response.
 abbrev pub MayBeginRows : {B : Type 0} → (B → Ledger) → (old new : Office B)
     → (meter : Option (List ℕ)) → (from till : ℕ) → (reply : List Share → List ℕ)
     → (before after : Option RemainingRows) → Option ClientResponse → Type 0
@@ -145,7 +148,8 @@ pub record BeginsRoute {B : Type 0} (ledger : B → Ledger) (old new : Office B)
   pub is : route ≡ Intervals meter (Between from till)
   pub begins : BeginsRows ledger old new meter from till (with_rows []) before after response
 
--- The call begins the response of a route with quarter hours, or only queries the store.
+-- Either the call begins a streamed response of a route with quarter hours, or it only queries the
+-- store. In the second case, the caller makes the response.
 abbrev pub MayBeginRoute : {B : Type 0} → (B → Ledger) → (old new : Office B) → RunRoute
     → (before after : Option RemainingRows) → Option ClientResponse → Type 0
 MayBeginRoute ledger old new route before after None =
@@ -162,7 +166,8 @@ pub record BeginsAll {B : Type 0} (ledger : B → Ledger) (old new : Office B) (
   pub begins : BeginsRows ledger old new meter 0 18446744073709551615 (with_all_rows [])
       before after response
 
--- The call begins the response with all quarter hours of a meter, or only queries the store.
+-- Either the call begins a streamed response with all quarter hours of a meter, or it only queries
+-- the store. In the second case, the caller makes the response.
 abbrev pub MayBeginAll : {B : Type 0} → (B → Ledger) → (old new : Office B) → Table
     → (request : List ℕ) → (before after : Option RemainingRows) → Option ClientResponse → Type 0
 MayBeginAll ledger old new table request before after None =
@@ -172,14 +177,15 @@ MayBeginAll ledger old new table request before after (Some response) =
 
 -- ---- The response to a request.
 
--- The client gets status 503, or nothing if memory ran out.
+-- The client gets status 503, which rejects a command, or nothing if memory ran out.
 abbrev pub IsUnavailable : ClientResponse → Type 0
 IsUnavailable Open = ⊥
 IsUnavailable (Replied text) =
     text.items ≡ with_reply Unavailable (codes "application/json") (fault_text Unavailable) []
 IsUnavailable Failed = Unit {0}
 
--- After queries that change nothing, the client gets the complete response of the route.
+-- The client gets the complete response of the route. Before that, the program may only query its
+-- store.
 pub record RespondsWhole {B : Type 0} (ledger : B → Ledger) (old new : Office B)
     (context : RunContext) (route : RunRoute) (response : ClientResponse)
     : Type 0 where
@@ -187,14 +193,16 @@ pub record RespondsWhole {B : Type 0} (ledger : B → Ledger) (old new : Office 
   pub looks : OnlyQueries ledger old mid
   pub responds : RespondsByRoute ledger mid new context route response
 
--- The response of a route of `sunreg run`: its first chunk, or the complete response.
+-- The response of a route of `sunreg run`: the complete response, or the first chunk of a long
+-- response.
 abbrev pub BeginsResponse : {B : Type 0} → (B → Ledger) → (old new : Office B) → RunContext
     → RunRoute → (before after : Option RemainingRows) → ClientResponse → Type 0
 BeginsResponse ledger old new context route before after response =
     BeginsRoute ledger old new route before after response
     ⊎ ((after ≡ before) × RespondsWhole ledger old new context route response)
 
--- After queries that change nothing, the program executes the request of a route of `office_http`.
+-- The program executes a request for which the crate `office_http` has the route. Before that, the
+-- program may only query its store.
 pub record Executes {B : Type 0} (ledger : B → Ledger) (at : ℕ) (old new : Office B)
     (request : List ℕ) (response : ClientResponse) : Type 0 where
   pub mid : Office B
@@ -202,7 +210,8 @@ pub record Executes {B : Type 0} (ledger : B → Ledger) (at : ℕ) (old new : O
   pub asks : Asks ledger at mid new request response
   pub lasts : Lasts ledger mid new
 
--- The response to a request of a route of `office_http`. A rejected command changes nothing.
+-- The response to a request for which the crate `office_http` has the route. If `rejects` is true,
+-- the request is a rejected command: it changes nothing and gets status 503.
 abbrev pub RespondsToOffice : {B : Type 0} → (B → Ledger) → (at : ℕ) → (old new : Office B)
     → Table → (request : List ℕ) → (before after : Option RemainingRows) → (rejects : Bool)
     → ClientResponse → Type 0
@@ -221,8 +230,8 @@ pub record ExecutesUnlessRejected {B : Type 0} (ledger : B → Ledger) (at : ℕ
   pub tests : Rejects left is_lost request rejects
   pub responds : RespondsToOffice ledger at old new table request before after rejects response
 
--- The response to a request, by the route of `sunreg run` that matches it. If none matches, the
--- program did what `Executed` says.
+-- The response to a request, by the route of `sunreg run` that matches it. If no route matches, the
+-- condition `Executed` says what the program did.
 abbrev pub RespondsBy : {B : Type 0} → (B → Ledger) → (old new : Office B) → RunContext
     → (Executed : Type 0) → Option RunRoute → (before after : Option RemainingRows)
     → ClientResponse → Type 0

@@ -1,4 +1,5 @@
--- The content of `/site`: the accounting registers, with meters of the current and earlier files.
+-- The content of `/site`: the accounting registers, with meters of the current and earlier database
+-- files.
 use Rattle.std.specs.Prelude.{◌≡◌, ℕ, List, [], map, Option, Some, None, Result, Ok, Err, codes}
 use Rattle.std.specs.declared.alloc.Global.{Global}
 use Rattle.std.specs.declared.vec.Vec.{Vec}
@@ -15,8 +16,8 @@ use Rattle.run_http.specs.StatusRoute.{with_reply}
 use Rattle.run_http.specs.Texts.SiteText.{with_site}
 use Rattle.run_http.specs.declared.texts.site.SiteLine.{SiteLine}
 
--- The line of an accounting register with its latest meter in the current and earlier files, if it
--- has a meter.
+-- The line of an accounting register with its latest meter in the current and earlier database
+-- files, if it has a meter.
 abbrev pub line_of : Register → Option LatestMeter → SiteLine
 line_of register None =
     record { row = record { register = register; meter = None }; earlier = None }
@@ -26,16 +27,16 @@ line_of register (Some reported) = record {
 }
 
 -- The line of an accounting register with the latest of its meters in the current and earlier
--- files. `earlier` are its meters in earlier files.
+-- database files. `earlier` are its meters in earlier database files.
 abbrev pub line_after : (earlier : List Installation) → SiteRow → SiteLine
 line_after earlier row = line_of row.register (latest_meter earlier row.meter)
 
--- The line of an accounting register with its latest meter in the current file and the earlier
+-- The line of an accounting register with its latest meter in the current and the earlier database
 -- files.
 abbrev pub line_over : List EarlierRegister → SiteRow → SiteLine
 line_over earlier row = line_after (earlier_meters earlier row.register.name) row
 
--- The lines of all accounting registers, or the program's refusal of the query.
+-- The lines of all accounting registers, or the reason why the program refused the query.
 abbrev pub IsReported : List EarlierRegister → Result (Vec SiteRow Global) Refusal
     → Result (Vec SiteLine Global) Refusal → Type 0
 IsReported earlier (Ok rows) (Ok lines) = lines.items ≡ map (line_over earlier) rows.items
@@ -43,8 +44,8 @@ IsReported earlier (Ok rows) (Err why) = ⊥
 IsReported earlier (Err why) (Ok lines) = ⊥
 IsReported earlier (Err why) (Err reported) = reported ≡ why
 
--- The response of `/site` with the accounting registers, or with the program's refusal of the
--- query.
+-- The response of `/site` with the accounting registers, or an error response if the program
+-- refused the query.
 abbrev pub with_site_over : List EarlierRegister → (at : ℕ) → Result (Vec SiteRow Global) Refusal
     → List ℕ → List ℕ
 with_site_over earlier at (Ok rows) text =

@@ -27,7 +27,8 @@ pub(crate) struct Client {
     over: bool,
 }
 
-// Returns the part of `piece` that fits into a buffer of the size that suffices for any request.
+// Returns the part of `piece` that fits into the buffer of a request. A buffer of `MOST_ROOM` bytes
+// suffices for any request.
 fn fitting<'p>(request: &[u8], piece: &'p [u8]) -> &'p [u8] {
     let room = MOST_ROOM.saturating_sub(request.len());
     piece.get(..room).unwrap_or(piece)
@@ -146,7 +147,7 @@ impl Client {
         }
     }
 
-    /// Replaces the chunk of the response that was written by the next chunk.
+    /// Replaces the written chunk of the response with the next chunk.
     pub(crate) fn append_rows(&mut self, more: Vec<u8>, is_last: bool) {
         self.reply = Outbox::new(more);
         if is_last {

@@ -1,4 +1,5 @@
-//! The energy of an accounting register over earlier files of the store and the current file.
+//! The energy of an accounting register over earlier database files of the store and the current
+//! file.
 ghost use Rattle.std.specs.Prelude.{◌≡◌, ◌++◌, OnOk};
 ghost use Rattle.std.specs.List.{find};
 ghost use Rattle.std.specs.Option.{option_copied};
@@ -16,7 +17,8 @@ use office_events::{Name, Refusal};
 use run_http::write_energy_reply;
 use std::alloc::{AllocError, Global};
 
-/// The accounting registers of earlier files of the store, and the time zone of their days.
+/// The accounting registers of earlier database files of the store, and the time zone of their
+/// days.
 #[derive(Clone, Copy)]
 pub struct EarlierFiles<'a> {
     pub zone: Zone,
@@ -34,7 +36,8 @@ fn write_days(days: &[DayTotal], form: &ReportForm, output: &mut Vec<u8>) -> Res
     }
 }
 
-// Writes the energy report on an accounting register over earlier files and the current file.
+// Writes the energy report on an accounting register over the earlier database files and the
+// current file.
 fn write_energy_over<B: Books>(
     office: &mut Office<B>,
     zone: Zone,
@@ -57,9 +60,9 @@ fn write_energy_over<B: Books>(
 }
 
 /// Appends the response with the energy report on an accounting register. The report covers the
-/// days of earlier files and of the current file, in the site's time zone. If the report's range
-/// has both ends, only the quarter hours of the range and of two days on each side are read. If
-/// memory runs out, a part of the response is appended.
+/// days of earlier database files and of the current file, in the site's time zone. If the report's
+/// range has both ends, only the quarter hours of the range and of two days on each side are read.
+/// If memory runs out, a part of the response is appended.
 pub(crate) fn reply_energy_over<B: Books>(
     alloc: Global,
     text: &mut Vec<u8>,
@@ -77,8 +80,8 @@ pub(crate) fn reply_energy_over<B: Books>(
     write_energy_reply(text, &answer, &body)
 }
 
-// Returns whether the accounting register of an earlier file has this name. `None` is an invalid
-// name, which no register has.
+// Returns whether the accounting register of an earlier database file has this name. `None` is an
+// invalid name, which no register has.
 fn is_of(it: &EarlierRegister, register: &Option<Name>) -> bool
     ensures { result ≡ is_named register.now it.now.name }
 {
@@ -88,7 +91,8 @@ fn is_of(it: &EarlierRegister, register: &Option<Name>) -> bool
     }
 }
 
-/// Returns the first accounting register with this name among the registers of earlier files.
+/// Returns the first accounting register with this name among the registers of earlier database
+/// files.
 pub(crate) fn earlier_named<'a>(
     registers: &'a [EarlierRegister],
     register: &Option<Name>,

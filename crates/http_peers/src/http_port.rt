@@ -55,8 +55,8 @@ pub struct HttpPort {
     first: usize,
     room: KeptRoom,
     repeats: Repeats,
-    /// Whether a command was rejected because the limit for stored commands was reached, and this
-    /// was not logged yet.
+    /// Whether a command was rejected because the limit for stored commands was reached, and the
+    /// rejection is not logged yet.
     is_full: bool,
     /// Whether a file of the store is missing. Then every command is rejected.
     is_lost: bool,
@@ -127,8 +127,8 @@ impl HttpPort {
         mem::replace(&mut self.is_full, false)
     }
 
-    /// Drops the stored response for repeated requests. The caller must do so when the program may
-    /// have recorded something.
+    /// Drops the stored response for repeated requests. The caller must do so when the content of
+    /// the store may have changed.
     pub fn forget_replies(&mut self) {
         self.repeats.forget();
     }
@@ -254,8 +254,9 @@ impl HttpPort {
         }
     }
 
-    // Executes a request that no route of `sunreg run` matches, or rejects it as a command that may
-    // not be stored. `rows` receives the rows that later chunks send.
+    // Executes a request that no route of `sunreg run` matches. Rejects a command if the limit for
+    // stored commands is reached or a file of the store is missing. `rows` receives the rows that
+    // later chunks send.
     fn execute<B: Books>(
         &self,
         request: &[u8],
@@ -277,8 +278,8 @@ impl HttpPort {
         }
     }
 
-    // Makes the response to a complete request: that of its route, complete or its first chunk.
-    // `rows` receives the rows that later chunks send.
+    // Makes the response to a complete request, or the first chunk of a long response. `rows`
+    // receives the rows that later chunks send.
     fn reply<B: Books>(
         &self,
         request: &[u8],
@@ -385,8 +386,8 @@ impl HttpPort {
         }
     }
 
-    // Cuts off all responses with rows still to be sent, because a void may have changed these
-    // rows.
+    // Cuts off all responses with rows still to be sent. A request to void an entry (to withdraw a
+    // false reading) may have changed these rows.
     fn cut_replies(&mut self) {
         for slot in 0..MOST_CLIENTS {
             if slot < self.connections.len() && has_rows_left(&self.connections[slot]) {
@@ -404,8 +405,9 @@ impl HttpPort {
         }
     }
 
-    // Updates the counts after a response: the limits of this iteration, the limit for stored
-    // commands, and the responses that a void may change.
+    // Updates the limits after a response: those of this iteration of the main loop, and that for
+    // stored commands. A request that may void (withdraw) an entry cuts off all streamed responses,
+    // because it may change their rows.
     fn count_reply(
         &mut self,
         slot: usize,

@@ -1,4 +1,5 @@
-//! Limits the bytes of commands that clients may add to the store.
+//! Limits the bytes of commands that clients may add to the store, because the store keeps every
+//! executed command.
 ghost use Rattle.std.specs.Prelude.{◌≡◌};
 ghost use Rattle.http_peers.specs.KeptRoom as kept;
 ghost use Rattle.http_peers.specs.KeptRoom.{Acknowledges, Counts, IsCommand, Lacks, Rejects};

@@ -1,4 +1,5 @@
-//! The response of `/site`: the accounting registers, with meters of the current and earlier files.
+//! The response of `/site`: the accounting registers, with meters of the current and earlier
+//! database files.
 ghost use Rattle.std.specs.Prelude.{◌≡◌, IfOk, OnOk, map};
 ghost use Rattle.run_http.specs.SiteReply.{RepliesSite};
 ghost use Rattle.http_peers.specs.SiteOver as site;
@@ -11,7 +12,7 @@ use run_http::{SiteLine, write_site_reply};
 use std::alloc::{AllocError, Global};
 
 // Returns the line of an accounting register with the latest of its meters in the current and
-// earlier files. `earlier` are its meters in earlier files.
+// earlier database files. `earlier` are its meters in earlier database files.
 fn line_after(earlier: &[Installation], row: &SiteRow) -> SiteLine
     ensures { result ≡ site.line_after earlier.now row.now }
 {
@@ -31,7 +32,7 @@ fn line_after(earlier: &[Installation], row: &SiteRow) -> SiteLine
 }
 
 // Returns the lines of accounting registers, each with its latest meter in the current and earlier
-// files.
+// database files.
 fn lines_over(
     alloc: Global,
     earlier: &[EarlierRegister],
@@ -47,7 +48,7 @@ fn lines_over(
     Ok(lines)
 }
 
-// Returns the lines of all accounting registers, or the program's refusal of the query.
+// Returns the lines of all accounting registers, or the reason why the program refused the query.
 fn current_part(
     alloc: Global,
     earlier: &[EarlierRegister],
@@ -64,7 +65,8 @@ fn current_part(
     }
 }
 
-// Writes the response with the lines of the accounting registers, or with the program's refusal.
+// Writes the response with the lines of the accounting registers, or an error response if the
+// program refused the query.
 fn append_answer(
     alloc: Global,
     text: &mut Vec<u8>,
@@ -80,8 +82,8 @@ fn append_answer(
 }
 
 /// Appends the response of `/site`: each accounting register with its latest meter in the current
-/// and earlier files. `moment` is in seconds since 1970-01-01 UTC. If memory runs out, a part of
-/// the response is appended.
+/// and earlier database files. `moment` is in seconds since 1970-01-01 UTC. If memory runs out, a
+/// part of the response is appended.
 pub(crate) fn reply_site_over<B: Books>(
     alloc: Global,
     text: &mut Vec<u8>,

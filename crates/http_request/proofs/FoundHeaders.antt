@@ -1,4 +1,4 @@
--- Lemmas: the program's result for a header agrees with the type that the header tests use.
+-- Lemmas: the count of a header in the code agrees with the count in the specification.
 use Rattle.std.proofs.Common.{◌≡◌, ◌≤◌, ℕ, List, [], ◌∷◌, length, refl, sym, ap, arith}
 use Rattle.std.specs.Prelude.{codes}
 use Rattle.http_request.specs.Head.Headers.{Gives, values_of}

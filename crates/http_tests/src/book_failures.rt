@@ -12,7 +12,8 @@ use std::process::Abort;
 static FAILED: &[u8] =
     b"HTTP/1.1 503 Service Unavailable\r\nContent-Type: application/json\r\nContent-Length: 14\r\nConnection: close\r\n\r\n{\"refused\":13}";
 
-// Opens an `Office` over a store. If the store fails, tries again with the returned store.
+// Opens an `Office` (the core of `sunreg`) over a store. If the store fails, tries again with the
+// returned store.
 fn opened<B: Books>(rt: &impl Abort, alloc: Global, books: B) -> Office<B> {
     let books = match Office::open(alloc, books, 1900) {
         Ok(office) => return office,

@@ -1,5 +1,5 @@
-//! Tests of the energy of an accounting register by day and month, summed over earlier files and
-//! the current file.
+//! Tests of the energy of an accounting register (a named counter) by day and month, summed over
+//! earlier files and the current file.
 use crate::cases::sized_reply;
 use crate::office::{polled, responded, unmetered, utc};
 use carried_books::{EarlierDays, EarlierRegister, JoinedDays};
@@ -19,7 +19,8 @@ fn days_of(rt: &impl Abort, alloc: Global, rows: &[Share]) -> EarlierDays {
     EarlierDays::new(days)
 }
 
-/// Returns an accounting register of earlier files, with its meters and quarter hours.
+/// Returns an accounting register (a named counter) of earlier files, with its meters and quarter
+/// hours.
 pub(crate) fn earlier_register(
     rt: &impl Abort,
     alloc: Global,
@@ -111,8 +112,8 @@ static OF_LATE: [Asked; 1] = [(
     "{\"refused\":13}",
 )];
 
-// The daily energy of an accounting register is summed over all files. If damaged rows have times
-// that go back, the response is 503.
+// The daily energy of an accounting register (a named counter) is summed over all files. If damaged
+// rows have times that go back, the response is 503.
 #[test]
 fn days_are_those_of_all_files(rt: HostRuntime) {
     let files: [(bool, &[Share], &[Asked]); 3] = [

@@ -25,9 +25,9 @@ impl NamedFiles for NoFiles {
     }
 }
 
-// If the store fails while it is opened, or while an entry with more energy than the meter's
-// ceiling allows is checked, the line is refused. The command does not ask for confirmation of the
-// entry.
+// If the store fails, the line is refused. The same happens if the store fails while the entry's
+// energy is compared with the meter's ceiling (its greatest power): the user is not asked to
+// confirm the entry.
 #[test]
 fn a_line_over_a_failing_store_is_refused(rt: HostRuntime) {
     for failing in 1..12 {

@@ -1,5 +1,5 @@
-//! `Office` values over stores in memory, for tests. Their device is `inv`, its accounting register
-//! is `main`, and the meter at this register is `m1`.
+//! `Office` values (the core of `sunreg`) over stores in memory, for tests. Their device is `inv`,
+//! its accounting register (a named counter) is `main`, and the meter at this register is `m1`.
 use crate::cases::serve;
 use carried_books::EarlierRegister;
 use http_peers::{EarlierFiles, Now, RunContext, respond};
@@ -14,7 +14,7 @@ use run_status::RunMonitor;
 use std::alloc::Global;
 use std::process::Abort;
 
-// Requests that add a device, add an accounting register, and install a meter.
+// Requests that add a device, add an accounting register (a named counter), and install a meter.
 static REQUESTS: [&[u8]; 3] = [
     b"POST /devices HTTP/1.1\r\nContent-Length: 46\r\nOffice-Caller: desk\r\nOffice-Request: 1\r\n\r\n{\"name\":\"inv\",\"unit\":1,\"timeout\":5,\"window\":1}",
     b"POST /registers HTTP/1.1\r\nContent-Length: 76\r\nOffice-Caller: desk\r\nOffice-Request: 2\r\n\r\n{\"name\":\"main\",\"device\":\"inv\",\"function\":3,\"address\":40094,\"scale_at\":40096}",
@@ -30,8 +30,8 @@ pub(crate) fn utc(rt: &impl Abort) -> Zone {
     Zone::read("UTC0").expect(rt, "no zone")
 }
 
-/// Returns the response of a route of `sunreg run` at time 2800 s. The response covers the
-/// accounting registers `registers` of earlier files, and the current file.
+/// Returns the response of a route of `sunreg run` at time 2800 s. The response covers the current
+/// file, and the accounting registers (named counters) `registers` of earlier files.
 pub(crate) fn response_of<B: Books>(
     rt: &impl Abort,
     alloc: Global,
@@ -91,8 +91,8 @@ pub(crate) fn poll(rt: &impl Abort, alloc: Global) -> [Event; 3] {
     ]
 }
 
-// Returns an `Office` over the store `books`, after it served these requests at time 1000 and
-// processed the events of a poll at `times`, all in seconds.
+// Returns an `Office` (the core of `sunreg`) over the store `books`. Before that, it serves these
+// requests at time 1000 s, and processes the events of a poll at `times`, in seconds.
 fn built<B: Books>(
     rt: &impl Abort,
     alloc: Global,
@@ -115,8 +115,8 @@ fn built<B: Books>(
     office
 }
 
-// Returns an `Office` over a store in memory, after it served these requests at time 1000 and
-// processed the events of a poll at `times`, all in seconds.
+// Returns an `Office` (the core of `sunreg`) over a store in memory. Before that, it serves these
+// requests at time 1000 s, and processes the events of a poll at `times`, in seconds.
 fn built_in_memory(
     rt: &impl Abort,
     alloc: Global,
@@ -126,23 +126,25 @@ fn built_in_memory(
     built(rt, alloc, ListBooks::new(alloc, utc(rt)), requests, times)
 }
 
-/// Returns an `Office` with a device and an accounting register, at which no meter is installed.
+/// Returns an `Office` (the core of `sunreg`) with a device and an accounting register (a named
+/// counter), at which no meter is installed.
 pub(crate) fn unmetered(rt: &impl Abort, alloc: Global) -> Office<ListBooks> {
     built_in_memory(rt, alloc, &REQUESTS[..2], &[])
 }
 
-/// Returns an `Office` with a meter that was installed at time 1000 s, with the counter value 5000.
+/// Returns an `Office` (the core of `sunreg`) with a meter that was installed at time 1000 s, with
+/// the counter value 5000.
 pub(crate) fn metered(rt: &impl Abort, alloc: Global) -> Office<ListBooks> {
     built_in_memory(rt, alloc, &REQUESTS, &[])
 }
 
-/// Returns an `Office` that has polled its device. The meter's counter advanced from 5000 at time
-/// 1000 s to 5200 at 1900 s, which is 200 Wh.
+/// Returns an `Office` (the core of `sunreg`) that has polled its device. The meter's counter
+/// advanced from 5000 at time 1000 s to 5200 at 1900 s, which is 200 Wh.
 pub(crate) fn polled(rt: &impl Abort, alloc: Global) -> Office<ListBooks> {
     built_in_memory(rt, alloc, &REQUESTS, &[1898, 1898, 1900])
 }
 
-/// Returns the store of the `Office` that has polled its device.
+/// Returns a store with a device that was polled once, and the recorded energy of its meter.
 pub(crate) fn polled_store(rt: &impl Abort, alloc: Global) -> ListBooks {
     polled(rt, alloc).into_books()
 }

@@ -125,7 +125,7 @@ fn assert_earlier_rows<B: Books>(rt: &impl Abort, alloc: Global, office: &mut Of
 }
 
 // Asserts the chunks of a response for each time span, and for all rows. The rows reach from the
-// quarter hour of the opening entry (900 s) to that of the last entry (1800 s).
+// quarter hour of the meter's first entry (900 s) to that of its last entry (1800 s).
 fn assert_chunks<B: Books>(rt: &impl Abort, alloc: Global, office: &mut Office<B>) {
     assert_spans(rt, alloc, office);
     let text = in_chunks(rt, alloc, office, None, 900);
@@ -167,8 +167,8 @@ static VOIDS: [(&[u8], bool); 6] = [
     (b"", false),
 ];
 
-// Requests for all rows, and requests that may void an entry, are recognized by their request
-// lines.
+// Requests for all rows, and requests that may void (cancel) an entry, are recognized by their
+// request lines.
 #[test]
 fn requests_are_recognized(rt: HostRuntime) {
     let router = router(rt.alloc()).expect(&rt, "no router");

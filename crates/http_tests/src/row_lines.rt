@@ -1,4 +1,5 @@
-//! Tests of the lines of entries, accounting registers and meters with the greatest numbers.
+//! Tests of the lines of entries, accounting registers (named counters) and meters with the
+//! greatest numbers.
 use crate::office::polled;
 use energy_core::{Entry, Last};
 use meter_journal::{EntryKind, EntryRow};
@@ -9,7 +10,7 @@ use run_http::{SiteLine, write_entries, write_register_meters, write_site};
 use std::alloc::Global;
 use std::process::Abort;
 
-// The opening entry of the test meter: the greatest counter value and a negative scale factor.
+// The first entry of the test meter: the greatest counter value and a negative scale factor.
 const OPENING: Last = Last {
     at: 7,
     raw: u32::MAX,
@@ -91,7 +92,8 @@ static SITE: &str =
 static METERS: &str =
     "m1 1000 18446744073709551615 4294967295 -10 18446744073709551615 ended\nm1 18446744073709551615 0 0 10 0 open\nend 2\n";
 
-// Returns the accounting register with its meter, in an `Office` that has polled its device.
+// Returns the accounting register (a named counter) of a device that was polled once, with its
+// meter.
 fn polled_row(rt: &impl Abort, alloc: Global) -> SiteRow {
     let mut office = polled(rt, alloc);
     let Ok(rows) = office.site() else {
@@ -100,7 +102,8 @@ fn polled_row(rt: &impl Abort, alloc: Global) -> SiteRow {
     rows.first().copied().expect(rt, "no row")
 }
 
-// Returns the meter of an accounting register, closed and with the greatest numbers.
+// Returns the meter of an accounting register (a named counter), closed and with the greatest
+// numbers.
 fn closed_in(rt: &impl Abort, row: &SiteRow, last: Last) -> Installation {
     let mut closed = row.meter.expect(rt, "no meter");
     closed.last = last;
@@ -109,8 +112,8 @@ fn closed_in(rt: &impl Abort, row: &SiteRow, last: Last) -> Installation {
     closed
 }
 
-// The JSON of an accounting register is exact for the greatest numbers, for a negative scale
-// factor, and without a meter.
+// The JSON of an accounting register (a named counter) is exact for the greatest numbers, for a
+// negative scale factor, and without a meter.
 #[test]
 fn a_site_has_its_line(rt: HostRuntime) {
     let mut row = polled_row(&rt, rt.alloc());
@@ -137,7 +140,8 @@ fn a_site_has_its_line(rt: HostRuntime) {
     assert!(rt; text.as_slice() == SITE.as_bytes());
 }
 
-// The lines of an accounting register's meters are exact for the greatest numbers and for 0.
+// The lines for the meters of an accounting register (a named counter) are exact for the greatest
+// numbers and for 0.
 #[test]
 fn each_number_of_a_meter_may_be_the_greatest(rt: HostRuntime) {
     let row = polled_row(&rt, rt.alloc());

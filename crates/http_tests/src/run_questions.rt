@@ -10,7 +10,8 @@ use run_http::RunRoute;
 use std::alloc::Global;
 use std::process::Abort;
 
-// Returns the response of an `Office` over a store, or `None` if the `Office` cannot be opened.
+// Returns the response of an `Office` (the core of `sunreg`) over a store, or `None` if the
+// `Office` cannot be opened.
 fn replied_over<B: Books>(
     rt: &impl Abort,
     alloc: Global,
@@ -32,15 +33,16 @@ fn replied(rt: &impl Abort, alloc: Global, failing: u64, request: &[u8]) -> Opti
 
 // A request, and the number of store calls whose failure leads to 503.
 static FAILING: [(&[u8], u8); 3] = [
-    // One call each for the devices, for the accounting registers of the device, and for the meter.
+    // One call each for the devices, for the accounting registers (named counters) of the device,
+    // and for the meter.
     (b"GET /site HTTP/1.1\r\n\r\n", 3),
     (b"GET /metrics HTTP/1.1\r\n\r\n", 3),
-    // One call for the accounting register, and one for its meters.
+    // One call for the accounting register (a named counter), and one for its meters.
     (b"GET /registers/main/meters HTTP/1.1\r\n\r\n", 2),
 ];
 
 // Counts the calls of the store whose failure leads to 503. If any other call fails, the response
-// is complete, or the `Office` cannot be opened.
+// is complete, or the program cannot start.
 fn calls_that_fail(rt: &impl Abort, alloc: Global, request: &[u8]) -> u8 {
     let failure = sized_reply(alloc, "503 Service Unavailable", "{\"refused\":13}").expect(
         rt,

@@ -12,8 +12,8 @@ use std::process::Abort;
 // A meter in earlier files: its name, its energy in mWh, and whether it was closed.
 type Earlier = (&'static [u8], u64, bool);
 
-// A test case: its description, an accounting register of earlier files, the meters at that
-// register, and the meter's JSON in the response.
+// A test case: its description, an accounting register (a named counter) of earlier files, the
+// meters at that register, and the meter's JSON in the response.
 type Case = (
     &'static str,
     &'static [u8],
@@ -103,7 +103,7 @@ fn earlier_meter(rt: &impl Abort, it: &Earlier) -> Installation {
 }
 
 // Returns the response of `/site` at time 2800 s, if the earlier files have the meters `meters` at
-// the accounting register `register`.
+// the accounting register `register` (a named counter).
 fn replied<B: Books>(
     rt: &impl Abort,
     alloc: Global,
@@ -131,7 +131,8 @@ fn assert_sites<B: Books>(rt: &impl Abort, alloc: Global, office: &mut Office<B>
     }
 }
 
-// The meter at an accounting register is the last one of all files, with its energy in all files.
+// The meter at an accounting register (a named counter) is the last one of all files, with its
+// energy in all files.
 #[test]
 fn a_site_has_the_meters_of_all_files(rt: HostRuntime) {
     let mut office = polled(&rt, rt.alloc());

@@ -1,4 +1,5 @@
-//! Tests of an `Office` whose store fails while rows are written, or while a poll ends.
+//! Tests of an `Office` (the core of `sunreg`) whose store fails while rows are written, or while a
+//! poll ends.
 use crate::cases::{Case, assert_served, serve};
 use crate::office::{poll, polled_store};
 use crate::tables::{COMMANDS, QUESTIONS};
@@ -42,8 +43,8 @@ fn a_text_that_is_cut_off_has_no_end(rt: HostRuntime) {
     assert!(rt; cuts == 1);
 }
 
-// Returns an `Office` that has stopped because its store failed while a poll ended. Returns `None`
-// if the store does not fail at that point.
+// Returns an `Office` (the core of `sunreg`) that refuses everything, because its store failed
+// while a poll ended. Returns `None` if the store does not fail at that point.
 fn stopped<B: Books>(rt: &impl Abort, alloc: Global, books: B) -> Option<Office<B>> {
     let Ok(mut office) = Office::open(alloc, books, 1900) else {
         return None;
@@ -58,8 +59,8 @@ fn stopped<B: Books>(rt: &impl Abort, alloc: Global, books: B) -> Option<Office<
     None
 }
 
-// Returns whether an `Office` over this store stops. Asserts that it then responds to each request
-// with 503.
+// Returns whether a failure of this store stops the `Office` (the core of `sunreg`). Asserts that
+// each request then gets the response 503.
 fn is_unavailable<B: Books>(rt: &impl Abort, alloc: Global, books: B) -> bool {
     let Some(mut office) = stopped(rt, alloc, books) else {
         return false;
@@ -76,7 +77,8 @@ fn is_unavailable<B: Books>(rt: &impl Abort, alloc: Global, books: B) -> bool {
     true
 }
 
-// An `Office` that has stopped responds to each request with 503.
+// After a failure of the store has stopped the `Office` (the core of `sunreg`), each request gets
+// the response 503.
 #[test]
 fn a_stopped_office_is_unavailable(rt: HostRuntime) {
     for failing in 1..20 {

@@ -19,7 +19,7 @@ use Rattle.interval_core.proofs.OrderLemmas.{Earlier, Later, All-split, in_order
 use Rattle.interval_core.proofs.PlaceLemmas.{Other, same_day, other_day, absent, not_contained}
 use Rattle.interval_core.proofs.CountLemmas.{among, rows_on-same, rows_on-other, distinct_count-push, present, missing, energy-rows_on}
 
--- An account equals `account_on` of its day, computed from all rows of the day.
+-- A day account is exact: it has the number of intervals and the energy of all rows of the day.
 abbrev pub IsExact : Zone → List Share → DayAccount → Type 0
 IsExact zone rows account = account ≡ account_on zone rows account.day
 
@@ -49,7 +49,7 @@ ap_account : {count count' mwh mwh' : ℕ} (day : ℤ) → count ≡ count' → 
     → ◌≡◌ {A = DayAccount} (record { day = day; count = count; mwh = mwh }) (record { day = day; count = count'; mwh = mwh' })
 ap_account day same_count same_mwh = rw (same_count, same_mwh)
 
--- Adding a row leaves the accounts of all other days equal to `account_on` of their days.
+-- Adding a row leaves the accounts of all other days exact (`IsExact`).
 others-exact : (zone : Zone) (rows : List Share) (row : Share) (accounts : List DayAccount) → All (IsExact zone rows) accounts → All (Other (day_at zone row.start)) accounts
     → All (IsExact zone (rows ++ row ∷ [])) accounts
 others-exact zone rows row accounts exact others = λ k d lt. exact k d lt ∙ sym (account-other zone rows row (get_or accounts k d).day (others k d lt))
@@ -103,7 +103,7 @@ earlier-other day accounts earlier = λ k d lt same. let before = earlier k d lt
 later-other : (day : ℤ) (accounts : List DayAccount) → All (Later day) accounts → All (Other day) accounts
 later-other day accounts later = λ k d lt same. let after = later k d lt in omega (arith, signed_arith, after, same)
 
--- Adding a row to a day with an account replaces this account by the account of all rows of the
+-- Adding a row to a day that has a day account replaces this account by that of all rows of the
 -- day.
 pub replaced : (zone : Zone) (rows : List Share) (row : Share) (before : List DayAccount) (a b : DayAccount) (after : List DayAccount)
     → AreAccounts zone rows (before ++ a ∷ after) → a.day ≡ day_at zone row.start → b ≡ account_on zone (rows ++ row ∷ []) (day_at zone row.start)
@@ -131,7 +131,7 @@ replaced zone rows row before a b after was same exact =
           (others-exact zone rows row after (All-tail (IsExact zone rows) a after parts.1) (later-other day after later)));
     }
 
--- Adding a row to a day without rows inserts the account of this row.
+-- Adding a row to a day without rows inserts the day account of this row.
 pub inserted : (zone : Zone) (rows : List Share) (row : Share) (before : List DayAccount) (b : DayAccount) (after : List DayAccount)
     → AreAccounts zone rows (before ++ after) → All (Earlier (day_at zone row.start)) before → All (Later (day_at zone row.start)) after
     → b ≡ account_on zone (rows ++ row ∷ []) (day_at zone row.start) → AreAccounts zone (rows ++ row ∷ []) (before ++ b ∷ after)

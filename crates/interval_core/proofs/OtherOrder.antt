@@ -16,6 +16,7 @@ use Rattle.interval_core.specs.Zone.{day_at}
 use Rattle.interval_core.specs.Days.{DayAccount, rows_on, distinct_count, account_on, AccountsIgnoreOrder}
 
 -- ---- sums over the rows that pass a test
+-- The weight of a row that passes the test, or 0 for any other row.
 
 abbrev if_passes : (Share → Bool) → (Share → ℕ) → Share → ℕ
 if_passes p w row = cond (p row) (w row) 0
@@ -37,6 +38,7 @@ sum_moved p w rows others h =
     omega (arith, sum_passing p w rows, sum_passing p w others, sum_by-IsPermutation (if_passes p w) rows others h)
 
 -- ---- the number of different starts, counted start by start
+-- 1 for a row with the given start, or 0 for any other row.
 
 abbrev is_at : ℕ → Share → ℕ
 is_at start row = cond (row.start == start) 1 0
@@ -110,6 +112,7 @@ counted_alike zero rows others h = refl
 counted_alike (suc n) rows others h = omega (arith, ap one_if_some (h n), counted_alike n rows others h)
 
 -- ---- the account of a civil day
+-- The order of rows does not change the number of different starts of the rows that pass a test.
 
 count_moved : (p : Share → Bool) (rows others : List Share) → IsPermutation rows others
     → distinct_count (starts_of (filter p rows)) ≡ distinct_count (starts_of (filter p others))

@@ -13,6 +13,7 @@ use Rattle.interval_core.proofs.ShareLemmas.{running_mono}
 use Rattle.interval_core.proofs.SumLemmas.{running-from, running-till}
 
 -- ---- the interval rows of one step
+-- A time that is the start of an interval, at or after `bound`.
 
 abbrev IsStartFrom : ℕ → ℕ → Type 0
 IsStartFrom bound start = (bound ≤ start) × (start % 900 ≡ 0)
@@ -46,8 +47,8 @@ in_rest x xs t lt contains =
       | inr there ↦ there
     ]
 
--- The shares of all touched intervals from `bound` on add up to the running energy at the step's
--- end less the running energy at `bound`.
+-- The shares of all touched intervals from `bound` on add up to the energy of the step after the
+-- time `bound`.
 energy-from : (step : Step) (xs : List ℕ) (bound : ℕ) → step.from < step.till → bound % 900 ≡ 0 → IsAscending xs → All (IsStartFrom bound) xs
     → ((t : ℕ) → bound ≤ t → Touches step t → Contains xs t)
     → sum_by (share_at step) xs ≡ running_energy step step.till - running_energy step (min (max bound step.from) step.till)
@@ -102,6 +103,7 @@ energy-from step (x ∷ xs) bound forward whole order starts has =
     ]
 
 -- ---- the interval rows of all steps
+-- If two functions agree on each element of a list, their sums over the list are equal.
 
 same_sums : {X : Type 0} (f g : X → ℕ) (xs : List X) → All (λ x. f x ≡ g x) xs → sum_by f xs ≡ sum_by g xs
 same_sums f g [] all = refl

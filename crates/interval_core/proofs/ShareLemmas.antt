@@ -1,4 +1,4 @@
--- The running energy of a step: the step's energy up to a time.
+-- The running energy of a step, which is the step's energy up to a time.
 use Rattle.std.proofs.Common.{◌≡◌, ℕ, ◌+◌, ◌-◌, ◌*◌, ◌/◌, ◌<◌, ◌≤◌, suc, sym, ap, ◌∙◌, ◌∷◌, map, arith}
 use Rattle.std.specs.List.{range_with_len}
 use Rattle.std.proofs.Math.Nat.{mul-add-div_right, div-mul-le_self, mul-le-mul_left}
@@ -6,8 +6,8 @@ use Rattle.std.proofs.lemmas.Nat.{le-div}
 use Rattle.energy_core.specs.declared.entries.Step.{Step}
 use Rattle.interval_core.specs.Share.{running_energy}
 
--- The running energy is the full mWh of each second passed, plus the remainder spread over all
--- seconds.
+-- The energy of a step up to a time can be computed in two parts: whole mWh for each second, and
+-- the rest of the energy, spread over all seconds.
 pub running-split : (each rest seconds passed : ℕ) → 0 < seconds → each * passed + rest * passed / seconds ≡ (each * seconds + rest) * passed / seconds
 running-split each rest seconds passed some =
     sym (mul-add-div_right some (each * passed) (rest * passed))

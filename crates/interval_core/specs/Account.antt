@@ -46,7 +46,8 @@ pub record IsAccount (steps : List Step) (rows : List Share) : Type 0 where
       → Contains (starts_of rows) start ↔ Any (λ step. Touches step start) steps
   pub each : All (λ row. row.mwh ≡ sum_by (λ step. share_at step row.start) steps) rows
 
--- Theorem: the energies of the rows of an account add up to the energies of its steps.
+-- Theorem: interval rows that are the sums of the steps' shares (`IsAccount`) have the same total
+-- energy as the steps.
 abbrev pub AccountsAddUp : Type 0
 AccountsAddUp = (steps : List Step) (rows : List Share) → All (λ step. step.from < step.till) steps
     → IsAccount steps rows

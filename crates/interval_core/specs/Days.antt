@@ -22,7 +22,7 @@ pub record DayAccount : Type 0 where
 abbrev pub account_of : DayTotal → DayAccount
 account_of total = record { day = epoch_day total.day; count = total.count; mwh = total.mwh }
 
--- The days of a list of accounts, in the order of the list.
+-- The days of a list of day accounts, in the order of the list.
 abbrev pub days_of : List DayAccount → List ℤ
 days_of accounts = map (λ account. account.day) accounts
 
@@ -44,13 +44,14 @@ account_on zone rows day = record {
   mwh = energy_of (rows_on zone rows day);
 }
 
--- The accounts are in order: the day of each account is before the days of all accounts after it.
+-- The day accounts of a list are in order: the day of each account is before the days of all
+-- accounts after it.
 abbrev pub AreInOrder : List DayAccount → Type 0
 AreInOrder [] = Unit {0}
 AreInOrder (account ∷ accounts) =
     All (λ later. account.day <ℤ later.day) accounts × AreInOrder accounts
 
--- `accounts` is in order and has one account for each civil day on which the interval of a row
+-- `accounts` is in order and has one day account for each civil day on which the interval of a row
 -- begins.
 pub record AreAccounts (zone : Zone) (rows : List Share) (accounts : List DayAccount) : Type 0 where
   pub in_order : AreInOrder accounts

@@ -8,13 +8,13 @@ use Rattle.interval_core.specs.declared.zone.Zone.{Zone}
 use Rattle.interval_core.specs.Account.{energy_of, starts_of}
 use Rattle.interval_core.specs.Days.{DayAccount, AreAccounts, AreInOrder}
 
--- The state of a fold: the day accounts of all pushed rows, and the start of the latest row. The
--- start is `None` if no row was pushed.
+-- The state of a `DayFold`: the day accounts of all pushed rows, and the start of the latest row.
+-- The start is `None` if no row was pushed.
 pub record FoldState : Type 0 where
   pub accounts : List DayAccount
   pub latest : Option ℕ
 
--- The state of a fold to which no row was pushed.
+-- The state of a `DayFold` to which no row was pushed.
 abbrev pub no_rows : FoldState
 no_rows = record { accounts = []; latest = None }
 
@@ -24,7 +24,7 @@ IsLatest rows latest =
     MatchOption latest (rows ≡ [])
     (λ start. Contains (starts_of rows) start × All (λ row. row.start ≤ start) rows)
 
--- The fold has added up exactly the rows of a list, each on its civil day in the zone.
+-- The `DayFold` has added up exactly the rows of a list, each on its civil day in the zone.
 pub record HasTaken (zone : Zone) (rows : List Share) (fold : FoldState) : Type 0 where
   pub accounts : AreAccounts zone rows fold.accounts
   pub latest : IsLatest rows fold.latest
@@ -49,26 +49,26 @@ pub record IsSoundFold (accounts : List DayAccount) (latest : Option ℕ) : Type
   pub counts : All (λ account. account.count ≤ most_intervals latest) accounts
   pub moments : most_intervals latest ≤ LAST_MOMENT + 1
 
--- `place` is the index at which a day belongs in a list of accounts. Accounts before this index are
--- of earlier days, and the other accounts are not.
+-- `place` is the index at which a day belongs in a list of day accounts. Day accounts before this
+-- index are of earlier days, and the other day accounts are not.
 pub record IsPlace (day : ℤ) (accounts : List DayAccount) (place : ℕ) : Type 0 where
   pub earlier : All (λ account. account.day <ℤ day) (take place accounts)
   pub others : All (λ account. day ≤ℤ account.day) (drop place accounts)
 
--- The account at the index `place` of a list is the account of a given day.
+-- The day account at the index `place` of a list is that of a given day.
 abbrev pub HoldsDay : ℤ → List DayAccount → ℕ → Type 0
 HoldsDay day accounts place =
     (place < length accounts) × HoldsAt (λ account. account.day ≡ day) accounts place
 
--- The day has no account. Accounts before the index `place` are of earlier days, and the other
--- accounts are of later days.
+-- The day has no day account. Day accounts before the index `place` are of earlier days, and the
+-- other day accounts are of later days.
 pub record IsGap (day : ℤ) (accounts : List DayAccount) (place : ℕ) : Type 0 where
   pub within : place ≤ length accounts
   pub earlier : All (λ account. account.day <ℤ day) (take place accounts)
   pub later : All (λ account. day <ℤ account.day) (drop place accounts)
 
--- Between the lists `old` and `new`, the account of a day grows by `count` intervals and `mwh` of
--- energy. The energy saturates at 2^128 - 1 mWh.
+-- Between the lists `old` and `new`, the day account of a day grows by `count` intervals and `mwh`
+-- of energy. The energy saturates at 2^128 - 1 mWh.
 pub record Grows (day : ℤ) (count mwh : ℕ) (old new : List DayAccount) : Type 0 where
   pub before : List DayAccount
   pub after : List DayAccount
@@ -82,7 +82,7 @@ pub record Grows (day : ℤ) (count mwh : ℕ) (old new : List DayAccount) : Typ
         mwh = min (had_mwh + mwh) (2 ^ 128 - 1);
       } ∷ after
 
--- The day has no account in the list `old`, and has an account in the list `new`.
+-- The day has no day account in the list `old`, and has a day account in the list `new`.
 pub record Begins (day : ℤ) (mwh : ℕ) (old new : List DayAccount) : Type 0 where
   pub before : List DayAccount
   pub after : List DayAccount
@@ -91,8 +91,8 @@ pub record Begins (day : ℤ) (mwh : ℕ) (old new : List DayAccount) : Type 0 w
   pub old_is : old ≡ before ++ after
   pub new_is : new ≡ before ++ record { day = day; count = 1; mwh = mwh } ∷ after
 
--- A row of `mwh` energy was added to the account of its day, or began this account. If `is_new`, an
--- existing account counts another interval.
+-- A row of `mwh` energy was added to the day account of its day, or began this day account. If
+-- `is_new`, an existing day account counts another interval.
 abbrev pub IsAdded : ℤ → Bool → ℕ → List DayAccount → List DayAccount → Type 0
 IsAdded day is_new mwh old new =
     Grows day (if is_new then 1 else 0) mwh old new ⊎ Begins day mwh old new

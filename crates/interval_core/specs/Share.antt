@@ -11,8 +11,8 @@ use Rattle.interval_core.specs.declared.shares.Share.{Share}
 abbrev pub running_energy : Step → ℕ → ℕ
 running_energy step moment = step.mwh * (moment - step.from) / (step.till - step.from)
 
--- The energy of a step in the interval from `start`: the running energy at the interval's end less
--- the running energy at `start`.
+-- The energy of a step in the interval from `start`: the energy up to the interval's end less the
+-- energy up to `start`.
 abbrev pub share_at : Step → ℕ → ℕ
 share_at step start =
     running_energy step (min (start + INTERVAL_SECONDS) step.till)

@@ -7,8 +7,8 @@ use Rattle.interval_core.specs.declared.shares.Share.{Share}
 use Rattle.interval_core.specs.declared.shares.Shares.TheInside.{Inside}
 
 -- The invariant of the iterator over a step's shares. The step touches the next interval, or the
--- next interval is the first after the step. The running energy at the start of the next interval
--- is known.
+-- next interval is the first after the step. The field `reached` has the step's energy up to the
+-- start of the next interval.
 pub record IsUnderway (s : Inside) : Type 0 where
   pub begun : s.spread.step.from / INTERVAL_SECONDS ≤ s.interval
   pub end_is : s.end ≡ (s.spread.step.till - 1) / INTERVAL_SECONDS + 1

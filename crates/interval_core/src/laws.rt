@@ -15,8 +15,8 @@ pub fn accounts_add_up()
     ensures { AccountsAddUp }
 {}
 
-/// Theorem: interval rows have exactly one list of day accounts, however a program computes the
-/// list.
+/// Theorem: interval rows have exactly one list of day accounts (their energies by civil day),
+/// however a program computes the list.
 pub fn accounts_are_one()
     ensures { AccountsAreOne }
 {}

@@ -1,4 +1,4 @@
--- Lemmas that the cache agrees with the records after one more record.
+-- Lemmas about a cache, which still agrees with the records after one more record.
 use Rattle.std.proofs.Common.{◌≡◌, ℕ, ◌+◌, ◌<◌, Bool, false, cond, List, ◌∷◌, ◌++◌, reverse, take, length, get_or, Option, Some, None, refl, sym, ap, subst, ◌∙◌}
 use Rattle.std.specs.List.{find, filter}
 use Rattle.std.specs.Option.{option_and_then}
@@ -45,7 +45,7 @@ other_registers r facts device apart =
 no_line : (line : journal.Line) (b : Bool) → b ≡ false → let o : Option journal.Line = cond b (Some line) None in o ≡ None
 no_line line b is = cond-false _ _ _ is
 
--- After an entry of one meter is recorded, the installations of all other meters are unchanged.
+-- After an entry of one meter is recorded, the states of all other meters are unchanged.
 other_entry : OtherMetersStay → (b : BookedEntry) (facts : List Fact) (meter : List ℕ) (row : Installation) → same b.meter meter ≡ false
     → IsLatest facts meter row → IsLatest (fact.Entry b ∷ facts) meter row
 other_entry law b facts meter row apart is =
@@ -68,14 +68,14 @@ entry_comes stay move ranges b facts old new lawful goes are meter row there =
     (moved_latest move ranges facts b own.0 row lawful (are b.meter own.0 own.1) own.2))
     (λ apart. other_entry stay b facts meter row apart (are meter row (sym (goes.others meter apart) ∙ there)))
 
--- True if each cached point list, register list and installation agrees with the records.
+-- True if each cached point list, register list and state of a meter agrees with the records.
 pub record NamesAreTrue (kept : Known) (facts : List Fact) : Type 0 where
   pub lists : EachIs (λ device list. list_of facts device ≡ Some list) kept.lists
   pub registers : EachIs (λ device v. v.items ≡ registers_of facts device) kept.registers
   pub standing : EachIs (IsLatest facts) kept.standing
 
--- If a record changes no point list, register list or installation, then an unchanged cache agrees
--- with the new records.
+-- If a record changes no point list, register list or state of a meter, then an unchanged cache
+-- agrees with the new records.
 quiet : (f : Fact) (facts : List Fact) (old new : Known) → ((device : List ℕ) → list_of (f ∷ facts) device ≡ list_of facts device)
     → ((device : List ℕ) → registers_of (f ∷ facts) device ≡ registers_of facts device)
     → ((meter : List ℕ) (row : Installation) → IsLatest facts meter row → IsLatest (f ∷ facts) meter row)
@@ -125,7 +125,7 @@ comes stay hold move ranges (fact.Outcome e) facts old new lawful changes are =
 comes stay hold move ranges (fact.Reply r) facts old new lawful changes are =
     quiet (fact.Reply r) facts old new (λ device. refl) (λ device. refl) (λ meter row is. latest_stays stay (fact.Reply r) facts meter row refl refl is) changes are
 
--- After one more record, the point lists, registers, installations and polls in the cache agree
+-- After one more record, the point lists, registers, states of meters and polls in the cache agree
 -- with the records.
 pub all_comes : OtherMetersStay → HoldsChangeNothing → EntriesMoveOn → InstallationsAreInRange → (f : Fact) (facts : List Fact) (old mid new : Known) (polls : Polls)
     → AreLawful (f ∷ facts) → Changes f old mid → mid.polls ≡ old.polls → PollsChange f mid.polls polls

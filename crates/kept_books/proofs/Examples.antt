@@ -22,7 +22,7 @@ other_list : (kept : Known) (facts : List Fact) (device : List ℕ) (list later 
     → answer_to kept.lists device ≡ Some list → AreTrue kept facts → ⊥
 other_list kept facts device list later apart is there are = apart (some_one later list (sym is ∙ are.lists device list there))
 
--- If a later entry changed an installation, then a cache with the earlier state of the installation
+-- If a later entry changed the state of a meter, then a cache with the earlier state of the meter
 -- disagrees with the records.
 earlier : (kept : Known) (facts : List Fact) (meter : List ℕ) (row : Installation) → row ≢ installation_of facts row.opening
     → answer_to kept.standing meter ≡ Some row → AreTrue kept facts → ⊥

@@ -25,7 +25,8 @@ pub passed_on : {T : Type 0} (old new : Ledger) (kept : Known) (result : Result 
     → OnlyReads old new result → OnlyReads (keeping kept old) (keeping kept new) result
 passed_on old new kept result reads = asked old new kept kept result (λ facts holds clean are. are) reads
 
--- If a lookup satisfies its guarantees, then it also satisfies them with any other `Ok` result.
+-- If a lookup that returns `x` satisfies the guarantees, then it also satisfies them with another
+-- result `y`.
 pub answered_with : {T S : Type 0} (old new : Ledger) (x : T) (y : S) → OnlyReads old new (Ok x) → OnlyReads old new (Ok y)
 answered_with old new x y reads = record {
   goes = record { clean = reads.goes.clean; faults = reads.goes.faults; zone = reads.goes.zone };

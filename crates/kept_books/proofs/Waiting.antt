@@ -1,4 +1,4 @@
--- Lemmas that the cached pending polls agree with the records after one more record.
+-- Lemmas about the cached pending polls, which agree with the records after one more record.
 use Rattle.std.proofs.Common.{◌≡◌, ◌⊎◌, inl, inr, ℕ, ◌<◌, ◌≤◌, ◌==◌, true, false, List, [], ◌∷◌, length, is_some, Option, Some, None, refl, sym, ap, subst, ◌∙◌, Result, Ok, Err, OnOk, OnErr, arith}
 use Rattle.std.specs.BTreeMap.{BTreeMap, get, Updates, IsUnchanged, is_at}
 use Rattle.std.specs.Map.{lookup}
@@ -21,7 +21,7 @@ use Rattle.kept_books.specs.declared.polls.Polls.{Polls}
 use Rattle.kept_books.specs.Polls.{waiting_at, waits, PollsAreTrue, PollsChange}
 use Rattle.kept_books.proofs.Answering.{none_and_some, some_one}
 
--- In lawful records, polls are numbered consecutively from 1.
+-- If the rules accept the records, then their polls are numbered consecutively from 1.
 numbered : (facts : List Fact) → AreLawful facts → AreNumbered (polls_in facts)
 numbered [] h = tt
 numbered (fact.Device d ∷ facts) h = numbered facts h.1

@@ -12,8 +12,8 @@ use Rattle.kept_books.specs.declared.answers.Answers.{Answers}
 use Rattle.kept_books.specs.declared.known.Known.{Known}
 use Rattle.kept_books.specs.Answers.{answer_to, Forgets}
 
--- The effect of an entry on the cached installations. The installation of the entry's meter is
--- advanced by the entry or removed. All other installations are unchanged.
+-- The effect of an entry on the cached states of meters. The state of the entry's meter is advanced
+-- by the entry, or removed from the cache. All other states are unchanged.
 pub record EntryKeepsAnswers (booked : BookedEntry) (old new : Answers Installation) : Type 0 where
   pub own : (row : Installation) → answer_to new booked.meter ≡ Some row
       → (before : Installation) × (answer_to old booked.meter ≡ Some before)
@@ -30,11 +30,11 @@ SameLists old new = new.lists ≡ old.lists
 abbrev pub SameRegisters : (old new : Known) → Type 0
 SameRegisters old new = new.registers ≡ old.registers
 
--- True if the cached installations are unchanged.
+-- True if the cached states of meters are unchanged.
 abbrev pub SameStanding : (old new : Known) → Type 0
 SameStanding old new = new.standing ≡ old.standing
 
--- True if the cached point lists, accounting registers and installations are unchanged.
+-- True if the cached point lists, accounting registers and states of meters are unchanged.
 pub record StaysKept (old new : Known) : Type 0 where
   pub lists : SameLists old new
   pub registers : SameRegisters old new
@@ -43,8 +43,8 @@ pub record StaysKept (old new : Known) : Type 0 where
 -- The effect of a new record on the cache. A new point list removes the old point list of its
 -- device, and a new accounting register removes the register list of its device.
 --
--- An opening removes all installations from the cache, and a void removes the installation of its
--- meter. An entry advances the installation of its meter.
+-- An installation of a meter removes the states of all meters from the cache, and a void removes
+-- the state of its meter. An entry advances the state of its meter.
 abbrev pub Changes : Fact → (old new : Known) → Type 0
 Changes (fact.List put) old new =
     Forgets put.device old.lists new.lists × SameRegisters old new × SameStanding old new

@@ -1,4 +1,5 @@
--- The model of a store with a cache over another store. The other store is called the store below.
+-- The model of a store with a cache over another store, which is called the store below. A model is
+-- the abstract state that contracts refer to.
 use Rattle.std.specs.Prelude.{◌≡◌, ◌↔◌, List}
 use Rattle.office_events.specs.declared.facts.Fact.{Fact}
 use Rattle.office_books.specs.Ledgers.{Ledger}
@@ -6,8 +7,8 @@ use Rattle.kept_books.specs.declared.known.Known.{Known}
 use Rattle.kept_books.specs.declared.kept.CachedBooks.{CachedBooks}
 use Rattle.kept_books.specs.Known.{AreTrue}
 
--- The model of a store with a cache. It equals the model of the store below, and in addition the
--- cache agrees with the records while the store below is clean.
+-- The model of a store with a cache. It equals the model of the store below. In addition, the cache
+-- agrees with the records, unless the store below may have returned a wrong result (`is_clean`).
 abbrev pub keeping : Known → Ledger → Ledger
 keeping kept under = record {
   holds = λ facts. under.holds facts × (under.is_clean → AreTrue kept facts);

@@ -8,15 +8,15 @@ use Rattle.kept_books.specs.Answers.{EachIs}
 use Rattle.kept_books.specs.Polls.{PollsAreTrue}
 use Rattle.kept_books.specs.declared.known.Known.{Known}
 
--- True if `row` is the present state of this meter's installation, and the meter is the latest at
--- its accounting register.
+-- True if `row` is the present state of this meter, and the meter is the latest at its accounting
+-- register.
 pub record IsLatest (facts : List Fact) (meter : List ℕ) (row : Installation) : Type 0 where
   pub own : row.opening.meter ≡ meter
   pub there : installed_at facts row.opening.register ≡ Some row.opening
   pub stands : row ≡ installation_of facts row.opening
 
--- True if the cache agrees with these records. The cached point lists, accounting registers,
--- installations and polls equal those of the records.
+-- True if the cache agrees with these records. The cached point lists, accounting registers, states
+-- of meters and polls equal those of the records.
 pub record AreTrue (kept : Known) (facts : List Fact) : Type 0 where
   pub lists : EachIs (λ device list. list_of facts device ≡ Some list) kept.lists
   pub registers : EachIs (λ device v. v.items ≡ registers_of facts device) kept.registers

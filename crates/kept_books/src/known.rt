@@ -32,7 +32,7 @@ pub(crate) struct Known {
     lists: Answers<PlannedList>,
     /// The accounting registers of each device, by the device's name.
     registers: Answers<Vec<Register>>,
-    /// The latest installation at each accounting register, by the name of the installed meter.
+    /// The state of the latest meter at each accounting register, by the name of the meter.
     standing: Answers<Installation>,
     /// The name of the latest meter at each accounting register, by the register's name. The name
     /// may be outdated if a later meter was installed.
@@ -172,8 +172,8 @@ impl Known {
         }
     }
 
-    /// Returns the installation that was the latest at an accounting register when it was cached.
-    /// The caller must check that the installation is at this register.
+    /// Returns the cached state of the meter that was the latest at an accounting register when its
+    /// name was cached. The caller must check that the meter is at this register.
     fn standing_at(&self, register: &Name) -> Option<&Installation>
         ensures { (known : List Fact) → AreTrue self.now known
             → IfSome result (λ row. installation_at known row.now.opening.register ≡ Some row.now) }
@@ -184,7 +184,8 @@ impl Known {
         }
     }
 
-    /// Returns the latest installation at an accounting register, or `None` if it is not cached.
+    /// Returns the state of the latest meter at an accounting register, or `None` if the state is
+    /// not cached.
     pub(crate) fn installation(&self, register: &Name) -> Option<Installation>
         ensures found { (known : List Fact) → AreTrue self.now known
             → IfSome result (λ row. installation_at known register.now ≡ Some row) }
@@ -202,8 +203,8 @@ impl Known {
         }
     }
 
-    /// Caches the latest installation at an accounting register, unless no meter was installed
-    /// there or memory runs out.
+    /// Caches the state of the latest meter at an accounting register, unless no meter was
+    /// installed there or memory runs out.
     pub(crate) fn keep_installation(&mut self, register: &Name, found: &Option<Installation>)
         ensures { (known : List Fact) → found.now ≡ installation_at known register.now
             → AreTrue self.old known → AreTrue self.new known }
@@ -245,7 +246,7 @@ impl Known {
         self.polls.keep_started(found);
     }
 
-    /// Updates the cached point lists, registers and installations after one more record.
+    /// Updates the cached point lists, registers and states of meters after one more record.
     fn change(&mut self, fact: &Fact)
         ensures changes { Changes fact.now self.old self.new }
         ensures polls { self.new.polls ≡ self.old.polls }

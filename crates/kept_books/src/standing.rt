@@ -1,12 +1,12 @@
-//! Updates the cached installations when an entry is added.
+//! Updates the cached states of meters when an entry is added.
 ghost use Rattle.kept_books.specs.Changes.{EntryKeepsAnswers};
 
 use crate::answers::Answers;
 use office_books::moved;
 use office_events::{BookedEntry, Installation};
 
-/// Advances the cached installation of the entry's meter by the entry. Does nothing if the
-/// installation is not cached.
+/// Advances the cached state of the entry's meter by the entry. Does nothing if the state is not
+/// cached.
 pub(crate) fn advance_installation(rows: &mut Answers<Installation>, booked: &BookedEntry)
     ensures { EntryKeepsAnswers booked.now rows.old rows.new }
 {

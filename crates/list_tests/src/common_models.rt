@@ -53,7 +53,7 @@ const ABSENT: [Line; 3] = [
     },
 ];
 
-// Returns the image of a device whose last model is a model 1 of this length.
+// Returns the memory image of a device whose last model is a model 1 of this length.
 fn device(rt: &impl Abort, alloc: Global, lines: &[Line], length: u16) -> Image {
     let mut image = image_of(rt, alloc, lines);
     write_image(rt, &mut image, 3, &[length]);

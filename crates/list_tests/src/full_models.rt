@@ -1,4 +1,4 @@
-//! The image of a device with complete SunSpec models 1, 103 and 203.
+//! The memory image of a device with complete SunSpec models 1, 103 and 203.
 use crate::given::{Line, image_of};
 use std::alloc::Global;
 use std::process::Abort;
@@ -47,7 +47,7 @@ static LINES: [Line; 5] = [
     },
 ];
 
-/// Returns the image of a device with complete models 1, 103 and 203.
+/// Returns the memory image of a device with complete SunSpec models 1, 103 and 203.
 pub(crate) fn full_image(rt: &impl Abort, alloc: Global) -> Image {
     image_of(rt, alloc, &LINES)
 }

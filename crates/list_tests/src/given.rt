@@ -13,7 +13,7 @@ pub fn write_image(rt: &impl Abort, image: &mut Image, address: u16, words: &[u1
     image.put(address, words).ok().expect(rt, "not put");
 }
 
-/// The words of consecutive registers, from a first address.
+/// The 16-bit words of consecutive Modbus registers, from a first address.
 pub struct Line {
     pub address: u16,
     pub words: &'static [u16],

@@ -9,8 +9,8 @@ static WORDS: [(u16, Option<u16>); 4] = [
     (65535, Some(5)),
 ];
 
-// Words can be written at the last two addresses, and the last word can be replaced. Words past
-// address 65535 are refused and change nothing.
+// The last two registers of a memory image can be written, and the last one can be replaced. Words
+// past address 65535 are refused and change nothing.
 #[test]
 fn words_are_put_up_to_the_last_address(rt: HostRuntime) {
     let mut image = Image::new(rt.alloc());

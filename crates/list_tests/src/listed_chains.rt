@@ -7,7 +7,8 @@ use std::alloc::Global;
 use std::process::Abort;
 use sun_chain::Image;
 
-// The lines of an image, and the expected CSV text of the point list of its chain.
+// The lines of a device's memory image, and the expected CSV text of the point list of its SunSpec
+// chain.
 struct Listed {
     lines: &'static [Line],
     text: &'static str,
@@ -36,7 +37,7 @@ const INVERTER_AND_METER: [Line; 5] = [
     },
 ];
 
-// An image with an absent point, and with a point whose scale point was not read.
+// A memory image with an absent point, and with a point whose scale point was not read.
 const METER: [Line; 5] = [
     Line {
         address: 40000,
@@ -83,7 +84,7 @@ fn list_in(rt: &impl Abort, alloc: Global, image: &Image) -> PointList {
     from_chain(alloc, &chain).ok().expect(rt, "no list")
 }
 
-// Asserts the CSV text of the point list of an image's chain.
+// Asserts the CSV text of the point list of the SunSpec chain in a memory image.
 fn assert_listed(rt: &impl Abort, alloc: Global, image: &Image, text: &str) {
     let list = list_in(rt, alloc, image);
     assert_same(rt, written(rt, alloc, &list).as_slice(), text);
@@ -227,8 +228,8 @@ m3.TotVArh_SF,3,0,40226,sunssf,
 m3.Evt,3,0,40227,bitfield32,
 ";
 
-// Returns the image of `count` complete meter models. The words in `more`, if any, begin one more
-// model.
+// Returns the memory image of `count` complete meter models. The words in `more`, if any, begin one
+// more model.
 fn meters(rt: &impl Abort, alloc: Global, count: u16, more: &[u16]) -> Image {
     let mut image = Image::new(alloc);
     write_image(rt, &mut image, 0, &[0x5375, 0x6E53]);
@@ -292,7 +293,7 @@ fn chains_have_512_points_at_most(rt: HostRuntime) {
     }
 }
 
-// Returns the names of the first and the last point in the point list of an image's chain.
+// Returns the names of the first and the last point in the point list of a memory image.
 fn ends_of(rt: &impl Abort, alloc: Global, image: &Image) -> Vec<u8> {
     let list = list_in(rt, alloc, image);
     let mut names = Vec::new(alloc);

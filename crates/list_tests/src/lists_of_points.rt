@@ -8,8 +8,9 @@ use std::alloc::Global;
 use std::process::Abort;
 use sun_points::{PointType, Scale};
 
-// A point at address 0, whose type may or may not allow a scale, and the name of its scale point.
-// The sunssf point `s` is at `address`, and `is_list` is true if both points form a list.
+// A point at address 0 with the name of its scale point. Its type may or may not allow a scale. A
+// scale point `s` (type sunssf) is at `address`, and `is_list` is true if both points form a valid
+// list.
 struct Group {
     takes_scale: bool,
     scale: &'static str,
@@ -127,7 +128,7 @@ fn counters_end_at_the_last_register(rt: HostRuntime) {
     }
 }
 
-// Points with the same name are refused as a list, and are returned to the caller.
+// A list with two points of the same name is refused, and the points are returned to the caller.
 #[test]
 fn points_with_double_names_are_handed_back(rt: HostRuntime) {
     let list = PointList::new(counter(&rt, rt.alloc(), 65534));

@@ -34,7 +34,7 @@ fn full_bank(rt: &impl Abort, alloc: Global) -> Bank {
     bank
 }
 
-// Asserts that an image has exactly the words of the complete models.
+// Asserts that a memory image has exactly the words of the complete models.
 fn assert_full(rt: &impl Abort, alloc: Global, found: &Image) {
     let image = full_image(rt, alloc);
     for address in 39990..40240u16 {

@@ -1,5 +1,5 @@
--- The definitions evaluated for example frames, each limit, and the exchanges printed in the
--- standard.
+-- Checks the definitions by examples: example frames, each limit, and the requests and responses
+-- printed in the Modbus standard.
 use Rattle.std.proofs.Common.{◌≡◌, List, ℕ, [], ◌∷◌, ◌++◌, Option, Some, None, true, false, replicate, refl}
 use Rattle.mb_wire.specs.Frames.{frames, frames_in}
 use Rattle.mb_wire.specs.Coils.{bits_in, coils_in, packed_in}
@@ -48,7 +48,7 @@ a_write_is_kept : value_in (maps_after_all maps (own_frames all)).holdings 0 ≡
 unfolding maps frames frames_in
 a_write_is_kept = refl
 
--- ---- injected faults, for a write followed by a read
+-- ---- Injected faults: the bytes that a server sends when a client writes a register and reads it
 
 abbrev on_first : Trick → Course
 on_first trick = begun ((1, trick) ∷ [])
@@ -81,7 +81,8 @@ the_first_trick : sent_to (begun ((1, play.Unit) ∷ (1, play.Drop) ∷ [])) map
 unfolding maps answer_to_frame sent_next course_next trick_at frames frames_in
 the_first_trick = refl
 
--- The greatest transaction identifier and the greatest unit identifier wrap to 0.
+-- The fault `Id` changes the greatest transaction identifier to 0, and the fault `Unit` the
+-- greatest unit identifier.
 the_last_id : sent_to (on_first play.Id) maps (own_frames (255 ∷ 255 ∷ 0 ∷ 0 ∷ 0 ∷ 6 ∷ 1 ∷ 3 ∷ 0 ∷ 0 ∷ 0 ∷ 1 ∷ [])) ≡ 0 ∷ 0 ∷ 0 ∷ 0 ∷ 0 ∷ 5 ∷ 1 ∷ 3 ∷ 2 ∷ 0 ∷ 9 ∷ []
 unfolding maps answer_to_frame sent_next course_next trick_at frames frames_in
 the_last_id = refl
@@ -147,8 +148,8 @@ all_addresses = refl
 one_more_address : is_out_of_range (record { kind = Holding; start = 0; count = 65537 }) ≡ true
 one_more_address = refl
 
--- ---- the standard's exchanges (Modbus Application Protocol V1.1b3, section 6), with a device that
--- has the values they read
+-- ---- The examples in the Modbus standard (Modbus Application Protocol V1.1b3, section 6), with a
+-- device that has the values that these requests read
 
 abbrev sample : Maps
 sample = record {

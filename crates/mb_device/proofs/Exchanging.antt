@@ -1,4 +1,5 @@
--- Lemmas about consecutive exchanges of bytes.
+-- Lemmas about consecutive exchanges: the bytes that a device's server reads and writes on a
+-- connection.
 use Rattle.std.proofs.Common.{◌≡◌, ℕ, false, List, [], ◌∷◌, ◌++◌, Ok, refl, sym, ap, ◌∙◌, subst}
 use Rattle.mb_wire.specs.Frames.{IsOpen, rest}
 use Rattle.mb_device.specs.Exchanges.{Exchange, Exchanges, ExchangesOver, InOrder, in_all, joined}

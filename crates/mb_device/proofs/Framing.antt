@@ -16,8 +16,8 @@ use Rattle.mb_device.specs.Server.{buffered_frames, is_own, own_frames}
 abbrev concat : List (List ℕ) → List ℕ
 concat frames = flat_map (λ frame. frame) frames
 
--- The frames of two concatenated byte lists are those of the first, followed by those of its rest
--- with the second.
+-- The complete frames of the stream `a ++ b` are those of `a`, followed by those that the bytes
+-- left over from `a` form with `b`.
 pub frames-then : (a b : List ℕ) → (frames (a ++ b) ≡ frames a ++ frames (rest a ++ b)) × (rest (a ++ b) ≡ rest (rest a ++ b))
 frames-then a b =
     let first = Reads-is a in
@@ -39,7 +39,7 @@ frames-then a b =
 pub own_frames-then : (a b : List ℕ) → own_frames (a ++ b) ≡ own_frames a ++ own_frames (rest a ++ b)
 own_frames-then a b = ap (filter is_own) (frames-then a b).0 ∙ filter-append is_own (frames a) (frames (rest a ++ b))
 
--- An incomplete or invalid frame contains no complete frame, and is its own rest.
+-- An incomplete or invalid frame contains no complete frame: all of its bytes are left over.
 rest_alone : (b : List ℕ) → IsOpen b ⊎ IsBad b → (frames b ≡ []) × (rest b ≡ b)
 rest_alone b ends = Reads-only b [] b record { joined = refl; each = tt; ends = ends }
 
@@ -88,8 +88,8 @@ piece_frames what r piece taken buffered reports is =
       ap rest whole ∙ (frames-then b left).1 ∙ ap (λ y. rest (y ++ left)) stays,
     )
 
--- After a feed that consumes all of a chunk and ends no frame, the reader has buffered the stream's
--- rest.
+-- After a feed that consumes all of a chunk and ends no frame, the reader has buffered the bytes
+-- after the stream's last complete frame.
 pub need_piece : (what : Framing) (r piece : List ℕ) (taken : ℕ) (buffered : Buffered) → ReportsFraming what (r ++ take taken piece) → buffered ≡ buffered_after what (r ++ take taken piece) → what ≡ Need → taken ≡ length piece
     → (own_frames (r ++ piece) ≡ buffered_frames buffered.frame) × IsOpen (rest (r ++ piece)) × (buffered.rest ≡ rest (r ++ piece))
 need_piece what r piece taken buffered reports is need all =
@@ -105,7 +105,8 @@ need_piece what r piece taken buffered reports is need all =
       stays ∙ sym alone.1 ∙ ap rest whole,
     )
 
--- After a feed that ends at an invalid length field, the stream is garbled.
+-- After a feed that ends at an invalid length field, the stream has that invalid header after its
+-- last complete frame.
 pub garbled_piece : (what : Framing) (r piece : List ℕ) (taken : ℕ) (buffered : Buffered) → ReportsFraming what (r ++ take taken piece) → buffered ≡ buffered_after what (r ++ take taken piece) → what ≡ Garbled
     → (own_frames (r ++ piece) ≡ buffered_frames buffered.frame) × IsBad (rest (r ++ piece))
 garbled_piece what r piece taken buffered reports is garbled =
@@ -123,8 +124,8 @@ garbled_piece what r piece taken buffered reports is garbled =
 pub nothing_taken : (buffered : List ℕ) → IsOpen buffered → (own_frames (buffered ++ []) ≡ []) × (rest (buffered ++ []) ≡ buffered)
 nothing_taken buffered is_open = let alone = open_alone buffered is_open in (ap own_frames (append-nil buffered) ∙ alone.0, ap rest (append-nil buffered) ∙ alone.1)
 
--- The frames of more bytes are those of the bytes read until now, followed by those of their rest
--- with the new bytes.
+-- The frames of a longer stream are those of the bytes read until now, followed by those that the
+-- bytes left over form with the new bytes.
 pub taken_more : (buffered taken more : List ℕ) → (own_frames (buffered ++ (taken ++ more)) ≡ own_frames (buffered ++ taken) ++ own_frames (rest (buffered ++ taken) ++ more)) × (rest (buffered ++ (taken ++ more)) ≡ rest (rest (buffered ++ taken) ++ more))
 taken_more buffered taken more =
     let joined : buffered ++ (taken ++ more) ≡ (buffered ++ taken) ++ more = sym (append_assoc buffered taken more) in

@@ -22,7 +22,7 @@ goes_on course true tricks number later answer is going = let both : true ≡ fa
 goes_on course false tricks number later answer is going =
     ap (λ c. course_next c answer) is ∙ ap (following (trick_at tricks number) (spelled_by (trick_at tricks number) answer)) (sym is)
 
--- ---- consecutive responses
+-- ---- Consecutive responses: sending two lists of responses equals sending their concatenation
 
 pub sent-append : (course : Course) (xs ys : List Fields) → sent course (xs ++ ys) ≡ sent course xs ++ sent (course_after course xs) ys
 sent-append course [] ys = refl

@@ -1,4 +1,5 @@
--- Lemmas about consecutive turns of a server.
+-- Lemmas about consecutive turns of a server. A turn is one read, followed by the responses to the
+-- frames that the read completed.
 use Rattle.std.proofs.Common.{◌≡◌, ℕ, ◌+◌, Bool, true, false, not, List, [], ◌++◌, length, Option, Result, Ok, Err, refl, sym, ap, ◌∙◌, subst}
 use Rattle.std.specs.Prelude.{◌&&◌}
 use Rattle.std.proofs.KnownBytes.{Consumes-trans, Keeps-refl}
@@ -68,7 +69,8 @@ Served-more buffered course count turned a b c before after so_far serving turns
           (counts_then course left a.maps b.maps (own_frames bytes) (buffered ++ (so_far.taken ++ turn.taken)) (rest bytes ++ turn.taken) turned.answered dealt more.0 more.1 turn.reports.0);
     }
 
--- `serve` ends if a turn found the end of the input or an injected fault closed the connection.
+-- If a turn found the end of the input, or an injected fault closed the connection, `serve` returns
+-- with the effects that `Serves` defines.
 pub Serves-end : (buffered : List ℕ) (course : Course) (count : ℕ) (turned : Turned) (a b c : Around) (before after : Standing) → Served buffered course count a b before → is_serving before ≡ true
     → ((later : List ℕ) (mid : Course) → before ≡ Holds later mid → Turns later mid (Ok turned) b c after) → turned.ended ≡ true → Serves buffered course (Ok (count + turned.answered)) a c after
 unfolding Served-more
@@ -89,7 +91,8 @@ Serves-end buffered course count turned a b c before after so_far serving turns 
       reports = (all.counts, λ going. (turn.reports.1.end (ap is_cut (sym same) ∙ going) ended).1);
     }
 
--- If the allowed turns are used up, the result `TurnsUsed` has the effects that `Serves` defines.
+-- If all allowed turns were made and the input has not ended, the result `TurnsUsed` has the
+-- effects that `Serves` defines.
 pub Serves-used : (buffered : List ℕ) (course : Course) (count : ℕ) (a b : Around) (before : Standing) → Served buffered course count a b before → is_serving before ≡ true → Serves buffered course (Err fault.TurnsUsed) a b Faulted
 Serves-used buffered course count a b before so_far serving =
     let dealt = reached buffered course count a b before so_far serving in
@@ -160,18 +163,18 @@ turn_serves turned old new before after serving turns no_end =
 no_end : (result : Result Turned ServeFault) (turned : Turned) (after : Standing) → result ≡ Ok turned → turned.ended ≡ false → came_to_end result after ≡ false
 no_end result turned after is going = ap (λ r. came_to_end r after) is ∙ ap (λ b. b && not (is_over after)) going
 
--- The read of a turn that did not report the end found no end of the input.
+-- If a turn did not report the end of the input, its read neither failed nor found the end.
 pub goes_on : (result : Result Turned ServeFault) (turned : Turned) (after : Standing) (last : Option LastTake) → ReportsTake (came_to_end result after) (is_read_fault result) last → result ≡ Ok turned → turned.ended ≡ false → ReportsTake false false last
 goes_on result turned after last reports is going =
     let first = no_end result turned after is going in
     let second : is_read_fault result ≡ false = ap is_read_fault is in
     record { answer = reports.answer; taken = reports.taken; end = sym first ∙ reports.end; failure = sym second ∙ reports.failure }
 
--- A turn that did not report the end does not raise the count of ends.
+-- If a turn did not report the end of the input, the link's count of ends is unchanged.
 pub counts_no_end : (result : Result Turned ServeFault) (turned : Turned) (standing : Standing) (before after : ℕ) → after ≡ risen (came_to_end result standing) before → result ≡ Ok turned → turned.ended ≡ false → after ≡ before
 counts_no_end result turned standing before after counted is going = counted ∙ ap (λ (b : Bool). risen b before) (no_end result turned standing is going)
 
--- The end that a turn reports is the end that `serve` reports.
+-- If the last turn reported the end, `serve` found the end of the input exactly if that turn did.
 pub same_end : (result : Result Turned ServeFault) (turned : Turned) (count : ℕ) (after : Standing) → result ≡ Ok turned → turned.ended ≡ true → came_to_end result after ≡ served_to_end (Ok count) after
 same_end result turned count after is ended = ap (λ r. came_to_end r after) is ∙ ap (λ b. b && not (is_over after)) ended
 

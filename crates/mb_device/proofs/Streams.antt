@@ -161,7 +161,7 @@ Answered-then (Err fault.Write) course mid xs ys a b c first dealt next = all_th
 Answered-then (Err fault.Garbled) course mid xs ys a b c first dealt next = all_then_all course mid xs ys a b c first dealt next
 Answered-then (Err fault.TurnsUsed) course mid xs ys a b c first dealt next = all_then_all course mid xs ys a b c first dealt next
 
--- A response that was sent incompletely remains so if more frames follow.
+-- If the response to a frame was sent incompletely, that remains true if more frames follow.
 pub BrokenOff-before : (course : Course) (xs ys : List (List ℕ)) (a b : Around) → BrokenOff course xs a b → BrokenOff course (xs ++ ys) a b
 BrokenOff-before course xs ys a b h =
     record {
@@ -293,7 +293,7 @@ buffered_course course new shown buffered frame maps same is next =
     let lent = lent_frame shown buffered frame same is in
     next ∙ ap (course_next course) (answer_is maps frame lent.0 lent.2) ∙ ap (λ h. course_after_all course maps (buffered_frames h)) (sym lent.1)
 
--- A fault of the response to the frame in the reader leaves that response incomplete.
+-- If sending the response to the frame in the reader fails, that response is incomplete.
 pub buffered_fault : (e : ServeFault) (course : Course) (frame : Option (List ℕ)) (xs ys : List (List ℕ)) (a b : Around) → BufferedReports (Err e) frame → Answered {X = ℕ} (Err e) course xs a b → Answered {X = ℕ} (Err e) course (xs ++ ys) a b
 buffered_fault fault.Read course frame xs ys a b reports h = absurd reports
 buffered_fault fault.Write course frame xs ys a b reports h = BrokenOff-before course xs ys a b h
@@ -358,13 +358,15 @@ turn_failed buffered course old new is_open left given maps =
       reports = refl;
     }
 
--- Two equal states of a server have the same results.
+-- If only the link's input changed between the states `old` and `mid`, answering a list of frames
+-- has the same effects from both states.
 answered_from : {X : Type 0} (result : Result X ServeFault) (course : Course) (frames : List (List ℕ)) (old mid new : Around) → Keeps old.given mid.given → mid.maps ≡ old.maps → is_cut course ≡ false → Answered result course frames mid new → Answered result course frames old new
 answered_from result course frames old mid new given maps going answered =
     let none = AllAnswered-none course [] old mid refl given maps in
     Answered-then result course course [] frames old mid new none (dealt_with course course [] old mid none refl going) answered
 
--- A fault while a server answers the frames of a chunk is the fault that its turn returns.
+-- A fault while a server answers frames has the same effects, whatever type the successful result
+-- has. A turn can therefore return the fault of the functions that it calls.
 pub answered_fault : (X Y : Type 0) (e : ServeFault) (course : Course) (fs : List (List ℕ)) (a b : Around) → Answered {X = X} (Err e) course fs a b → Answered {X = Y} (Err e) course fs a b
 answered_fault X Y fault.Read course fs a b h = h
 answered_fault X Y fault.Write course fs a b h = h

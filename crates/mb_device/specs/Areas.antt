@@ -1,4 +1,5 @@
--- Defines the areas of a simulated device and its initial register map.
+-- Defines the areas of a simulated device, which are the ranges of addresses that it has, and its
+-- initial register map.
 use Rattle.std.specs.Prelude.{◌≡◌, ℕ, ◌+◌, ◌<◌, ◌==◌, ◌&&◌, ◌||◌, nat_le, nat_lt, min, max, Bool, true, false, if◌then◌else◌, List, [], ◌∷◌, ◌++◌, length, take, drop, replicate, is_some, Some, None, Ok, Err}
 use Rattle.std.specs.List.{list_any}
 use Rattle.std.specs.declared.option.Option.{Option}
@@ -11,7 +12,7 @@ use Rattle.mb_device.specs.declared.kinds.BankFault.TheVariants.{AreasOverlap, O
 use Rattle.mb_device.specs.declared.kinds.Kind.{Kind}
 use Rattle.mb_device.specs.declared.kinds.Kind.TheVariants.{Coil, Discrete, Holding, Input}
 
--- A number for each kind of values, by which kinds are compared.
+-- A number for each kind of values (coils, inputs, registers). Contracts compare kinds by number.
 abbrev pub kind_number : Kind → ℕ
 kind_number Coil = 1
 kind_number Discrete = 2
@@ -45,12 +46,14 @@ abbrev pub first_value : List Area → Kind → ℕ → Option ℕ
 first_value areas kind address =
     if list_any (λ area. contains kind address area) areas then Some 0 else None
 
--- True if the table of this kind has the initial value of these areas at each address.
+-- True if the table of this kind has its initial values: 0 at each address that an area contains,
+-- and `None` at every other address.
 abbrev pub BeginsAs : List Area → Kind → List (Option ℕ) → Type 0
 BeginsAs areas kind table =
     (address : ℕ) → address < ADDRESSES → value_in table address ≡ first_value areas kind address
 
--- True if each of the four tables has the initial values of these areas.
+-- True if each of the four tables has its initial values: 0 at each address that an area contains,
+-- and `None` at every other address.
 abbrev pub AllBeginAs : List Area → Maps → Type 0
 AllBeginAs areas maps =
     (kind : Kind) (address : ℕ) → address < ADDRESSES

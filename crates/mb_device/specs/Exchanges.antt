@@ -1,4 +1,5 @@
--- Defines exchanges: the bytes that a server reads and writes over several turns.
+-- Defines exchanges: the bytes that a device's server reads and writes on a connection over several
+-- turns. A turn is one read, followed by the responses to the frames that the read completed.
 use Rattle.std.specs.Prelude.{◌≡◌, ℕ, false, List, [], ◌∷◌, ◌++◌, Ok}
 use Rattle.std.specs.List.{flat_map}
 use Rattle.std.specs.Io.KnownBytes.{Appends, Consumes}
@@ -56,21 +57,23 @@ InOrder buffered course (first ∷ later) old new standing =
     × Exchanges buffered course first old mid (Holds left next)
     × InOrder left next later mid new standing
 
--- The statement that each turn that returns `Ok` is an exchange over the link.
+-- The statement that each successful turn of a server writes exactly the responses to the frames
+-- that it read. A turn reads from the link once.
 abbrev pub TurnExchanges : Type 0
 TurnExchanges =
     (buffered : List ℕ) (course : Course) (turned : Turned) (old new : Around)
     (standing : Standing) → Turns buffered course (Ok turned) old new standing →
     ExchangesOver buffered course old new standing
 
--- The statement that each `serve` that returns `Ok` is an exchange over the link.
+-- The statement that each successful call of `serve`, which repeats turns until the input ends,
+-- writes exactly the responses to the frames that it read.
 abbrev pub ServingExchanges : Type 0
 ServingExchanges =
     (buffered : List ℕ) (course : Course) (count : ℕ) (old new : Around)
     (standing : Standing) → Serves buffered course (Ok count) old new standing →
     ExchangesOver buffered course old new standing
 
--- The statement that two consecutive exchanges form one exchange.
+-- The statement that two consecutive exchanges of bytes on a connection form one exchange.
 abbrev pub TwoAreOne : Type 0
 TwoAreOne =
     (buffered left : List ℕ) (course mid_course : Course) (first next : Exchange)
@@ -79,7 +82,8 @@ TwoAreOne =
     Exchanges left mid_course next mid new standing →
     Exchanges buffered course (joined first next) old new standing
 
--- The statement that any number of consecutive exchanges form one exchange.
+-- The statement that any number of consecutive exchanges of bytes on a connection form one
+-- exchange.
 abbrev pub AllAreOne : Type 0
 AllAreOne =
     (buffered : List ℕ) (course : Course) (exchanges : List Exchange) (old new : Maps)

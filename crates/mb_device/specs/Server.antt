@@ -1,4 +1,5 @@
--- Defines which frames of a stream a server executes, what it sends, and its state afterwards.
+-- Defines the server of a simulated device: which frames of a stream it executes, which bytes it
+-- sends, and its state afterwards.
 use Rattle.std.specs.Prelude.{◌≡◌, ℕ, ◌==◌, ◌≤◌, ◌<◌, ◌&&◌, not, Bool, true, false, is_err, List, [], ◌∷◌, ◌++◌, length, Ok, Err, Some, None}
 use Rattle.std.specs.List.{filter}
 use Rattle.std.specs.Io.KnownBytes.{Appends, Consumes, IsAtEnd}
@@ -27,8 +28,8 @@ is_own frame = protocol_of frame == 0
 abbrev pub own_frames : List ℕ → List (List ℕ)
 own_frames bytes = filter is_own (frames bytes)
 
--- The true response to a frame: the frame's transaction and unit identifiers, and the device's
--- response to the PDU.
+-- The true response to a frame, before an injected fault changes it: the frame's transaction and
+-- unit identifiers, and the device's response to the PDU.
 unfoldable pub answer_to_frame : Maps → List ℕ → Fields
 answer_to_frame maps frame =
     answer_of (tid_of frame) (unit_of frame) (answer_to maps (pdu_of frame))
@@ -78,13 +79,13 @@ pub record Around : Type 0 where
 abbrev pub around : Option (List ℕ) → Option (List ℕ) → Maps → Around
 around remaining given maps = record { remaining = remaining; given = given; maps = maps }
 
--- True if the server executed all frames until the connection was closed, and sent everything due
--- for them.
+-- True if the server executed all frames until the connection was closed, and sent a complete
+-- response to each, as injected faults changed it.
 pub record AllAnswered (course : Course) (frames : List (List ℕ)) (old new : Around) : Type 0 where
   pub given : Appends old.given new.given (sent_to course old.maps frames)
   pub maps : new.maps ≡ maps_after_all old.maps (carried_out course frames)
 
--- True if the peer accepted only a part of the bytes due for one frame. The server executed that
+-- True if the client accepted only a part of the response to one frame. The server executed that
 -- frame and the earlier frames, and no later frame.
 pub record BrokenOff (course : Course) (frames : List (List ℕ)) (old new : Around) : Type 0 where
   pub earlier : List (List ℕ)
@@ -127,13 +128,14 @@ abbrev pub stretch : Course → Maps → List ℕ → Stretch
 stretch course maps bytes =
     record { bytes = bytes; before = course; left = course_after_all course maps (own_frames bytes) }
 
--- True if the server executed `count` frames of the part, and the part has no invalid length field,
--- unless an injected fault closed the connection.
+-- True if the server executed `count` frames of this part of a connection. The part has no invalid
+-- length field, unless an injected fault closed the connection.
 pub record Counts (count : ℕ) (stretch : Stretch) : Type 0 where
   pub counted : count ≡ length (carried_out stretch.before (own_frames stretch.bytes))
   pub is_open : is_cut stretch.left ≡ false → IsOpen (rest stretch.bytes)
 
--- True if the part has no invalid length field and no injected fault closed the connection.
+-- True if this part of a connection has no invalid length field, and no injected fault closed the
+-- connection.
 pub record IsGoing (stretch : Stretch) : Type 0 where
   pub going : is_cut stretch.left ≡ false
   pub is_open : IsOpen (rest stretch.bytes)
@@ -143,14 +145,16 @@ pub record IsGarbled (stretch : Stretch) : Type 0 where
   pub going : is_cut stretch.left ≡ false
   pub bad : IsBad (rest stretch.bytes)
 
--- Defines when a turn reports the end: always after an injected fault closed the connection.
--- Otherwise only if the turn read nothing and no input is left.
+-- Defines when a turn reports the end of the connection. If an injected fault closed the
+-- connection, the turn reports the end. Otherwise a turn reports the end only if it read nothing
+-- and no input is left.
 pub record EndReports (ended : Bool) (left : Course) (taken : List ℕ) (remaining : Option (List ℕ)) :
     Type 0 where
   pub cut : is_cut left ≡ true → ended ≡ true
   pub end : is_cut left ≡ false → ended ≡ true → (taken ≡ []) × IsAtEnd remaining
 
--- The facts about the bytes read that each result of a turn implies.
+-- States for each result of a turn how many frames the server executed, and whether the input ended
+-- or has an invalid length field.
 abbrev pub TurnReports : Result Turned ServeFault → Stretch → List ℕ → Option (List ℕ) → Type 0
 TurnReports (Ok turned) stretch taken remaining =
     Counts turned.answered stretch × EndReports turned.ended stretch.left taken remaining
@@ -159,7 +163,8 @@ TurnReports (Err Write) stretch taken remaining = Unit {0}
 TurnReports (Err Garbled) stretch taken remaining = IsGarbled stretch
 TurnReports (Err TurnsUsed) stretch taken remaining = ⊥
 
--- The facts about the bytes read that each result of `serve` implies.
+-- States for each result of `serve` how many frames the server executed, and whether the input
+-- ended or has an invalid length field.
 abbrev pub ServeReports : Result ℕ ServeFault → Stretch → Option (List ℕ) → Type 0
 ServeReports (Ok count) stretch remaining =
     Counts count stretch × (is_cut stretch.left ≡ false → IsAtEnd remaining)
@@ -202,7 +207,8 @@ pub record ReportsTake (ended failed : Bool) (last : Option LastTake) : Type 0 w
   pub end : ended ≡ is_end answer
   pub failure : failed ≡ is_err answer
 
--- The effects of one turn of a server with these buffered bytes on this connection.
+-- The effects of one turn, which is one read and the responses to the frames that it completed. The
+-- server has buffered the bytes `buffered` of an incomplete frame.
 pub record Turns (buffered : List ℕ) (course : Course) (result : Result Turned ServeFault)
     (old new : Around) (standing : Standing) : Type 0 where
   pub taken : List ℕ
@@ -214,8 +220,8 @@ pub record Turns (buffered : List ℕ) (course : Course) (result : Result Turned
       (course_after_all course old.maps (own_frames (buffered ++ taken)))
   pub reports : TurnReports result (stretch course old.maps (buffered ++ taken)) taken new.remaining
 
--- True if the server executed all frames read until now and sent everything due for them. `count`
--- is the number of these frames.
+-- True if the server executed all `count` frames read until now and sent the complete responses to
+-- them, as injected faults changed them.
 pub record Served (buffered : List ℕ) (course : Course) (count : ℕ) (old new : Around)
     (standing : Standing) : Type 0 where
   pub taken : List ℕ
@@ -226,7 +232,8 @@ pub record Served (buffered : List ℕ) (course : Course) (count : ℕ) (old new
       (course_after_all course old.maps (own_frames (buffered ++ taken)))
   pub counts : Counts count (stretch course old.maps (buffered ++ taken))
 
--- The effects of `serve` by a server with these buffered bytes on this connection.
+-- The effects of `serve`, which repeats turns until the input ends. The server has buffered the
+-- bytes `buffered` of an incomplete frame.
 pub record Serves (buffered : List ℕ) (course : Course) (result : Result ℕ ServeFault)
     (old new : Around) (standing : Standing) : Type 0 where
   pub taken : List ℕ
@@ -237,8 +244,8 @@ pub record Serves (buffered : List ℕ) (course : Course) (result : Result ℕ S
       (course_after_all course old.maps (own_frames (buffered ++ taken)))
   pub reports : ServeReports result (stretch course old.maps (buffered ++ taken)) new.remaining
 
--- The effects of `serve` by a server whose state before the call is `held`. They are those of
--- `Serves` if the server serves a connection.
+-- The effects of `serve` by a server whose state before the call is `held`: those of `Serves`, if
+-- the server is serving a connection.
 abbrev pub ServesFrom : (held : Standing) → Result ℕ ServeFault → (old new : Around)
     → (standing : Standing) → Type 0
 ServesFrom held result old new standing =
@@ -255,7 +262,8 @@ abbrev pub HoldsFrame : Option (List ℕ) → Type 0
 HoldsFrame None = Unit {0}
 HoldsFrame (Some frame) = IsFrame frame
 
--- The facts that each result implies after the server responded to the frame in the reader.
+-- States what each result implies when the server responds to the frame in its reader: success
+-- counts that frame, and only a write can fail.
 abbrev pub BufferedReports : Result ℕ ServeFault → Option (List ℕ) → Type 0
 BufferedReports (Ok count) frame = count ≡ length (buffered_frames frame)
 BufferedReports (Err Read) frame = ⊥
@@ -263,8 +271,8 @@ BufferedReports (Err Write) frame = Unit {0}
 BufferedReports (Err Garbled) frame = ⊥
 BufferedReports (Err TurnsUsed) frame = ⊥
 
--- The facts that each result implies after the server responded to the frames of a chunk: about all
--- bytes up to the end of the chunk, and about the bytes then buffered.
+-- States what each result implies when the server responds to the frames of a received chunk: how
+-- many frames it executed, which bytes stay buffered, and whether a length field is invalid.
 abbrev pub PieceReports : Result ℕ ServeFault → Stretch → List ℕ → Type 0
 PieceReports (Ok count) stretch buffered =
     Counts count stretch × (is_cut stretch.left ≡ false → buffered ≡ rest stretch.bytes)

@@ -1,4 +1,5 @@
--- Defines the bytes that a server sends in place of its true responses when faults are injected.
+-- Defines the bytes that a server sends instead of its true responses when faults are injected. A
+-- `Trick` is an injected fault.
 use Rattle.std.specs.Prelude.{ℕ, ◌+◌, ◌-◌, ◌^◌, ◌%◌, ◌==◌, nat_lt, Bool, true, false, if◌then◌else◌, List, [], ◌∷◌, ◌++◌, take, find, Some, None}
 use Rattle.std.specs.Option.{option_map}
 use Rattle.std.specs.declared.option.Option.{Option}
@@ -50,9 +51,9 @@ sent_of (Some play.Unit) frame later = frame ++ later
 sent_of (Some play.Garble) frame later = frame ++ later
 sent_of (Some (play.Cut count)) frame later = take count frame
 
--- The state of a connection. `Playing`: its injected faults, the number of its next frame, and the
--- delayed response or no bytes. The number 2^64 - 1 includes all later frames. `CutOff`: an
--- injected fault closed the connection.
+-- The state of a connection. `Playing`: the connection is open. The fields are its injected faults,
+-- the number of its next frame (saturating at 2^64 - 1), and the delayed response, if any.
+-- `CutOff`: an injected fault closed the connection.
 pub data Course : Type 0 where
   Playing : List (ℕ × Trick) → ℕ → List ℕ → Course
   CutOff : Course

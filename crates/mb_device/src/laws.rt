@@ -6,8 +6,9 @@ ghost use Rattle.mb_device.specs.Exchanges.{AllAreOne, ServingExchanges, TurnExc
 ghost use Rattle.mb_device.specs.Tricks.{Playing, carried_out, course_after, frame_of, is_cut, sent};
 ghost use Rattle.mb_device.specs.declared.trick.Trick.{Trick};
 
-/// Theorem: each turn or `serve` that returns `Ok` is an exchange of bytes. Consecutive exchanges
-/// form one exchange, even if the link gained or lost bytes between them.
+/// Theorem: each turn or `serve` that returns `Ok` writes exactly the responses to the frames that
+/// it read (an exchange). Consecutive exchanges form one exchange, even if the link gained or lost
+/// bytes between them.
 pub fn turns_compose()
     ensures turn { TurnExchanges }
     ensures serving { ServingExchanges }
@@ -16,7 +17,7 @@ pub fn turns_compose()
 {}
 
 /// Theorem: a server without injected faults executes every frame, sends the true responses in
-/// order, and keeps the connection. From frame 2^64 - 1 no fault is injected.
+/// order, and never closes the connection. From frame 2^64 - 1 no fault is injected.
 pub fn no_trick_is_true()
     ensures sent { (number : ℕ) (answers : List Fields) →
         sent (Playing [] number []) answers ≡ flat_map frame_of answers }

@@ -28,7 +28,7 @@ pub enum ServeFault {
     Write,
     /// The stream has an invalid length field, or an earlier call returned a fault.
     Garbled,
-    /// The input of the link did not end within the greatest number of turns.
+    /// The input of the link did not end within the allowed number of turns (reads).
     TurnsUsed,
 }
 

@@ -89,7 +89,7 @@ excepting query code =
       echo = and_left (not (is_exception query pdu) && not (brings_bytes (wanted_by query))) _ (and_left (not (is_exception query pdu)) _ (not_from_true _ exception));
     }
 
--- A response decodes from each PDU that encodes it.
+-- If a PDU encodes a response, decoding the PDU returns that response.
 pub spells_reads : (query : Query) (pdu : List ℕ) (answer : Answer) → SpellsReply query pdu answer → answer_in query pdu ≡ Ok answer
 spells_reads query pdu (Bits bits) h =
     let bytes = h.1.0 in
@@ -193,7 +193,8 @@ repeats query pdu bytes h plain none =
     ∙ ap (λ n. head_bytes (function_of query) n (number_at pdu 3)) (eqb-true _ _ both.0)
     ∙ ap (λ n. head_bytes (function_of query) (address_of query) n) (eqb-true _ _ both.1)
 
--- A PDU without a fault encodes the response that the decoder returns, for each kind of content.
+-- If a PDU has no fault, it encodes the response that the decoder returns: coils, registers or a
+-- repeated write.
 spelled_wanted : (query : Query) (pdu : List ℕ) (wanted : Wanted) → wanted_by query ≡ wanted → AreBytes pdu → Sound query pdu → is_exception query pdu ≡ false → SpellsReply query pdu (brought wanted pdu)
 spelled_wanted query pdu (Coils quantity) e bytes h plain =
     let b = brings query pdu h plain (ap brings_bytes e) in
@@ -234,7 +235,7 @@ reads_spells query pdu answer bytes e =
 pub faultless_spells : (query : Query) (pdu : List ℕ) → AreBytes pdu → reply_fault query pdu ≡ None → SpellsReply query pdu (answer_from query pdu)
 faultless_spells query pdu bytes e = sound_spells query pdu bytes (sound query pdu e)
 
--- A response that fits its request decodes from its own encoding.
+-- If a response answers a request, the PDU that `answer_bytes` builds encodes that response.
 pub spells_own : (query : Query) (answer : Answer) → AnswersQuery query answer → SpellsReply query (answer_bytes query answer) answer
 spells_own query (Bits bits) h =
     let count : length (packed bits) ≡ bytes_for (length bits) = length-packed_in (bytes_for (length bits)) bits in

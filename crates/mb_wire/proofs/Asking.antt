@@ -82,7 +82,7 @@ carrying function most address quantity bytes known carries other greatest withi
       coil = and_left (function == 5) _ other;
     }
 
--- A request decodes from each PDU that encodes it.
+-- If a PDU encodes a request, decoding the PDU returns that request.
 pub spells_reads : (pdu : List ℕ) (query : Query) → SpellsRequest pdu query → query_in pdu ≡ Ok query
 spells_reads pdu (ReadCoils address quantity) h =
     ap query_in h.2 ∙ reads _ _ (plain 1 address quantity refl refl (allowed 1 2000 quantity _ refl h.0 (whole quantity)) refl) (reads_pair ReadCoils address quantity)
@@ -133,7 +133,8 @@ head_first (f ∷ a ∷ b ∷ c ∷ d ∷ others) h e =
     ∙ ap (λ n. f ∷ a ∷ b ∷ n ∷ (256 * c + d) % 256 ∷ others) third
     ∙ ap (λ n. f ∷ a ∷ b ∷ c ∷ n ∷ others) fourth)
 
--- A property of each of the eight function codes is a property of every known function code.
+-- If a property is true for the function codes 1 to 6, 15 and 16, it is true for every function
+-- code that the decoder knows.
 by_function : (P : ℕ → Type 0) → P 1 → P 2 → P 3 → P 4 → P 5 → P 6 → P 15 → P 16 → (function : ℕ) → is_known function ≡ true → P function
 by_function P p1 p2 p3 p4 p5 p6 p15 p16 function h =
     elim (cases_eq function 1) [
@@ -180,7 +181,7 @@ by_function P p1 p2 p3 p4 p5 p6 p15 p16 function h =
           ]
     ]
 
--- The quantity of a PDU without a fault is within the limit of its function.
+-- If a request PDU has no wrong quantity, its quantity is within the limit of its function code.
 within : (function : ℕ) (pdu : List ℕ) (most : ℕ) → writes_one function ≡ false → most_of function ≡ most → (not (writes_one function) && (nat_lt (field_in pdu) 1 || nat_lt (most_of function) (field_in pdu))) ≡ false → IsWithin (field_in pdu) most
 within function pdu most many greatest h =
     elim (and_cases _ _ h) [
@@ -192,8 +193,8 @@ within function pdu most many greatest h =
           (low, omega arith)
     ]
 
--- The statement that a PDU with this function code encodes its decoded request, if its other checks
--- pass.
+-- The statement that a PDU with this function code encodes the request that the decoder returns, if
+-- the PDU passes all further checks.
 abbrev Spelled : (List ℕ → Query) → List ℕ → ℕ → Type 0
 Spelled read others function =
     AreBytes (function ∷ others)
@@ -296,7 +297,7 @@ reads_spells pdu query h e =
     let both = ok_unless (request_fault pdu) (query_from pdu) query e in
     subst (SpellsRequest pdu) both.1 (faultless_spells pdu h (faultless pdu both.0))
 
--- A valid request decodes from its own encoding.
+-- If a request is valid, the PDU that `query_bytes` builds encodes that request.
 pub spells_own : (query : Query) → IsLawfulQuery query → address_of query < 65536 → field_of query < 65536 → SpellsRequest (query_bytes query) query
 spells_own (ReadCoils address quantity) lawful small fits = (lawful, small, refl)
 spells_own (ReadDiscrete address quantity) lawful small fits = (lawful, small, refl)

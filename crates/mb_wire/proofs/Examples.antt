@@ -1,5 +1,5 @@
--- The exchanges printed in the standard, and each limit with its first invalid value. The
--- definitions use the program's constants, so a wrong constant fails an example.
+-- Checks the definitions by examples: the requests and responses printed in the Modbus standard,
+-- and each limit with its first invalid value. A wrong constant in the program fails an example.
 use Rattle.std.proofs.Common.{◌≡◌, true, false, List, ℕ, [], ◌∷◌, length, replicate, Ok, Err, Some, None, refl, arith}
 use Rattle.mb_wire.specs.Coils.{bits_in, coils_in, packed_in}
 use Rattle.mb_wire.specs.Frames.{frames, frames_in, is_bad, is_garbled, rest, rest_in}
@@ -10,7 +10,8 @@ use Rattle.mb_wire.specs.Spans.{IsSpan}
 use Rattle.mb_wire.specs.declared.limits.TheConstants.{ADDRESSES, MAX_ADU, MAX_PDU, MBAP_HEADER}
 use Rattle.mb_wire.specs.declared.requests.RequestFault.TheVariants.{WrongQuantity}
 
--- ---- quantities: function code, address 0, quantity, and data
+-- ---- Quantities: the least and the greatest quantity of each function, and the first invalid
+-- ones. Each request consists of the function code, address 0, the quantity, and data for a write.
 
 reads_0_coils : request_fault (1 ∷ 0 ∷ 0 ∷ 0 ∷ 0 ∷ []) ≡ Some WrongQuantity
 reads_0_coils = refl
@@ -137,7 +138,7 @@ too_long_is_garbled : is_garbled too_long ≡ true
 unfolding is_garbled rest rest_in
 too_long_is_garbled = refl
 
--- ---- spans: 1 to 125 registers within 65536 addresses
+-- ---- Ranges that one request can read: 1 to 125 registers within the 65536 addresses
 
 span_of_125 : IsSpan 3 65411 125
 span_of_125 = record { low = omega arith; high = omega arith; some = omega arith; few = omega arith; inside = omega arith }
@@ -148,7 +149,8 @@ span_of_126 span = omega (arith, span.few)
 span_past_the_last : IsSpan 4 65412 125 → ⊥
 span_past_the_last span = omega (arith, span.inside)
 
--- ---- the standard's exchanges (MAP, section 6): each request and response, decoded and encoded
+-- ---- The examples in the Modbus standard (Modbus Application Protocol V1.1b3, section 6): each
+-- request and response, decoded and encoded
 
 read_coils_is_read : query_in (1 ∷ 0 ∷ 19 ∷ 0 ∷ 19 ∷ []) ≡ Ok (ReadCoils 19 19)
 unfolding coils_in bits_in packed_in

@@ -12,7 +12,8 @@ from n bytes = take (length bytes - n) (drop n bytes)
 pub whole_again : (n : ℕ) (bytes : List ℕ) → take n bytes ++ from n bytes ≡ bytes
 whole_again n bytes = ap (λ t. take n bytes ++ t) (take_rest bytes n) ∙ take-append-drop n bytes
 
--- Writing `first` completely and then `next` has the result of writing their concatenation.
+-- If a link accepted all of `first` and then `next` was written, the result and the link's output
+-- are those of one write of their concatenation.
 pub Gives-both : {X E : Type 0} (result : Result X E) (a b c : Option (List ℕ)) (first next : List ℕ) → Appends a b first → Gives result b c next → Gives result a c (first ++ next)
 Gives-both (Ok x) a b c first next given gives = Appends-trans a b c _ _ given gives
 Gives-both (Err e) a b c first next given gives =
@@ -24,7 +25,8 @@ Gives-both (Err e) a b c first next given gives =
       given = Appends-trans a b c _ _ given gives.given;
     }
 
--- Writing the first `n` bytes and then the remaining bytes has the result of writing all bytes.
+-- If a link accepted the first `n` bytes and then the other bytes were written, the result and the
+-- link's output are those of one write of all bytes.
 pub Gives-then : {X E : Type 0} (result : Result X E) (a b c : Option (List ℕ)) (bytes : List ℕ) (n : ℕ) → Appends a b (take n bytes) → Gives result b c (from n bytes) → Gives result a c bytes
 Gives-then result a b c bytes n first next =
     subst (Gives result a c) (whole_again n bytes) (Gives-both result a b c (take n bytes) (from n bytes) first next)

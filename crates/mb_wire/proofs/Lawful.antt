@@ -1,4 +1,5 @@
--- Relates the validity of borrowed requests and responses to the validity of their values.
+-- Proves that a valid `Request` has a valid value (its `Query`), and that the value of a `Reply`
+-- (its `Answer`) answers each request that the `Reply` answers.
 use Rattle.std.proofs.Common.{ℕ, sym, ap, ◌∙◌, subst}
 use Rattle.mb_wire.specs.Requests.{IsLawful, IsLawfulQuery, IsWithin, query_of}
 use Rattle.mb_wire.specs.Replies.{AnswersQuery, AnswersRequest, FitsRequest, answer_of}
@@ -27,7 +28,7 @@ answers_query request (Words bytes) h = h.0
 answers_query request Echo h = h
 answers_query request (Exception code) h = h
 
--- A borrowed response that fits a request answers that request.
+-- If a borrowed response is valid for a request (`FitsRequest`), it answers that request.
 pub fitting_answers : (request : Request) (reply : Reply) → FitsRequest request reply → AnswersRequest request reply
 fitting_answers request (Bits quantity bytes) h = h.1
 fitting_answers request (Words bytes) h = h.1

@@ -67,7 +67,7 @@ length-coils_in (byte ∷ bytes) =
 pub length-coils_of : (quantity : ℕ) (bytes : List ℕ) → length (coils_of quantity bytes) ≡ min quantity (8 * length bytes)
 length-coils_of quantity bytes = length-take quantity (coils_in bytes) ∙ ap (min quantity) (length-coils_in bytes)
 
--- The number of bytes that `quantity` coils need has at least `quantity` coils.
+-- If a byte list has as many bytes as `quantity` coils need, it encodes all `quantity` coils.
 pub length-coils_of-whole : (quantity : ℕ) (bytes : List ℕ) → length bytes ≡ bytes_for quantity → length (coils_of quantity bytes) ≡ quantity
 length-coils_of-whole quantity bytes h =
     let few : quantity ≤ 8 * length bytes = omega arith in
@@ -151,7 +151,7 @@ cleared_after-whole (byte ∷ bytes) h =
     ∙ ap (λ n. n ∷ cleared_after (8 * length bytes) bytes) keep
     ∙ ap (λ xs. byte ∷ xs) (cleared_after-whole bytes (λ place. h (suc place)))
 
--- Clearing spare bits changes only the last byte.
+-- If spare bits are cleared in a list whose last byte has them, only that last byte changes.
 pub cleared_after-part : (whole : ℕ) (part : ℕ) (bytes : List ℕ) → AreBytes bytes → part < 8 → length bytes ≡ whole + 1 → cleared_after (8 * whole + part) bytes ≡ take whole bytes ++ (slice_index bytes whole % 2 ^ part) ∷ []
 unfolding cleared_after
 cleared_after-part whole part [] h small e = absurd (omega arith)

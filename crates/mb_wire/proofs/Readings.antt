@@ -1,5 +1,5 @@
--- Proves that each byte list splits into frames and a rest in exactly one way, and how `feed`
--- extends the split.
+-- Proves that each byte list splits in exactly one way into complete frames and the bytes after
+-- them, and how a call of `feed` extends this split.
 use Rattle.std.proofs.Common.{◌≡◌, ℕ, zero, suc, ◌+◌, ◌-◌, ◌<◌, ◌≤◌, ◌⊎◌, inl, inr, true, false, List, [], ◌∷◌, ◌++◌, length, take, drop, refl, sym, ap, ◌∙◌, subst, arith, append_assoc, length-append, length-drop, length-take-le, lit<}
 use Rattle.std.specs.List.{flat_map, AllByRecursion}
 use Rattle.std.proofs.lemmas.List.{get_or_append_left, take_at, drop_at, take-append-drop, append-nil}
@@ -76,7 +76,8 @@ only_in (suc k) (f ∷ fs) r each ends h =
       cond-true _ _ _ whole_front ∙ ap (λ y. rest_in k y) back ∙ ih.1,
     )
 
--- The functions `frames` and `rest` compute the only split of a byte list into frames and a rest.
+-- The only split of a byte list into complete frames and the bytes after them is the split that the
+-- functions `frames` and `rest` compute.
 pub Reads-only : (bytes : List ℕ) (fs : List (List ℕ)) (r : List ℕ) → Reads bytes fs r → (frames bytes ≡ fs) × (rest bytes ≡ r)
 unfolding frames rest
 Reads-only bytes fs r h =
@@ -146,7 +147,8 @@ pub AllByRecursion-append : {X : Type 0} (P : X → Type 0) (xs ys : List X) →
 AllByRecursion-append P [] ys h g = g
 AllByRecursion-append P (x ∷ xs) ys h g = (h.0, AllByRecursion-append P xs ys h.1 g)
 
--- If the rest of a stream and its new bytes form one frame, that frame follows the earlier frames.
+-- If the bytes after a stream's complete frames and the new bytes `p` form one frame, the stream
+-- then has that frame after its earlier frames, and no further bytes.
 more_frame : (bytes r p : List ℕ) (fs : List (List ℕ)) → Reads bytes fs r → IsFrame (r ++ p) → Reads (bytes ++ p) (fs ++ (r ++ p) ∷ []) []
 more_frame bytes r p fs h f =
     record {
@@ -160,15 +162,16 @@ more_frame bytes r p fs h f =
       ends = inl (inl (lit< tt));
     }
 
--- If the rest of a stream and its new bytes form no frame, the frames are unchanged and the rest
--- grows.
+-- If the bytes after a stream's complete frames and the new bytes `p` form no complete frame, the
+-- stream has the same complete frames as before.
 more_rest : (bytes r p : List ℕ) (fs : List (List ℕ)) → Reads bytes fs r → IsOpen (r ++ p) ⊎ IsBad (r ++ p) → Reads (bytes ++ p) (fs ++ []) (r ++ p)
 more_rest bytes r p fs h ends =
     let P : List (List ℕ) → Type 0 = λ y. Reads (bytes ++ p) y (r ++ p) in
     subst P (sym (append-nil fs))
     record { joined = ap (λ y. y ++ p) h.joined ∙ append_assoc (concat fs) r p; each = h.each; ends = ends }
 
--- A feed extends the split of all earlier bytes by the frame that it ends, or by a longer rest.
+-- After a call of `feed`, the stream has all earlier frames and the frame that the call ended. If
+-- the call ended none, its bytes follow the last complete frame.
 pub Reads-fed : (what : Framing) (bytes r p : List ℕ) (fs : List (List ℕ)) → Reads bytes fs r → ReportsFraming what (r ++ p) → Reads (bytes ++ p) (fs ++ ended what (r ++ p)) ((buffered_after what (r ++ p)).rest)
 Reads-fed Need bytes r p fs h t = more_rest bytes r p fs h (inl t)
 Reads-fed Whole bytes r p fs h t = more_frame bytes r p fs h t.0

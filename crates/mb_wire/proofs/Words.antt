@@ -26,7 +26,8 @@ pub length-word_bytes : (numbers : List ℕ) → length (word_bytes numbers) ≡
 length-word_bytes [] = refl
 length-word_bytes (n ∷ numbers) = let more = length-word_bytes numbers in omega arith
 
--- Encoding the registers of an even number of bytes gives the same bytes.
+-- If an even number of bytes is decoded into registers, encoding these registers gives the same
+-- bytes.
 pub word_bytes-words_of : (count : ℕ) (bytes : List ℕ) → AreBytes bytes → length bytes ≡ 2 * count → word_bytes (words_of bytes) ≡ bytes
 word_bytes-words_of zero [] h e = refl
 word_bytes-words_of (suc count) [] h e = refl

@@ -1,5 +1,5 @@
--- The format of Modbus TCP frames (Modbus Messaging on TCP/IP V1.0b, section 3.1.3), and how a byte
--- list splits into frames and a rest.
+-- The format of Modbus TCP frames (Modbus Messaging on TCP/IP V1.0b, section 3.1.3). Also defines
+-- how a byte stream splits into complete frames and the bytes after them.
 use Rattle.std.specs.Prelude.{◌≡◌, ℕ, zero, suc, ◌+◌, ◌*◌, ◌<◌, ◌≤◌, ◌⊎◌, Bool, ◌&&◌, ◌||◌, nat_le, nat_lt, if◌then◌else◌, List, [], ◌∷◌, ◌++◌, length, take, drop, slice_index}
 use Rattle.mb_wire.specs.declared.limits.TheConstants.{MAX_LENGTH, MIN_LENGTH}
 use Rattle.std.specs.List.{flat_map, AllByRecursion}
@@ -49,8 +49,8 @@ IsOpen bytes =
 abbrev pub IsBad : List ℕ → Type 0
 IsBad bytes = (6 ≤ length bytes) × ((span_of bytes < MIN_LENGTH) ⊎ (MAX_LENGTH < span_of bytes))
 
--- True if the byte list is the concatenation of these complete frames and this rest, which begins
--- with no complete frame.
+-- True if the byte list is the concatenation of the complete frames `frames` and the bytes `rest`
+-- after them, and `rest` begins with no complete frame.
 pub record Reads (bytes : List ℕ) (frames : List (List ℕ)) (rest : List ℕ) : Type 0 where
   pub joined : bytes ≡ flat_map (λ frame. frame) frames ++ rest
   pub each : AllByRecursion IsFrame frames
@@ -62,7 +62,7 @@ begins_with_frame bytes =
     nat_le MIN_LENGTH (span_of bytes) && nat_le (span_of bytes) MAX_LENGTH
     && nat_le (6 + span_of bytes) (length bytes)
 
--- The complete frames at the front of the byte list, at most `k` frames.
+-- The first `k` complete frames at the front of the byte list, or all of them if there are fewer.
 unfoldable pub frames_in : ℕ → List ℕ → List (List ℕ)
 frames_in zero bytes = []
 frames_in (suc k) bytes =
@@ -70,7 +70,8 @@ frames_in (suc k) bytes =
     then take (6 + span_of bytes) bytes ∷ frames_in k (drop (6 + span_of bytes) bytes)
     else []
 
--- The bytes after the complete frames at the front of the byte list, at most `k` frames.
+-- The bytes that remain after at most `k` complete frames are removed from the front of the byte
+-- list.
 unfoldable pub rest_in : ℕ → List ℕ → List ℕ
 rest_in zero bytes = bytes
 rest_in (suc k) bytes =

@@ -1,5 +1,5 @@
--- The effects of a link's calls on its input and output bytes, if the link knows them, and on its
--- counts.
+-- The contracts of reads and writes on a link, which is a byte stream such as a TCP connection:
+-- their effects on the link's input bytes, output bytes and counts of calls.
 use Rattle.std.specs.Prelude.{◌≡◌, ℕ, ◌+◌, ◌-◌, ◌^◌, ◌<◌, ◌≤◌, ◌==◌, ◌&&◌, nat_lt, min, Bool, true, false, if◌then◌else◌, List, ◌++◌, length, take, Ok, Err, Some, None}
 use Rattle.std.specs.Io.KnownBytes.{Appends, Consumes, IsAtEnd, Keeps}
 use Rattle.std.specs.declared.result.Result.{Result}
@@ -24,7 +24,8 @@ TakeConsumes old new (Ok End) piece = Keeps old new × IsAtEnd new
 TakeConsumes old new (Ok Idle) piece = Keeps old new
 TakeConsumes old new (Err failed) piece = Keeps old new
 
--- A count after an event that raises it by one if `rises` is true. The count saturates at 2^64 - 1.
+-- The value of a counter after a call: one more if `rises` is true, otherwise unchanged. Counters
+-- saturate at 2^64 - 1.
 abbrev pub risen : Bool → ℕ → ℕ
 risen rises count = if rises then min (count + 1) (2 ^ 64 - 1) else count
 
@@ -33,7 +34,8 @@ abbrev pub is_failed_give : Result ℕ LinkFailed → List ℕ → Bool
 is_failed_give (Ok n) bytes = n == 0 && nat_lt 0 (length bytes)
 is_failed_give (Err failed) bytes = true
 
--- True if call number `call` is set to fail.
+-- True if a test has set the link to fail at call number `call`. The first argument is the number
+-- of the failing call, or `None` if no call fails.
 abbrev pub is_call : Option ℕ → ℕ → Bool
 is_call None call = false
 is_call (Some fails) call = fails == call

@@ -1,4 +1,5 @@
--- The model of a `MemoryLink`, and the results and effects of its reads and writes.
+-- The model of a `MemoryLink`, a connection in memory for tests, and the effects of its reads and
+-- writes.
 use Rattle.std.specs.Prelude.{ℕ, ◌-◌, ◌≡◌, ◌==◌, ◌||◌, min, Bool, true, is_err, if◌then◌else◌, List, [], ◌++◌, length, take, drop, Ok, Err, Some, None}
 use Rattle.std.specs.declared.result.Result.{Result}
 use Rattle.std.specs.declared.option.Option.{Option}
@@ -9,7 +10,7 @@ use Rattle.mb_wire.specs.declared.link.Took.{Took}
 use Rattle.mb_wire.specs.declared.link.Took.TheVariants.{Bytes, End, Idle}
 
 -- The state of a `MemoryLink`. `input` is the unread input and `room` the size of the output
--- buffer. `piece` is the most bytes of a call, and `fails` the number of the failing call.
+-- buffer. One call moves at most `piece` bytes, and the call with number `fails` fails.
 pub record Memory : Type 0 where
   pub input : List ℕ
   pub output : List ℕ

@@ -27,14 +27,15 @@ FitsState Reading bytes = IsOpen bytes
 FitsState Ended bytes = IsFrame bytes × IsOwn bytes
 FitsState Stuck bytes = IsBad bytes × (length bytes ≡ 6)
 
--- The form of the bytes since the last frame ended, by the result of a feed.
+-- States for each result of `feed` what the bytes since the last frame are: an incomplete frame, a
+-- Modbus frame, a frame of another protocol, or a header with an invalid length field.
 abbrev pub ReportsFraming : Framing → List ℕ → Type 0
 ReportsFraming Need bytes = IsOpen bytes
 ReportsFraming Whole bytes = IsFrame bytes × IsOwn bytes
 ReportsFraming Foreign bytes = IsFrame bytes × (IsOwn bytes → ⊥)
 ReportsFraming Garbled bytes = IsBad bytes × (length bytes ≡ 6)
 
--- True if the feed ended a frame, of Modbus or of another protocol.
+-- True if the call of `feed` with this result ended a frame, of Modbus or of another protocol.
 abbrev pub IsEnd : Framing → Type 0
 IsEnd Need = ⊥
 IsEnd Whole = Unit {0}
@@ -49,15 +50,16 @@ buffered_after Whole bytes = record { rest = []; frame = Some bytes }
 buffered_after Foreign bytes = record { rest = []; frame = None }
 buffered_after Garbled bytes = record { rest = bytes; frame = None }
 
--- The frame that the feed ended, as a list of one frame, or the empty list.
+-- The frame that a call of `feed` ended, as a list of one frame, or the empty list if it ended
+-- none.
 abbrev pub ended : Framing → List ℕ → List (List ℕ)
 ended Need bytes = []
 ended Whole bytes = bytes ∷ []
 ended Foreign bytes = bytes ∷ []
 ended Garbled bytes = []
 
--- True if a feed continues the reading of any earlier bytes: a frame that ended follows the earlier
--- frames, and the new rest is buffered.
+-- True if a call of `feed` splits the stream correctly, whatever bytes came before the call. A
+-- frame that the call ends is appended to the earlier frames, and the bytes after it are buffered.
 abbrev pub ReadsOn : (old new : Buffered) → (taken : List ℕ) → Framing → Type 0
 ReadsOn old new taken what =
     (bytes : List ℕ) (before : List (List ℕ)) → Reads bytes before old.rest →

@@ -125,13 +125,15 @@ word_at (Words words) i = slice_get words i
 word_at Echo i = None
 word_at (Exception code) i = None
 
--- True if a successful response has a byte count and data bytes, by the kind of its content.
+-- True if a successful response has a byte count and data bytes. Only the response to a write has
+-- none.
 abbrev pub brings_bytes : Wanted → Bool
 brings_bytes (Coils quantity) = true
 brings_bytes (Registers quantity) = true
 brings_bytes Head = false
 
--- The number of data bytes in a successful response, by the kind of its content.
+-- The number of data bytes in a successful response: those of its coils or registers, or 0 for a
+-- write.
 abbrev pub byte_count : Wanted → ℕ
 byte_count (Coils quantity) = bytes_for quantity
 byte_count (Registers quantity) = 2 * quantity
@@ -177,7 +179,7 @@ reply_fault query pdu =
     else if is_wrong_echo query pdu then Some WrongEcho
     else None
 
--- The successful response in a PDU that has no fault, by the kind of its content.
+-- The successful response in a PDU that has no fault: coils, registers, or a repeated write.
 abbrev pub brought : Wanted → List ℕ → Answer
 brought (Coils quantity) pdu = Bits (coils_of quantity (drop 2 pdu))
 brought (Registers quantity) pdu = Words (words_of (drop 2 pdu))
@@ -196,12 +198,14 @@ answer_in query pdu = value_unless (reply_fault query pdu) (answer_from query pd
 abbrev pub reply_of : Request → List ℕ → Result Answer ReplyFault
 reply_of request pdu = answer_in (query_of request) pdu
 
--- The result of the response decoder, with a value in the position of the borrowed `Reply`.
+-- The result of the response decoder, with the borrowed `Reply` converted to an `Answer`. Contracts
+-- compare results in this form.
 abbrev pub read_as : Result Reply ReplyFault → Result Answer ReplyFault
 read_as (Ok reply) = Ok (answer_of reply)
 read_as (Err fault) = Err fault
 
--- The PDU of a successful response with its spare bits set to 0, by the kind of its content.
+-- The PDU of a successful response with its spare bits set to 0. Only responses with coils have
+-- spare bits.
 abbrev pub cleared_reply : Wanted → List ℕ → List ℕ
 cleared_reply (Coils quantity) pdu = take 2 pdu ++ cleared_after quantity (drop 2 pdu)
 cleared_reply (Registers quantity) pdu = pdu

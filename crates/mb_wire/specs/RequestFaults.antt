@@ -110,7 +110,8 @@ value_unless (Some fault) value = Err fault
 abbrev pub query_in : List ℕ → Result Query RequestFault
 query_in pdu = value_unless (request_fault pdu) (query_from pdu)
 
--- The result of the request decoder, with a value in the position of the borrowed `Request`.
+-- The result of the request decoder, with the borrowed `Request` converted to a `Query`. Contracts
+-- compare results in this form.
 abbrev pub asked_as : Result Request RequestFault → Result Query RequestFault
 asked_as (Ok request) = Ok (query_of request)
 asked_as (Err fault) = Err fault

@@ -292,7 +292,8 @@ fn header(tid: u16, unit: u8, span: u16) -> [u8; MBAP_HEADER]
     [tid_high, tid_low, 0, 0, span_high, span_low, unit]
 }
 
-/// Theorem: each byte list splits into complete frames and an incomplete rest in exactly one way.
+/// Theorem: each byte list splits in exactly one way into complete frames and remaining bytes that
+/// do not begin with a complete frame.
 pub fn one_reading()
     ensures exists { (bytes : List ℕ) → Reads bytes (frames bytes) (rest bytes) }
     ensures only { (bytes : List ℕ) (others : List (List ℕ)) (left : List ℕ) →

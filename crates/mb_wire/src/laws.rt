@@ -6,8 +6,8 @@ ghost use Rattle.mb_wire.specs.RequestFaults.{query_in, request_cleared};
 ghost use Rattle.mb_wire.specs.Replies.{Answer, AnswersQuery, SpellsReply, answer_bytes, answer_in};
 ghost use Rattle.mb_wire.specs.Replies.{reply_cleared};
 
-/// Theorem: decoding and encoding requests are inverse. A valid request decodes from its own
-/// encoding. A decoded request encodes to its PDU with the spare bits set to 0.
+/// Theorem: decoding and encoding requests are inverse. Decoding an encoded valid request returns
+/// the request. Encoding a decoded request gives its PDU with the spare bits set to 0.
 pub fn one_request()
     ensures both { (pdu : List ℕ) (query : Query) → AreBytes pdu →
         SpellsRequest pdu query ↔ (query_in pdu ≡ Ok query) }
@@ -17,8 +17,8 @@ pub fn one_request()
         query_bytes query ≡ request_cleared pdu }
 {}
 
-/// Theorem: decoding and encoding responses are inverse. A response that fits its request decodes
-/// from its own encoding. A decoded response encodes to its PDU with the spare bits set to 0.
+/// Theorem: decoding and encoding responses are inverse. Decoding an encoded response to a request
+/// returns the response. Encoding a decoded response gives its PDU with the spare bits set to 0.
 pub fn one_reply()
     ensures both { (query : Query) (pdu : List ℕ) (answer : Answer) → AreBytes pdu →
         SpellsReply query pdu answer ↔ (answer_in query pdu ≡ Ok answer) }

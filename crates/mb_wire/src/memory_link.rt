@@ -84,7 +84,7 @@ impl<'a> MemoryLink<'a> {
     }
 }
 
-// Returns whether call number `call` is set to fail.
+// Returns whether a test has set the link to fail at call number `call`.
 fn fails_at(fails: Option<u64>, call: u64) -> bool
     ensures { result ≡ is_call fails call }
 {

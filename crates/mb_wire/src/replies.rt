@@ -59,8 +59,8 @@ impl ReplyFault {
 }
 
 impl Wanted {
-    // Returns whether a successful response has a byte count and data bytes, by the kind of its
-    // content.
+    // Returns whether a successful response has a byte count and data bytes. Only the response to a
+    // write has none.
     fn brings(self) -> bool
         ensures { result ≡ brings_bytes self }
     {
@@ -70,7 +70,8 @@ impl Wanted {
         }
     }
 
-    // Returns the number of data bytes in a successful response, by the kind of its content.
+    // Returns the number of data bytes in a successful response: those of its coils or registers,
+    // or 0 for a write.
     fn count(self) -> u32
         ensures { result ≡ byte_count self }
     {

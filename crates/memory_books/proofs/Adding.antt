@@ -50,7 +50,8 @@ one_among books [] more may = absurd may
 one_among books (known ∷ left) more (inl listed) = inl listed
 one_among books (known ∷ left) more (inr may) = inr (one_among books left more may)
 
--- If no records are added, then the figures of the store still agree with the records.
+-- If no records are added, then the store's figures (its number of meters and its latest timestamp)
+-- still agree with the records.
 figures_after_none : (old new : ListBooks) (facts known : List Fact) → facts ≡ [] → FiguresFollow facts old new → AreListed old known → AreFigures new.figures known
 figures_after_none old new facts known none figures listed =
     subst (λ (fs : List Fact). AreFigures new.figures (with_facts fs known)) none (figures known listed.facts listed.figures)

@@ -16,7 +16,7 @@ at_most_one : {X : Type 0} (o : Option X) → length (cons_option o []) ≤ 1
 at_most_one None = omega arith
 at_most_one (Some x) = omega arith
 
--- A list of records has at most as many openings of meters as records.
+-- A list of records installs at most as many meters as it has records.
 no_more : (known : List Fact) → length (openings_in known) ≤ length known
 no_more [] = omega arith
 no_more (f ∷ known) =

@@ -1,4 +1,4 @@
--- Lemmas that a query passed all requested rows to its sink.
+-- Lemmas about queries that pass all requested rows to a sink, which is a visitor of rows.
 use Rattle.std.proofs.Common.{List, length, sym, subst, Ok, arith}
 use Rattle.std.proofs.lemmas.List.{take_all}
 use Rattle.interval_core.specs.declared.shares.Share.{Share}

@@ -1,4 +1,4 @@
--- Lemmas about lookups that first update the tables and note if memory runs out.
+-- Lemmas about lookups that first update the tables, and store a failure if memory runs out.
 use Rattle.std.proofs.Common.{◌≡◌, List, reverse, refl, sym, ap, subst, ◌∙◌, Option, Result, Ok}
 use Rattle.std.proofs.lemmas.List.{reverse-reverse}
 use Rattle.office_events.specs.declared.facts.Fact.{Fact}
@@ -40,14 +40,14 @@ all_said old So facts known is whole listed =
     let turned : reverse facts ≡ known = in_turn old facts known is listed in
     subst So turned (whole (subst AreLawful (sym turned) listed.lawful) (subst (HaveCome old.tables) (sym is) listed.tables))
 
--- If only the noted failure of a store changes, then the store still agrees with the same records.
+-- If only `last_failure` of a store changes, then the store still agrees with the same records.
 noting : (books : ListBooks) (last : Option BooksFault) → KeepsFacts (ledger_of books) (ledger_of (record books { last_failure = last }))
 noting books last = record { facts = still; left = one_still books (record books { last_failure = last }) still }
   where
     still : (known : List Fact) → AreListed books known → AreListed (record books { last_failure = last }) known
     still known listed = record { lawful = listed.lawful; facts = listed.facts; tables = listed.tables; figures = listed.figures }
 
--- If a lookup changes only the noted failure of the store, then it satisfies the guarantees of a
+-- If a lookup changes only `last_failure` of the store, then it satisfies the guarantees of a
 -- lookup.
 pub only_noted : {T : Type 0} (books : ListBooks) (last : Option BooksFault) (answer : Result T BooksFault)
     → failures_in last ≡ faults_after answer (failures_in books.last_failure)
@@ -57,7 +57,7 @@ only_noted books last answer noted = record {
   keeps = noting books last;
 }
 
--- If a lookup first updates the tables and then notes its failure, if any, then it satisfies the
+-- If a lookup first updates the tables and then stores its failure, if any, then it satisfies the
 -- guarantees of a lookup.
 pub ready : {T : Type 0} (old mid : ListBooks) (last : Option BooksFault) (answer : Result T BooksFault) → KeepsFacts (ledger_of old) (ledger_of mid)
     → mid.zone ≡ old.zone → mid.last_failure ≡ old.last_failure → failures_in last ≡ faults_after answer (failures_in mid.last_failure)

@@ -8,17 +8,17 @@ use Rattle.memory_books.specs.Looking.{failures_in}
 use Rattle.memory_books.specs.declared.list_books.ListBooks.{ListBooks}
 use Rattle.office_rules.specs.Lawful.{AreLawful}
 
--- True if the store agrees with these lawful records. The store's list has the records in the order
--- in which they were added. The figures agree with all records, and each table agrees with the
--- records that were added to the table.
+-- True if the store has exactly these records, and the rules accept each record after the earlier
+-- records. The figures agree with all records, and each table agrees with the records that were
+-- added to the table.
 pub record AreListed (books : ListBooks) (known : List Fact) : Type 0 where
   pub lawful : AreLawful known
   pub facts : books.facts.items ≡ reverse known
   pub tables : HaveCome books.tables books.facts.items
   pub figures : AreFigures books.figures known
 
--- True if the figures of the store agree with the records after the records `facts` are added,
--- provided that they agreed before.
+-- True if the figures of the store (its number of meters and its latest timestamp) agree with the
+-- records after the records `facts` are added, provided that they agreed before.
 abbrev pub FiguresFollow : (facts : List Fact) → (old new : ListBooks) → Type 0
 FiguresFollow facts old new = (known : List Fact) → old.facts.items ≡ reverse known
     → AreFigures old.figures known
@@ -29,8 +29,8 @@ abbrev pub HasOne : ListBooks → List (List Fact) → Type 0
 HasOne books [] = ⊥
 HasOne books (known ∷ left) = AreListed books known ⊎ HasOne books left
 
--- The model of a store in memory. The model is always clean and open, and calls fail only if memory
--- runs out.
+-- The abstract state of a store in memory, which contracts refer to. The store never returns a
+-- wrong result (it is clean), is always open, and fails only if memory runs out.
 --
 -- A crash leaves all records that the store has.
 abbrev pub ledger_of : ListBooks → Ledger

@@ -15,7 +15,7 @@ abbrev pub reported : {T : Type 0} → Result T AllocError → Result T BooksFau
 reported (Ok answer) = Ok answer
 reported (Err lacks) = Err Memory
 
--- The failure counter of a store in memory. The count is always 0. The last failure, if any, is
--- that memory ran out.
+-- The failure counter of a store in memory. The count is always 0, because a lack of memory is not
+-- counted. The last failure, if any, is that memory ran out.
 abbrev pub failures_in : (last : Option BooksFault) → Failures
 failures_in last = record { count = 0; last = last }

@@ -23,7 +23,7 @@ pub(crate) fn hold_in(fact: &Fact) -> Option<HeldReading>
     }
 }
 
-/// Returns the number of meters that a record opens, 0 or 1.
+/// Returns the number of meters that a record installs, 0 or 1.
 pub(crate) fn openings(fact: &Fact) -> usize
     ensures { result ≡ length (openings_in (fact.now ∷ [])) }
 {

@@ -1,4 +1,4 @@
--- The valid rows of a list that the rules accept form a lawful journal.
+-- If the rules accept a list of rows, then its valid (not voided) rows form a lawful journal.
 use Rattle.std.proofs.Common.{◌≡◌, Bool, true, false, List, [], ◌∷◌, map, refl, sym, ap, subst, ◌∙◌, inl, inr}
 use Rattle.std.proofs.lemmas.Bool.{cases_Bool, cond-true, cond-false}
 use Rattle.energy_core.specs.declared.entries.Last.{Last}
@@ -60,7 +60,8 @@ pub matching_rows_are_independent : FittingRowsStandAlone
 matching_rows_are_independent meter rows h =
     record { fit = alone_fits meter rows h; entries = entries_alone meter.opening (standing rows) }
 
--- The valid entries of rows that the rules accept have an account.
+-- If the rules accept a list of rows, then each of its valid entries may follow the entries before
+-- it, and their total energy is within its limit.
 pub fitting_account : (meter : Installed) (rows : List EntryRow) → IsWellInstalled meter → AllFit meter rows → HasAccount meter (entries_in rows)
 fitting_account meter rows well h =
     let alone = matching_rows_are_independent meter rows h in

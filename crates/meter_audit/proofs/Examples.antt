@@ -22,7 +22,8 @@ use Rattle.meter_audit.specs.Fitting.{AreFine}
 use Rattle.meter_audit.specs.Passing.{begun, passed}
 use Rattle.meter_audit.specs.Comparing.{next_fault}
 
--- A meter with a 32-bit counter and a ceiling of 100 kW, which showed 5000 counts at 1000 s.
+-- A meter with a 32-bit counter and a ceiling (maximum power) of 100 kW. The meter showed 5000
+-- counts at 1000 s.
 abbrev house : Installed
 house = record { range = 4294967296; ceiling = 100000; opening = record { at = 1000; raw = 5000; sf = pos 0 } }
 
@@ -51,7 +52,7 @@ check_as place l total ended stands =
 abbrev check : (place : ℕ) → Last → (total : ℕ) → (ended : Bool) → Check
 check place l total ended = check_as place l total ended true
 
--- A table row of a reading that is 200 Wh above the opening.
+-- A table row of a reading that is 200 Wh above the opening, the meter's first count.
 abbrev first : TableRow
 first = reported 2 row_kind.Reading 1900 5200 0 0 (pos 0) false
 

@@ -28,7 +28,8 @@ use Rattle.meter_audit.specs.Passing.{IsSoundCheck, passed}
 use Rattle.meter_audit.specs.Laws.{PassedRowsFit, HasTaken, IsTaken}
 use Rattle.meter_audit.specs.Going.{HasGone, IsSoundProgress, settled_in, DropsDone}
 
--- Merging shares into a list of interval rows leaves all rows except the last unchanged.
+-- Merging quarter-hour energies (shares) into a list of interval rows leaves all rows except the
+-- last unchanged.
 pub joins_last : (done : List Share) (row : Share) (rows shares : List Share)
     → with_shares (done ++ row ∷ rows) shares ≡ done ++ with_shares (row ∷ rows) shares
 joins_last [] row rows shares = refl
@@ -48,7 +49,8 @@ joined_some row share shares h =
       | inr other ↦ let e = sym (cond-false _ _ _ other) ∙ h in absurd (cc)
     ]
 
--- Merging shares into a list of interval rows never makes it empty.
+-- If merging quarter-hour energies (shares) into a list of interval rows gives an empty list, then
+-- the list was empty.
 still_some : (rows shares : List Share) → with_shares rows shares ≡ [] → rows ≡ []
 still_some [] shares h = refl
 still_some (row ∷ []) [] h = absurd (cc)
@@ -142,7 +144,7 @@ left_is_sound n meter old new same left sound = record {
   within = omega (arith, sound.within, less_left n old.wanted.items, ap energy_of left, ap (λ (check : Check). check.total) same);
 }
 
--- Removing all interval rows except the last leaves a row, unless the list was empty.
+-- If removing all interval rows except the last leaves no row, then the list was empty.
 none_left : (rows : List Share) → drop (settled_in rows) rows ≡ [] → rows ≡ []
 none_left [] h = refl
 none_left (row ∷ rows) h =
@@ -152,7 +154,7 @@ none_left (row ∷ rows) h =
       ap (λ (rs : List Share). length rs) h,
     ))
 
--- `drop_done` moves interval rows from the pending rows to the compared rows.
+-- `drop_done` moves interval rows from the rows that are still to be compared to the compared rows.
 pub drops_done : (old new : Progress) → new.check ≡ old.check
     → new.wanted.items ≡ drop (settled_in old.wanted.items) old.wanted.items → DropsDone old new
 drops_done old new same left meter reported done gone =

@@ -64,7 +64,8 @@ one_at_most : (b : Bool) (n : ℕ) → n ≡ (if b then 1 else 0) → n ≤ 1
 one_at_most true n h = omega (arith, h)
 one_at_most false n h = omega (arith, h)
 
--- An accepted reading showed a count that the counter can show, and is later than the last entry.
+-- An accepted reading showed a count that the counter can show, and is later than the last entry
+-- before it.
 was_accepted : (meter : Installed) (es : List Entry) (at raw rolls : ℕ) → IsAcceptedAs meter es at raw rolls
     → WasReading meter.range (last_after meter es) at raw rolls
 was_accepted meter es at raw rolls h =

@@ -199,8 +199,8 @@ accepted_by rolls (verdict.Accepted wanted step) h =
       | inr other ↦ absurd (let f : Some _ ≡ None = sym (cond-false _ _ _ other) ∙ h in cc)
     ]
 
--- The entry of the row was recorded. `next` is the state of the check after it, and `step` is the
--- step to it.
+-- The entry of the row was recorded. `next` is the state of the check after the entry, and `step`
+-- is the energy since the last valid entry.
 record IsAfter (check : Check) (k : EntryKind) (reported : TableRow) (answer : Result (Last × Step) TermFault) (next : Check) (step : Option Step) : Type 0 where
   last : Last
   gone : Step

@@ -1,6 +1,6 @@
--- A meter whose journal is split over two files. The opening entry in the new file is the meter's
--- last entry in the old file. `lines` is the journal in the old file, and `more` is the journal in
--- the new file. The latest line comes first.
+-- A meter whose journal (history) is split over two database files. The opening entry in the new
+-- file is the meter's last entry in the old file. `lines` is the journal in the old file, and
+-- `more` is the journal in the new file. The latest line comes first.
 use Rattle.std.specs.Prelude.{◌≡◌, ◌≢◌, ℕ, ℤ, ◌+◌, ◌==◌, ◌≤◌, false, List, [], ◌∷◌, ◌++◌, map, filter}
 use Rattle.energy_core.specs.declared.limits.TheConstants.{MAX_TOTAL}
 use Rattle.energy_core.specs.declared.verdicts.Cause.TheVariants.{TotalFull}
@@ -39,7 +39,7 @@ joined_journal lines more = map (moved_line (entered_count lines)) more ++ lines
 abbrev pub moved_row : (count : ℕ) → EntryRow → EntryRow
 moved_row count row = record row { place = row.place + count }
 
--- The meter is well installed in the new file, and the joined journal has the rows, entries and
+-- The meter's opening in the new file is valid, and the joined journal has the rows, entries and
 -- steps of both files in order. Therefore the energies of both files add up. A quarter hour in both
 -- files has one row in the joined journal, with the energy of both. A meter that continues in a
 -- third file continues from the joined journal.
@@ -59,8 +59,8 @@ pub record GoesOn (meter : Installed) (lines more : Journal) : Type 0 where
       ≡ with_shares (interval_rows meter lines) (interval_rows (carried meter lines) more)
   pub again : carried (carried meter lines) more ≡ carried meter (joined_journal lines more)
 
--- Theorem: a meter with lawful journals in the old and the new file continues as `GoesOn`
--- describes.
+-- Theorem: a meter whose journals in the old and the new file are lawful (the rules accept them)
+-- continues as `GoesOn` describes.
 abbrev pub CarriesGoOn : Type 0
 CarriesGoOn = (meter : Installed) (lines more : Journal) → IsWellInstalled meter
     → AreFitting meter lines
@@ -72,8 +72,8 @@ abbrev pub energy_from : (start : ℕ) → List Share → ℕ
 energy_from start rows = energy_of (filter (λ row. row.start == start) rows)
 
 -- The joined rows of both files count each quarter hour and each civil day once. A quarter hour has
--- the energy of both files, also the quarter hour in which the files changed. The account of a day
--- has the energy of both files, and counts a quarter hour in both files once.
+-- the energy of both files, also the quarter hour in which the files changed. A day has the energy
+-- of both files, and counts a quarter hour in both files once.
 pub record AreCountedOnce (old new both : List Share) : Type 0 where
   pub ascending : IsAscending (starts_of both)
   pub quarters : (start : ℕ) → energy_from start both
@@ -83,16 +83,16 @@ pub record AreCountedOnce (old new both : List Share) : Type 0 where
       ≡ (account_on zone old day).mwh + (account_on zone new day).mwh
   pub whole : energy_of both ≡ energy_of old + energy_of new
 
--- The interval rows of the joined journal are the account of the steps of both files. They count
--- each quarter hour and each civil day once.
+-- The interval rows of the joined journal have the energy of all steps (energies between entries)
+-- in both files. They count each quarter hour and each civil day once.
 pub record CountsOnce (meter : Installed) (lines more : Journal) : Type 0 where
   pub account : IsAccount (steps_in (carried meter lines) more ++ steps_in meter lines)
       (interval_rows meter (joined_journal lines more))
   pub rows : AreCountedOnce (interval_rows meter lines) (interval_rows (carried meter lines) more)
       (interval_rows meter (joined_journal lines more))
 
--- Theorem: for any lawful journals of the old and the new file, the joined journal counts each
--- quarter hour once.
+-- Theorem: if the rules accept a meter's journals in the old and the new file, then the joined
+-- journal of both files counts each quarter hour once.
 abbrev pub CarriesCountOnce : Type 0
 CarriesCountOnce = (meter : Installed) (lines more : Journal) → IsWellInstalled meter
     → AreFitting meter lines
@@ -107,9 +107,9 @@ StaysWithin meter lines (line ∷ more) =
     (total_in meter lines + total_in (carried meter lines) (line ∷ more) ≤ MAX_TOTAL)
     × StaysWithin meter lines more
 
--- Theorem: the joined journal is lawful if the meter was open and the energy stays within the
--- limit. Readings are accepted or rejected with the same rollovers and causes as in the separate
--- files. The same entries may be recorded and voided.
+-- Theorem: the joined journal of both files is lawful if the meter was open and the energy stays
+-- within the limit. Readings are accepted or rejected with the same rollovers and causes as in the
+-- separate files. The same entries may be recorded and voided.
 abbrev pub CarriedJournalsFit : Type 0
 CarriedJournalsFit = (meter : Installed) (lines more : Journal) → IsWellInstalled meter
     → AreFitting meter lines
@@ -118,14 +118,14 @@ CarriedJournalsFit = (meter : Installed) (lines more : Journal) → IsWellInstal
     → StaysWithin meter lines more
     → AreFitting meter (joined_journal lines more)
 
--- A line that may be recorded in the new file instead of the old file. The line voids no entry of
--- the old file, and rejects no reading because of the limit of the total energy.
+-- A journal line that may be recorded in the new file instead of the old file. The line voids no
+-- entry of the old file, and rejects no reading because of the limit of the total energy.
 abbrev pub ComesLater : (count : ℕ) → Line → Type 0
 ComesLater count (Entered k e) = Unit {0}
 ComesLater count (Held reading cause) = cause ≢ TotalFull
 ComesLater count (Voided place) = count + 2 ≤ place
 
--- Each line of the list may be recorded in the new file instead of the old file.
+-- Each line of the journal may be recorded in the new file instead of the old file.
 abbrev pub AllComeLater : (count : ℕ) → Journal → Type 0
 AllComeLater count [] = Unit {0}
 AllComeLater count (line ∷ lines) = ComesLater count line × AllComeLater count lines
@@ -137,8 +137,8 @@ pub record IsSplit (meter : Installed) (lines later : Journal) : Type 0 where
   pub joined : joined_journal lines more ≡ later ++ lines
   pub fit : AreFitting (carried meter lines) more
 
--- Theorem: lines that may follow in the old file may be recorded in a new file, if they void no
--- entry of the old file.
+-- Theorem: journal lines that the rules accept in the old file may also be recorded in a new file,
+-- if they void no entry of the old file.
 abbrev pub LaterLinesAreCarried : Type 0
 LaterLinesAreCarried = (meter : Installed) (lines later : Journal) → IsWellInstalled meter
     → AreFitting meter (later ++ lines)

@@ -1,6 +1,6 @@
--- The joint report of several files about a meter that continues from each file into the next. Each
--- file is audited separately. Lists of rows begin with the latest row, and lists of files with the
--- oldest file.
+-- The joint report of several database files about a meter that continues from each file into the
+-- next. Each file is audited separately. Lists of rows begin with the latest row, and lists of
+-- files with the oldest file.
 use Rattle.std.specs.Prelude.{◌≡◌, ◌+◌, ◌-◌, ◌≤◌, Bool, false, List, [], ◌∷◌, ◌++◌, map, length}
 use Rattle.energy_core.specs.declared.entries.Last.{Last}
 use Rattle.energy_core.specs.declared.limits.TheConstants.{MAX_TOTAL}
@@ -12,8 +12,8 @@ use Rattle.meter_audit.specs.Fitting.{Tables, AreFine}
 use Rattle.meter_audit.specs.Laws.{AreLawful}
 
 -- The meter `meter` of an old file continues as the meter `next` of a new file. The meter was open,
--- and its range and ceiling are unchanged. Its opening entry in the new file is its last entry in
--- the old file.
+-- and its range and ceiling (maximum power) are unchanged. Its opening entry in the new file is its
+-- last entry in the old file.
 pub record GoesOnAs (meter : Installed) (last : Last) (ended : Bool) (next : Installed) : Type 0
   where
     pub unended : ended ≡ false
@@ -53,8 +53,8 @@ abbrev pub entry_from_all_rows : Tables → (later : List InFile) → Tables
 entry_from_all_rows old [] = old
 entry_from_all_rows old (new ∷ later) = entry_from_all_rows (reported_by_both old new.tables) later
 
--- Theorem: the joint report of several files is that of one lawful journal if the energy of all
--- files stays within the limit of one meter.
+-- Theorem: the joint report of several files is that of one lawful journal, a history that the
+-- rules accept. The energy of all files must stay within the limit of one meter.
 abbrev pub FilesAreOneHistory : Type 0
 FilesAreOneHistory = (first : InFile) (later : List InFile) → IsWellInstalled first.meter
     → AreFine first.meter first.tables

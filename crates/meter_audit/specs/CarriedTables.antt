@@ -1,5 +1,5 @@
--- The tables of an old and a new file, for a meter that continues from the old file into the new
--- file. Each file is audited separately. Lists of rows begin with the latest row.
+-- The tables of an old and a new database file, for a meter that continues from the old file into
+-- the new file. Each file is audited separately. Lists of rows begin with the latest row.
 use Rattle.std.specs.Prelude.{◌≡◌, ℕ, ◌+◌, ◌-◌, ◌≤◌, false, List, [], ◌∷◌, ◌++◌, map, take, length}
 use Rattle.energy_core.specs.declared.limits.TheConstants.{MAX_TOTAL}
 use Rattle.energy_core.specs.Account.{energy_of}
@@ -45,8 +45,8 @@ pub record AreOne (count : ℕ) (old new both : Tables) : Type 0 where
   pub once : AreCountedOnce old.intervals new.intervals both.intervals
   pub ended : both.ended ≡ new.ended
 
--- Theorem: for an open meter whose rows the rules accept in both files, the joined tables satisfy
--- `AreOne`.
+-- Theorem: the joined tables of an old and a new file satisfy `AreOne`. The meter must be open at
+-- the end of the old file, and the rules must accept its rows in both files.
 abbrev pub CarriedTablesAreOne : Type 0
 CarriedTablesAreOne = (meter : Installed) (old new : List EntryRow) → IsWellInstalled meter
     → AllFit meter old
@@ -66,7 +66,7 @@ EntriesStayWithin meter old (row ∷ rows) =
     ≤ MAX_TOTAL)
     × EntriesStayWithin meter old rows
 
--- Theorem: the joined tables of the old and the new file are consistent if the rules accept the
+-- Theorem: the joined tables of the old and the new file are consistent, if the rules accept the
 -- rows of each file and the energy stays within its limit.
 abbrev pub CarriedTablesAreFine : Type 0
 CarriedTablesAreFine = (meter : Installed) (old new : List EntryRow) → IsWellInstalled meter

@@ -20,8 +20,8 @@ abbrev pub is_ended : List EntryRow → Bool
 is_ended [] = false
 is_ended (row ∷ rows) = if is_closing row.kind then true else is_ended rows
 
--- The known facts about a voided reading: it showed a count that the counter can show, and is later
--- than the last valid entry. Its step is unknown, because entries that were valid at its time may
+-- What is known about a voided reading: it showed a count that the counter can show, and is later
+-- than the last valid entry. Its energy is unknown, because entries that were valid at its time may
 -- have been voided since.
 pub record WasReading (range : ℕ) (last : Last) (at raw rolls : ℕ) : Type 0 where
   pub accumulated : raw ≢ 0
@@ -35,8 +35,8 @@ abbrev pub VoidedFits : (range : ℕ) → Last → EntryKind → Entry → Type 
 VoidedFits range last kind.Reading (entry.Step at raw rolls) = WasReading range last at raw rolls
 VoidedFits range last _ _ = ⊥
 
--- A row of the kind `k` may follow the valid entries `es`. If `stands`, the row is checked as a
--- valid row, otherwise as a voided row.
+-- A row of the kind `k` may follow the valid entries `es`. If `stands` is true, the row is checked
+-- as a valid row, otherwise as a voided row.
 abbrev pub MayCome : Installed → List Entry → (stands : Bool) → EntryKind → Entry → Type 0
 MayCome meter es true k e = EntryFits meter es k e
 MayCome meter es false k e = VoidedFits meter.range (last_after meter es) k e

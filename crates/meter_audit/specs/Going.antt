@@ -15,8 +15,8 @@ use Rattle.meter_audit.specs.Fitting.{AreReported, Tables, AreFine}
 use Rattle.meter_audit.specs.Passing.{IsSoundCheck, passed}
 use Rattle.meter_audit.specs.Laws.{HasTaken}
 
--- The invariant of a check in progress. The state of the check satisfies `IsSoundCheck`, and the
--- energy of the pending interval rows is at most the energy of the check.
+-- The invariant of a check in progress. The state of the check satisfies `IsSoundCheck`. The energy
+-- of the interval rows that are still to be compared is at most the energy of the check.
 pub record IsSoundProgress (meter : Installed) (progress : Progress) : Type 0 where
   pub check : IsSoundCheck meter progress.check
   pub within : energy_of progress.wanted.items ≤ progress.check.total
@@ -31,7 +31,7 @@ pub record HasGone (meter : Installed) (reported : List TableRow) (done : List S
   pub reported_is : reported ≡ later_rows meter rows
   pub intervals : done ++ progress.wanted.items
       ≡ rows_of_steps (steps_after meter (entries_in rows))
-  -- No interval row was removed as long as the list of pending rows is empty.
+  -- As long as no interval row is pending, no interval row was removed.
   pub begun : progress.wanted.items ≡ [] → done ≡ []
 
 -- If no fault is reported, the check has passed the row. Otherwise the row is refused for the
@@ -46,8 +46,8 @@ GoesOver meter old row new (Some fault) = passed meter old.check row ≡ Err fau
 abbrev pub settled_in : List Share → ℕ
 settled_in rows = length rows - 1
 
--- `drop_done` leaves the passed table rows unchanged. It removes the interval rows that are final,
--- and they count as compared.
+-- `drop_done` removes the pending interval rows to which no later entry can add energy. These rows
+-- count as compared. The passed table rows are unchanged.
 abbrev pub DropsDone : (old new : Progress) → Type 0
 DropsDone old new = (meter : Installed) (reported : List TableRow) (done : List Share)
     → HasGone meter reported done old
@@ -61,8 +61,8 @@ pub record Agrees (tables : Tables) (done : List Share) (progress : Progress) : 
   pub total : tables.total ≡ progress.check.total
   pub ended : tables.ended ≡ progress.check.is_ended
 
--- Theorem: after all rows of a meter passed, the meter's tables are consistent if and only if they
--- agree with the check.
+-- Theorem: after all rows of a meter passed the check, the meter's tables are consistent if and
+-- only if their other values agree with the result of the check.
 abbrev pub FinishedIsFine : Type 0
 FinishedIsFine = (meter : Installed) (reported : List TableRow) (done : List Share)
     (progress : Progress) (tables : Tables) → HasGone meter reported done progress

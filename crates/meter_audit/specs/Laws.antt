@@ -16,27 +16,28 @@ use Rattle.meter_audit.specs.Rows.{scale_after, table_row, later_rows}
 use Rattle.meter_audit.specs.Fitting.{RowFits, AllFit, Tables, tables_of, AreFine, is_ended, last_stands}
 use Rattle.meter_audit.specs.Passing.{passed}
 
--- Theorem: the rules accept each row of a lawful journal after the rows before it, including voided
--- rows.
+-- Theorem: the rules accept each row of a lawful journal after the rows before it, also voided
+-- rows. A journal is a meter's history.
 abbrev pub RowsOfJournalsFit : Type 0
 RowsOfJournalsFit = (meter : Installed) (lines : Journal) → IsWellInstalled meter
     → AreFitting meter lines
     → AllFit meter (rows_of meter.opening lines)
 
--- The valid rows of a list form a lawful journal, and this journal has the same valid entries as
--- the list.
+-- The valid (not voided) rows of a list form a lawful journal, a history that the rules accept.
+-- This journal has the same valid entries as the list.
 pub record StandsAlone (meter : Installed) (rows : List EntryRow) : Type 0 where
   pub fit : AreFitting meter (entering (standing rows))
   pub entries : entries_of meter.opening (entering (standing rows)) ≡ entries_in rows
 
--- Theorem: if the rules accept each row of a list after the rows before it, the valid rows alone
--- form a lawful journal.
+-- Theorem: if the rules accept each row of a list after the rows before it, the valid (not voided)
+-- rows alone form a lawful journal, a history that the rules accept.
 abbrev pub FittingRowsStandAlone : Type 0
 FittingRowsStandAlone = (meter : Installed) (rows : List EntryRow) → AllFit meter rows
     → StandsAlone meter rows
 
--- The tables report the state of a lawful journal: its last entry, energy, interval rows, and
--- whether the meter was closed. The interval rows add up to the energy.
+-- The tables report the state of a lawful journal (a history that the rules accept): its last
+-- entry, energy, interval rows, and whether the meter was closed. The interval rows add up to the
+-- energy.
 pub record AreLawful (meter : Installed) (tables : Tables) : Type 0 where
   pub lines : Journal
   pub fit : AreFitting meter lines
@@ -46,12 +47,12 @@ pub record AreLawful (meter : Installed) (tables : Tables) : Type 0 where
   pub ended : tables.ended ≡ has_closing lines
   pub adds_up : energy_of tables.intervals ≡ tables.total
 
--- Theorem: consistent tables report the state of a lawful journal.
+-- Theorem: consistent tables report the state of a lawful journal, a history that the rules accept.
 abbrev pub FineTablesAreLawful : Type 0
 FineTablesAreLawful = (meter : Installed) (tables : Tables) → IsWellInstalled meter
     → AreFine meter tables → AreLawful meter tables
 
--- Theorem: the tables of every lawful journal are consistent.
+-- Theorem: the tables of every lawful journal (a history that the rules accept) are consistent.
 abbrev pub LawfulTablesAreFine : Type 0
 LawfulTablesAreFine = (meter : Installed) (lines : Journal) → IsWellInstalled meter
     → AreFitting meter lines
@@ -74,7 +75,8 @@ pub record HasTaken (meter : Installed) (rows : List EntryRow) (check : Check) :
   pub check_is : check ≡ check_after meter rows
 
 -- The table row `reported` encodes a row that the rules accept after `rows`. `after` is the state
--- of the check after this row, and `step` is the step to the row's entry.
+-- of the check after this row. `step` is the energy between the row's entry and the last valid
+-- entry.
 pub record IsTaken (meter : Installed) (rows : List EntryRow) (reported : TableRow) (after : Check)
     (step : Option Step) : Type 0 where
   pub row : EntryRow
@@ -101,8 +103,8 @@ abbrev pub RowsAreReportedApart : Type 0
 RowsAreReportedApart = (meter : Installed) (rows others : List EntryRow) → AllFit meter rows
     → AllFit meter others → later_rows meter rows ≡ later_rows meter others → rows ≡ others
 
--- The check has passed a list of table rows, which begins with the latest. They encode entry rows
--- that the rules accept, and `check` is the state of the check after them.
+-- The check has passed a list of table rows, the latest first. These rows encode entry rows that
+-- the rules accept, and `check` is the state of the check after all of them.
 pub record HasPassed (meter : Installed) (reported : List TableRow) (check : Check) : Type 0 where
   pub rows : List EntryRow
   pub taken : HasTaken meter rows check

@@ -29,7 +29,8 @@ use Rattle.meter_audit.specs.declared.rows.RowKind.{RowKind}
 use Rattle.meter_audit.specs.declared.rows.RowKind.TheVariants as row_kind
 use Rattle.meter_audit.specs.declared.rows.TableRow.{TableRow}
 
--- The meter may be checked: its range, ceiling and opening entry are within their limits.
+-- The meter may be checked: its range, its ceiling (maximum power) and its opening entry are within
+-- their limits.
 pub record MayBeChecked (meter : Installed) : Type 0 where
   pub range : IsRange meter.range
   pub ceiling : (1 ≤ meter.ceiling) × (meter.ceiling ≤ MAX_CEILING)
@@ -42,7 +43,7 @@ pub record IsSoundCheck (meter : Installed) (check : Check) : Type 0 where
   pub raw : check.last.raw < meter.range
   pub scale : IsScale check.last.sf
 
--- The state of a check after the opening row.
+-- The state of a check after the opening row, which has the meter's first count.
 abbrev pub begun : Installed → Check
 begun meter = record {
   place = 1;
@@ -52,7 +53,8 @@ begun meter = record {
   stands = true;
 }
 
--- The kind of an entry, given the kind column of its table row, or `None` for an opening.
+-- The kind of an entry, given the kind column of its table row, or `None` for an opening, the first
+-- entry of a meter.
 abbrev pub kind_in : RowKind → Option EntryKind
 kind_in row_kind.Opening = None
 kind_in row_kind.Reading = Some kind.Reading
@@ -103,19 +105,20 @@ shape_of check row =
     if row.place == check.place + 1 then shape_by check row (kind_in row.kind)
     else Err (fault.Place (check.place + 1))
 
--- The fault of a reading, given the verdict on it: the rules rejected the reading, or its rollovers
--- differ from the accepted number. `None` if neither is the case.
+-- The fault of a reading, given the verdict of the rules: the rules rejected the reading, or the
+-- reading's rollovers differ from the number that they require. `None` if there is no fault.
 abbrev pub fault_by : (rolls : ℕ) → Verdict → Option RowFault
 fault_by rolls (verdict.Held why) = Some (fault.Held why)
 fault_by rolls (verdict.Accepted wanted step) =
     if rolls == wanted then None else Some (fault.Rolls wanted)
 
--- The ceiling and the total energy by which a check judges a reading.
+-- The values by which a check judges a reading: the meter's ceiling (maximum power) and the total
+-- energy so far.
 abbrev pub terms_of : Installed → Check → Terms
 terms_of meter check = record { ceiling = meter.ceiling; total = check.total }
 
--- The fault of a row as a valid reading, or `None` if the reading has no fault or the row's kind is
--- not a reading.
+-- Why the rules reject a row as a valid (not voided) reading. `None` if the rules accept the
+-- reading, or if the row's kind is not a reading.
 abbrev pub reading_fault : Installed → Check → EntryKind → TableRow → Option RowFault
 reading_fault meter check k row =
     if is_reading k
@@ -123,13 +126,13 @@ reading_fault meter check k row =
     (reading_at check.last row.moment row.raw))
     else None
 
--- The fault of a voided reading that directly follows a valid row, which is checked like a valid
--- reading. `None` if the row before is voided.
+-- Why the rules reject a voided reading that directly follows a valid row. `None` if the rules
+-- accept the reading, or if the row before is voided.
 abbrev pub stood_fault : Installed → Check → EntryKind → TableRow → Option RowFault
 stood_fault meter check k row = if check.stands then reading_fault meter check k row else None
 
--- The fault of any voided reading. The reading shows 0 or a count not below the range, is not later
--- than the last valid entry, or has more than one rollover.
+-- Why a voided reading can't have been accepted when it was recorded. It shows 0 or a count not
+-- below the range, is not later than the last valid entry, or has more than one rollover.
 abbrev pub voided_fault : Installed → Check → TableRow → Option RowFault
 voided_fault meter check row =
     if row.raw == 0 then Some (fault.Held cause.NotAccumulated) else
@@ -142,7 +145,7 @@ abbrev pub unless : {X : Type 0} → Option RowFault → Result X RowFault → R
 unless (Some f) answer = Err f
 unless None answer = answer
 
--- The energy of the step in mWh, or 0 without a step.
+-- The energy of the step (between two entries) in mWh, or 0 without a step.
 abbrev pub energy_in : Option Step → ℕ
 energy_in None = 0
 energy_in (Some step) = step.mwh
@@ -163,8 +166,8 @@ following check k row (Ok (last, step)) = Ok (
   Some step,
 )
 
--- The state of the check after a valid row, with the step to the row's entry, or the first fault of
--- the row.
+-- The state of the check after a valid row, with the step to the row's entry (the energy since the
+-- last valid entry), or the first fault of the row.
 abbrev pub stood : Installed → Check → EntryKind → TableRow → Result (Check × Option Step) RowFault
 stood meter check k row =
     unless (reading_fault meter check k row)
@@ -186,7 +189,7 @@ passed_by meter check row (Err f) = Err f
 passed_by meter check row (Ok k) =
     if row.is_voided then voided meter check k row else stood meter check k row
 
--- The state of the check after a table row, with the step to the row's entry, or the first fault. A
--- voided row has no step.
+-- The state of the check after a table row, with the step to the row's entry (the energy since the
+-- last valid entry), or the first fault. A voided row has no step.
 abbrev pub passed : Installed → Check → TableRow → Result (Check × Option Step) RowFault
 passed meter check row = passed_by meter check row (shape_of check row)

@@ -22,17 +22,18 @@ kind_as kind.Closing = row_kind.Closing
 kind_as kind.Reset = row_kind.Reset
 kind_as kind.Rescale = row_kind.Rescale
 
--- The count that the counter showed at an entry. For a change, it is the count before the change.
+-- The count that the counter showed at an entry. For a reset or a rescale, it is the count before
+-- the change.
 abbrev pub raw_of : Entry → ℕ
 raw_of (entry.Step at raw rolls) = raw
 raw_of (entry.Change at before after sf) = before
 
--- The number of rollovers that an entry records, which is 0 for a change.
+-- The number of rollovers that an entry records, which is 0 for a reset or a rescale.
 abbrev pub rolls_of : Entry → ℕ
 rolls_of (entry.Step at raw rolls) = rolls
 rolls_of (entry.Change at before after sf) = 0
 
--- The count to which a change set the counter, or 0 for other entries.
+-- The count to which a reset or a rescale set the counter, or 0 for other entries.
 abbrev pub after_of : Entry → ℕ
 after_of (entry.Step at raw rolls) = 0
 after_of (entry.Change at before after sf) = after
@@ -54,7 +55,7 @@ table_row sf row = record {
   is_voided = not row.stands;
 }
 
--- The table row of the opening entry of a meter.
+-- The table row of a meter's opening, its first entry.
 abbrev pub opening_row : Last → TableRow
 opening_row opening = record {
   place = 1;

@@ -1,5 +1,6 @@
-//! Theorems about a meter whose rows are in two files. The meter continues in the new file from its
-//! last entry in the old file. Each theorem is the contract of a function, for all lawful journals.
+//! Theorems about a meter whose rows are in two database files. The meter continues in the new file
+//! from its last entry in the old file. Each theorem is the contract of a function, for all lawful
+//! journals (histories that the rules accept).
 ghost use Rattle.meter_audit.specs.Carried.{CarriesGoOn, CarriesCountOnce, CarriedJournalsFit};
 ghost use Rattle.meter_audit.specs.Carried.{LaterLinesAreCarried};
 ghost use Rattle.meter_audit.specs.CarriedTables.{CarriedTablesAreOne, CarriedTablesAreFine};
@@ -8,8 +9,9 @@ ghost use Rattle.meter_audit.specs.CarriedFiles.{FilesAreOneHistory};
 use interval_core::shares_add_up;
 use meter_journal::interval_rows_add_up;
 
-/// Theorem: the rows, steps, energy and interval rows of the old and the new file together are
-/// those of one journal. The journal's last entry is the last entry of the new file.
+/// Theorem: if a meter continues in a new file, then the rows and energies of both files together
+/// are those of one journal, the meter's history. This journal's last entry is the last entry of
+/// the new file.
 pub fn carries_go_on()
     ensures { CarriesGoOn }
 {}
@@ -23,15 +25,16 @@ pub fn carries_count_once()
     shares_add_up();
 }
 
-/// Theorem: the joined journal of the old and the new file is lawful if the meter was open and its
-/// energy stays within the limit of one meter.
+/// Theorem: the journals (histories) of a meter in the old and the new file together are one
+/// journal that the rules accept. The meter must be open, and its energy within the limit of one
+/// meter.
 pub fn carried_journals_fit()
     ensures { CarriedJournalsFit }
 {}
 
-/// Theorem: lines that may follow in the old file may also follow in a new file, if they void no
-/// entry of the old file. The joined journal of both files then equals the journal of a single
-/// file.
+/// Theorem: lines that the rules accept in a meter's journal in the old file may also be recorded
+/// in a new file, if they void no entry of the old file. The journals of both files together then
+/// equal the journal of a single file.
 pub fn later_lines_are_carried()
     ensures { LaterLinesAreCarried }
 {}
@@ -44,15 +47,16 @@ pub fn carried_tables_are_one()
     shares_add_up();
 }
 
-/// Theorem: the joined tables of the old and the new file are consistent if the rules accept the
+/// Theorem: the tables of the old and the new file together are consistent, if the rules accept the
 /// rows of each file and the energy stays within its limit.
 pub fn carried_tables_are_fine()
     ensures { CarriedTablesAreFine }
 {}
 
-/// Theorem: if a meter continues in each file from the file before it, consistent tables of all
-/// files together report the state of one lawful journal. The state consists of the last entry, the
-/// energy, the interval rows, and whether the meter was closed.
+/// Theorem: if a meter continues in each file from the file before it, the tables of all files
+/// together report the state of one lawful journal. The tables of each file must be consistent. The
+/// state consists of the last entry, the energy, the interval rows, and whether the meter was
+/// closed.
 pub fn files_are_one_history()
     ensures { FilesAreOneHistory }
 {

@@ -21,7 +21,7 @@ pub struct Check {
     pub stands: bool,
 }
 
-/// Returns the state of a check after the opening row.
+/// Returns the state of a check after the opening row, which has the meter's first count.
 pub fn begin(meter: &Installed) -> Check
     requires { passing.MayBeChecked meter.now }
     ensures value { result ≡ passing.begun meter.now }
@@ -88,8 +88,8 @@ fn shape(check: &Check, row: &TableRow) -> Result<EntryKind, RowFault>
     Ok(kind)
 }
 
-/// Returns the fault of a row as a valid reading. Returns `None` if the reading has no fault, or if
-/// the row's kind is not a reading.
+/// Returns why the rules reject a row as a valid (not voided) reading. Returns `None` if the rules
+/// accept the reading, or if the row's kind is not a reading.
 fn reading_fault(
     meter: &Installed,
     check: &Check,
@@ -127,8 +127,8 @@ fn reading_fault(
     }
 }
 
-/// Returns the fault of a voided reading that directly follows a valid row. Returns `None` without
-/// a fault, or if the row before is voided.
+/// Returns why the rules reject a voided reading that directly follows a valid row. Returns `None`
+/// if the rules accept the reading, or if the row before is voided.
 fn stood_fault(
     meter: &Installed,
     check: &Check,
@@ -146,8 +146,8 @@ fn stood_fault(
     }
 }
 
-/// Returns the fault of a voided reading, whether or not the row before it is valid. Returns `None`
-/// without a fault.
+/// Returns why a voided reading can't have been accepted when it was recorded, whether or not the
+/// row before it is valid. Returns `None` if there is no such reason.
 fn voided_fault(meter: &Installed, check: &Check, row: &TableRow) -> Option<RowFault>
     ensures { result ≡ passing.voided_fault meter.now check.now row.now }
 {
@@ -166,8 +166,8 @@ fn voided_fault(meter: &Installed, check: &Check, row: &TableRow) -> Option<RowF
     None
 }
 
-/// Returns the state of the check after a valid row, and the step to the row's entry. On error,
-/// returns the first fault of the row.
+/// Returns the state of the check after a valid row, and the step to the row's entry (the energy
+/// since the last valid entry). On error, returns the first fault of the row.
 fn check_valid_row(
     meter: &Installed,
     check: &Check,
@@ -208,7 +208,8 @@ fn check_valid_row(
 }
 
 /// Checks the next row. Returns the state of the check after the row, and the step to the row's
-/// entry. A voided row has no step. On error, returns the first fault of the row.
+/// entry (the energy since the last valid entry). A voided row has no step. On error, returns the
+/// first fault of the row.
 ///
 /// To continue after a refused row, set `place` of the check to the row's sequence number, and
 /// change nothing else.

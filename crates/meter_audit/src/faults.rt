@@ -11,7 +11,8 @@ pub enum RowFault {
     OpenedAgain,
     /// The row follows the closing of the meter, which must be the last row.
     AfterClosing,
-    /// The row is voided but is not a reading. Only readings can be voided.
+    /// A column that the row's kind does not use is not 0: `rolls` in a reset or a rescale, or
+    /// `after` in any other kind.
     CannotBeVoided,
     /// A column that the row's kind does not use is not 0: `after` in a step, or `rolls` in a
     /// change.
@@ -19,7 +20,7 @@ pub enum RowFault {
     /// The row changes the scale factor but is not a rescale. The expected scale factor is
     /// `wanted`.
     Scale { wanted: i16 },
-    /// The row is a reading that the rules would have rejected for this cause.
+    /// The row is a reading that the rules would have rejected for this cause when it was recorded.
     Held(Cause),
     /// The rollovers of a reading are wrong, and `wanted` is the expected number. A valid reading
     /// needs the rollovers computed from the entry before it, and a voided reading has at most one.

@@ -1,4 +1,5 @@
-//! Compares the interval rows of a table with the interval rows computed from the meter's entries.
+//! Compares the stored interval rows (the energies of quarter hours) with the interval rows
+//! computed from the meter's entries.
 ghost use Rattle.std.specs.Prelude.{◌≡◌, ◌↔◌, ◌<◌, ◌^◌, IsNone, IfSome};
 ghost use Rattle.meter_audit.specs.Comparing.{fault_between, difference_after, IsFirst};
 

@@ -8,27 +8,28 @@ ghost use Rattle.meter_audit.specs.Going.{FinishedIsFine, RefusedIsNotFine};
 
 use meter_journal::interval_rows_add_up;
 
-/// Theorem: the rules accept each row of a lawful journal after the rows before it, including
-/// voided rows.
+/// Theorem: the rules accept each row of a lawful journal after the rows before it, also voided
+/// rows. A journal is a meter's history.
 pub fn rows_of_journals_fit()
     ensures { RowsOfJournalsFit }
 {}
 
-/// Theorem: if the rules accept each row of a list after the rows before it, the valid rows alone
-/// form a lawful journal.
+/// Theorem: if the rules accept each row of a list after the rows before it, the valid (not voided)
+/// rows alone form a lawful journal, a history that the rules accept.
 pub fn matching_rows_are_independent()
     ensures { FittingRowsStandAlone }
 {}
 
-/// Theorem: consistent tables report the state of a lawful journal, so their interval rows add up
-/// to their energy.
+/// Theorem: consistent tables report the state of a lawful journal, a history that the rules
+/// accept. Their interval rows (the energies of quarter hours) therefore add up to their total
+/// energy.
 pub fn fine_tables_are_lawful()
     ensures { FineTablesAreLawful }
 {
     interval_rows_add_up();
 }
 
-/// Theorem: the tables of every lawful journal are consistent.
+/// Theorem: the tables of every lawful journal (a history that the rules accept) are consistent.
 pub fn lawful_tables_are_fine()
     ensures { LawfulTablesAreFine }
 {}
@@ -48,8 +49,8 @@ pub fn rows_are_distinct()
     ensures { RowsAreReportedApart }
 {}
 
-/// Theorem: after all rows of a meter passed, the meter's tables are consistent if and only if they
-/// agree with the check.
+/// Theorem: after all rows of a meter passed the check, the meter's tables are consistent if and
+/// only if their other values agree with the result of the check.
 pub fn finished_is_fine()
     ensures { FinishedIsFine }
 {}

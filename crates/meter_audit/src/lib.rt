@@ -1,5 +1,5 @@
-//! Checks whether the table rows of a meter are the rows of a lawful journal, whichever program
-//! wrote them.
+//! Checks whether the table rows of a meter follow from a lawful journal, a history that the rules
+//! accept. Any program may have written the rows.
 #![tactic(auto)]
 
 mod carried;

@@ -17,8 +17,8 @@ pub struct RefusedRow {
     pub fault: RowFault,
 }
 
-/// Checks the rows after the opening row, in order of their sequence numbers. Returns the state of
-/// the check after all rows. On error, returns the first refused row.
+/// Checks the rows after the opening row (the meter's first entry), in order of their sequence
+/// numbers. Returns the state of the check after all rows. On error, returns the first refused row.
 pub fn check_rows(meter: &Installed, rows: &[TableRow]) -> Result<Check, RefusedRow>
     requires meter { MayBeChecked meter.now }
     requires places { All (λ row. row.place < 2 ^ 63) rows.now }

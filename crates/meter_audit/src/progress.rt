@@ -1,4 +1,5 @@
-//! The progress of a check of a meter's entry rows, and of the interval rows computed from them.
+//! The progress of a check of a meter's entry rows, and of the interval rows (the energies of
+//! quarter hours) computed from them.
 ghost use Rattle.std.specs.Prelude.{◌≡◌, ◌<◌, ◌^◌, [], drop};
 ghost use Rattle.std.specs.Prelude.{IfOk, OnOk};
 ghost use Rattle.meter_journal.specs.declared.lines.Installed.{Installed as TheMeter};
@@ -22,7 +23,8 @@ pub struct Progress {
     pub wanted: Vec<Share>,
 }
 
-/// Begins a check after the opening row. Stores the allocator for later, and allocates nothing.
+/// Begins a check after the opening row (the meter's first entry). Stores the allocator for later,
+/// and allocates nothing.
 pub fn start(alloc: Global, meter: &Installed) -> Progress
     requires { MayBeChecked meter.now }
     ensures sound { IsSoundProgress meter.now result }

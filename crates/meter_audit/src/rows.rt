@@ -8,7 +8,7 @@ use meter_journal::EntryKind;
 /// The kind of an entry, as the table of entries states it.
 #[derive(Clone, Copy, Debug, PartialEq, Eq)]
 pub enum RowKind {
-    /// The opening of the meter.
+    /// The opening of the meter: its first count, recorded when the meter was installed.
     Opening,
     /// A reading of the meter that the rules accepted.
     Reading,
@@ -37,7 +37,8 @@ pub struct TableRow {
     pub is_voided: bool,
 }
 
-/// Returns the kind of the entry that a table row records, or `None` for an opening.
+/// Returns the kind of the entry that a table row records, or `None` for an opening, the first
+/// entry of a meter.
 pub(crate) fn kind_of(row: &TableRow) -> Option<EntryKind>
     ensures { result ≡ passing.kind_in row.now.kind }
 {

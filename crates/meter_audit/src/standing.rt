@@ -1,11 +1,12 @@
-//! Compares the row of an installation with the values computed from the installation's entries.
+//! Compares a meter's row of the table `installations` with the values computed from the meter's
+//! entries.
 ghost use Rattle.std.specs.Prelude.{◌≡◌, ◌↔◌, IsTrue, IsNone, IfSome};
 
 use crate::checks::Check;
 use energy_core::Last;
 
-/// The values in the row of an installation: the meter's last valid entry, its energy in mWh, and
-/// whether it was closed.
+/// The values in a meter's row of the table `installations`: the last valid entry, the total energy
+/// in mWh, and whether the meter was closed.
 #[derive(Clone, Copy, Debug, PartialEq, Eq)]
 pub struct Standing {
     pub last: Last,
@@ -13,8 +14,8 @@ pub struct Standing {
     pub is_ended: bool,
 }
 
-/// The computed values that differ from those in the row of an installation. A field is `None` if
-/// the row has the computed value.
+/// The computed values that differ from those in a meter's row of `installations`. A field is
+/// `None` if the row has the computed value.
 #[derive(Clone, Copy, Debug, PartialEq, Eq)]
 pub struct StandingFaults {
     pub last: Option<Last>,
@@ -29,8 +30,8 @@ fn is_same(last: &Last, other: &Last) -> bool
     last.at == other.at && last.raw == other.raw && last.sf == other.sf
 }
 
-/// Returns the differences between the row of an installation and the state of the check after all
-/// entries.
+/// Returns the differences between a meter's row of `installations` and the state of the check
+/// after all entries.
 pub fn standing_faults(check: &Check, standing: &Standing) -> StandingFaults
     ensures last { IsNone result.last ↔ (standing.now.last ≡ check.now.last) }
     ensures total { IsNone result.total ↔ (standing.now.total ≡ check.now.total) }

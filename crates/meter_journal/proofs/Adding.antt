@@ -1,4 +1,5 @@
--- Adding the shares of a new entry one by one to the interval rows.
+-- Adding the shares of a new entry, which are its energies by quarter hour, one by one to the
+-- interval rows.
 use Rattle.std.proofs.Common.{◌≡◌, ℕ, ◌+◌, ◌*◌, ◌^◌, ◌/◌, ◌<◌, ◌≤◌, ◌==◌, Bool, true, false, cond, List, [], ◌∷◌, refl, sym, ap, ◌∙◌, inl, arith}
 use Rattle.std.proofs.lemmas.Bool.{cond-false, eqb-true}
 use Rattle.std.proofs.lemmas.Bool.Decides.{nat_tests}
@@ -58,8 +59,8 @@ added_each (row ∷ next ∷ rows) share shares up rising upto =
     ap (λ rs. row ∷ rs) (added_each (next ∷ rows) share shares up.1 rising upto.1)
     ∙ sym (past_row row (next ∷ rows) (share ∷ shares) (lt, above_lower row.start share.start shares (omega (arith, lt)) rising.0))
 
--- Merging shares into interval rows produces the same rows as adding each share to the row of its
--- interval.
+-- True if merging shares into interval rows produces the same rows as adding each share to the row
+-- of its interval.
 abbrev IsAddedEach : List Share → List Share → Type 0
 IsAddedEach rows shares = with_shares rows shares ≡ with_each shares rows
 

@@ -1,4 +1,4 @@
--- The valid entries of a journal form a lawful journal without voids.
+-- The valid entries of a journal form a journal without voids that obeys the rules.
 use Rattle.std.proofs.Common.{◌≡◌, true, false, List, [], ◌∷◌, map, refl, sym, ap, subst, ◌∙◌, inl, inr}
 use Rattle.std.proofs.lemmas.Bool.{cases_Bool, cond-true, cond-false}
 use Rattle.energy_core.specs.declared.entries.Last.{Last}

@@ -1,4 +1,5 @@
--- The energy of a true run before the start of an interval.
+-- The energy of a true run, which is a list of an honest meter's counts, before the start of an
+-- interval.
 use Rattle.std.proofs.Common.{◌≡◌, ℕ, ℤ, ◌+◌, ◌-◌, ◌*◌, ◌%◌, ◌<◌, ◌≤◌, ◌==◌, nat_lt, nat_le, Bool, true, false, cond, if◌then◌else◌, List, [], ◌∷◌, refl, sym, ap, ◌∙◌, inl, inr, arith}
 use Rattle.std.proofs.Math.Nat.{add-mul}
 use Rattle.std.proofs.lemmas.Bool.{cases_Bool, cond-true, cond-false, eqb-true}
@@ -26,7 +27,7 @@ joined_before bound row share shares true e =
     ])
 joined_before bound row share shares false e = omega arith
 
--- The energy of merged rows and shares before a time is the sum of both energies before this time.
+-- Merging shares into interval rows adds up the energies of both before any time `bound`.
 pub merged_before : (bound : ℕ) (rows shares : List Share)
     → energy_before bound (with_shares rows shares) ≡ energy_before bound rows + energy_before bound shares
 merged_before bound [] shares = omega arith
@@ -76,7 +77,8 @@ none_before law bound step h whole le =
 most_before : SharesAddUp → (bound : ℕ) (step : Step) → step.from < step.till → share_before bound step ≤ step.mwh
 most_before law bound step h = omega (arith, before_most bound (shares_of step), (law step h).whole)
 
--- The latest count of a true run is never less than the first count.
+-- In a true run, which lists the true counts of a meter over time, the latest count is never less
+-- than the first count.
 later : (ceiling : ℕ) (sf : ℤ) (first : Item) (items : List Item) → IsTrueRun ceiling sf first items → first.count ≤ (newest first items).count
 later ceiling sf first [] h = omega arith
 later ceiling sf first (b ∷ items) h = omega (arith, h.1, later ceiling sf first items h.3)

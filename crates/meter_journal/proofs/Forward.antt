@@ -44,6 +44,7 @@ pub last_all : (opening : Last) (rows : List EntryRow) (i : ℕ) (last : Last) �
 last_all opening rows i last le is = is ∙ ap (λ (rs : List EntryRow). last_of opening (entries_in (latest_first rs))) (take_all i rows le)
 
 -- ---- the valid entries of the first rows
+-- If all rows of a list have consecutive sequence numbers, its older rows alone have them too.
 
 pub numbered_below : (newer older : List EntryRow) → AreNumbered (newer ++ older) → AreNumbered older
 numbered_below [] older h = h
@@ -124,6 +125,7 @@ void_at opening place n older row newer lt h at =
     ∙ ap reverse (sym (append_assoc older (struck row ∷ []) (rolled_on (last_of opening (entries_in (latest_first older))) newer)))
 
 -- ---- the search for a row by its sequence number
+-- Choosing the first of three options that has a value gives one result, however they are grouped.
 
 or_assoc : {X : Type 0} (a b c : Option X) → option_or (option_or a b) c ≡ option_or a (option_or b c)
 or_assoc None b c = refl
@@ -175,6 +177,7 @@ none_there place rows h out =
     none_at place (latest_first rows) h (elim out [ inl low ↦ inl low | inr high ↦ inr (omega (arith, high, length-reverse rows)) ])
 
 -- ---- the row at an index
+-- A list consists of the rows before an index, the row at the index, and the rows after it.
 
 split_at : (rows : List EntryRow) (i : ℕ) (d : EntryRow) → i < length rows → rows ≡ take i rows ++ get_or rows i d ∷ drop (i + 1) rows
 split_at rows i d lt = sym (take-append-drop i rows) ∙ ap (λ rs. take i rows ++ rs) (drop_more rows i d lt)

@@ -1,4 +1,4 @@
--- Merging shares into interval rows one by one.
+-- Merging shares, which are energies in single quarter hours, into interval rows one by one.
 use Rattle.std.proofs.Common.{◌≡◌, ℕ, zero, suc, ◌+◌, ◌<◌, ◌≤◌, ◌==◌, Bool, true, false, cond, List, [], ◌∷◌, ◌++◌, length, get_or, set, refl, sym, ap, ◌∙◌, arith, eq-eqb}
 use Rattle.std.proofs.lemmas.Bool.{cond-true, cond-false, eqb-true}
 use Rattle.std.proofs.lemmas.Bool.Decides.{nat_tests}
@@ -44,6 +44,7 @@ joined_none [] share le = refl
 joined_none (row ∷ rows) share le = absurd (omega (arith, le))
 
 -- ---- merging all shares of a step
+-- The interval rows after the shares of a list are merged one by one, from the first to the last.
 
 abbrev pub joined_all : List Share → List Share → List Share
 joined_all rows [] = rows
@@ -98,6 +99,7 @@ all_joined rows (share ∷ shares) rising =
     all_joined (with_shares rows (share ∷ [])) shares rising.1 ∙ one_by_one rows share shares rising
 
 -- ---- the energy of the merged rows
+-- The energy of a row and a list of shares is the same, whether the first share is merged or not.
 
 joined_sum : (row share : Share) (shares : List Share) (b : Bool)
     → energy_of (cond b (record { start = row.start; mwh = row.mwh + share.mwh } ∷ shares) (row ∷ share ∷ shares)) ≡ energy_of (row ∷ []) + energy_of (share ∷ shares)

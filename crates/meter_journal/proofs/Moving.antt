@@ -1,4 +1,5 @@
--- Subtracting and adding shares of interval rows.
+-- Subtracting shares, which are energies in single quarter hours, from interval rows, and adding
+-- shares to the rows.
 use Rattle.std.proofs.Common.{◌≡◌, ℕ, ◌+◌, ◌-◌, ◌%◌, ◌<◌, ◌≤◌, ◌==◌, true, false, cond, List, [], ◌∷◌, ◌++◌, refl, sym, ap, subst, ◌∙◌, inl, inr, arith, nat_lt, eq-eqb}
 use Rattle.std.specs.Prelude.{All, Contains}
 use Rattle.std.specs.List.{filter}
@@ -23,6 +24,7 @@ use Rattle.meter_journal.proofs.Merging.{Among, Above, Rising, EachIs, HasRows, 
 use Rattle.meter_journal.proofs.Striking.{weigh, AllBetween, AreMoved}
 
 -- ---- the sum of the shares in one interval
+-- The energy of a share in the interval that starts at `s`, otherwise 0.
 
 abbrev one_at : Share → ℕ → ℕ
 one_at share s = cond (s == share.start) share.mwh 0
@@ -100,6 +102,7 @@ total_is [] s = refl
 total_is (step ∷ steps) s = omega (arith, total_is steps s)
 
 -- ---- lists of rows with the same starts
+-- If two lists of rows have the same starts, each start in one list is also in the other list.
 
 among_same : (s : ℕ) (rows rows' : List Share) → starts_of rows ≡ starts_of rows' → Among s rows → Among s rows'
 among_same s rows rows' is there = among_of s rows' (subst (λ (ns : List ℕ). Contains ns s) is (contains_of s rows there))
@@ -113,6 +116,7 @@ each_same f g (row ∷ rows) is h =
     (h.0 ∙ is row.start (inl refl), each_same f g rows (λ s there. is s (inr there)) h.1)
 
 -- ---- subtracting shares
+-- Subtracting a share from a row leaves the start of the row unchanged.
 
 less_start : (share row : Share) → (less share row).start ≡ row.start
 less_start share row =
@@ -176,6 +180,7 @@ therein f (share ∷ shares) rows h enough = (
 )
 
 -- ---- adding shares
+-- Adding a share whose interval already has a row leaves the starts of the rows unchanged.
 
 starts_with : (share : Share) (rows : List Share) → Among share.start rows → starts_of (with_share share rows) ≡ starts_of rows
 starts_with share [] there = absurd there
@@ -248,6 +253,7 @@ each_with_each f (share ∷ shares) rows rising h have =
     (have_same shares rows more same have.1))
 
 -- ---- equal lists of rows
+-- In a list of rows in order, the first row has the earliest start.
 
 least : (row : Share) (rows : List Share) (s : ℕ) → Rising (row ∷ rows) → Among s (row ∷ rows) → row.start ≤ s
 least row rows s rising (inl is) = omega (arith, is)
@@ -279,6 +285,7 @@ same_rows f (x ∷ xs) (y ∷ ys) up up' each each' to from =
     ap (λ r. r ∷ xs) first ∙ ap (λ rs. y ∷ rs) rest
 
 -- ---- the rows before a time
+-- The interval rows that begin before the time `last`.
 
 abbrev before_it : (last : ℕ) → List Share → List Share
 before_it last rows = filter (λ row. nat_lt row.start last) rows
@@ -337,6 +344,7 @@ among_kept last s (row ∷ rows) there lt =
     ]
 
 -- ---- the energy of the rows
+-- Adding a share increases the energy of the rows by the energy of the share.
 
 with_energy : (share : Share) (rows : List Share) → energy_of (with_share share rows) ≡ energy_of rows + share.mwh
 with_energy share [] = let mwh : Share → ℕ = λ row. row.mwh in omega (arith, sum_by-cons mwh share [])
@@ -379,6 +387,8 @@ pub shares_move_energy : SharesMoveEnergy
 shares_move_energy shares rows = record { added = all_added shares rows; taken = all_taken shares rows }
 
 -- ---- the rows after a void
+-- If each interval between the times `opened` and `last` has a row, each share of the steps between
+-- these times has a row.
 
 write_have : SharesAddUp → (opened last : ℕ) (steps : List Step) (rows : List Share) → AllBetween opened last steps
     → ((s : ℕ) → Lies opened last s → Among s rows) → HaveRows (all_shares steps) rows

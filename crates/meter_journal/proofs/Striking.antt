@@ -51,7 +51,8 @@ all_unchanged place l (row ∷ rows) h le =
     ap (λ r. r ∷ map (changed_by place None l) rows) (unchanged place None l row off refl)
     ∙ ap (λ rs. row ∷ rs) (all_unchanged place l rows h.1 (omega (arith, le)))
 
--- A row with a later sequence number than all rows of a list is not in the list.
+-- If all rows of a list have sequence numbers below that of `next`, a void changes the list as if
+-- no valid row followed the list.
 next_above : (place : ℕ) (next : EntryRow) (l : Last) (rows : List EntryRow) → AreNumbered rows → length rows + 2 ≤ next.place
     → map (changed_by place (Some next) l) rows ≡ map (changed_by place None l) rows
 next_above place next l [] h le = refl
@@ -63,6 +64,7 @@ next_above place next l (row ∷ rows) h le =
     ∙ ap (λ rs. changed_by place None l row ∷ rs) (next_above place next l rows h.1 (omega (arith, le)))
 
 -- ---- sums over steps with a weight function
+-- The sum of the weights `w step` of all steps of a list.
 
 abbrev pub weigh : (Step → ℕ) → List Step → ℕ
 weigh w [] = 0
@@ -207,7 +209,8 @@ row_after meter place row rows x next off numbers fits follow h =
       };
     }
 
--- Adding a row that was voided earlier keeps the voided entry the last valid entry (`IsLast`).
+-- Adding a row that was voided earlier preserves `IsLast`: the voided entry was the last valid
+-- entry.
 struck_after : (meter : Installed) (place : ℕ) (row : EntryRow) (rows : List EntryRow) (x : Around)
     → row.place == place ≡ false → row.stands ≡ false
     → IsLast meter place rows x → IsLast meter place (row ∷ rows) (passed row x)
@@ -272,8 +275,8 @@ next_moved meter before e0 at raw rolls rolls' h =
       write_between = (begun, omega (arith, there, first, second), omega arith, tt);
     }
 
--- If the voided entry was the last valid entry, the next valid reading becomes the entry after it
--- (`IsFollowed`).
+-- If the voided entry was the last valid entry, a valid reading that is added becomes the next
+-- valid entry (`IsFollowed`).
 next_after : (meter : Installed) (place : ℕ) (row : EntryRow) (rows : List EntryRow) (x : Around)
     → row.place == place ≡ false → row.stands ≡ true → is_read row.kind row.entry ≡ true → is_read x.row.kind x.row.entry ≡ true
     → AreNumbered (row ∷ rows) → AllFollow meter.range meter.opening (entries_in (row ∷ rows))

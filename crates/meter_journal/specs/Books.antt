@@ -34,8 +34,8 @@ steps_after meter es = steps_of meter.range meter.opening es
 abbrev pub verdict_after : Installed → List Entry → Reading → Verdict
 verdict_after meter es reading = verdict_on meter.range meter.ceiling meter.opening es reading
 
--- The entries of a meter have an account: each entry may follow the entries before it, and the
--- total energy is within its limit.
+-- The entries of a meter obey the rules: each entry may follow the entries before it, and the total
+-- energy is within its limit.
 abbrev pub HasAccount : Installed → List Entry → Type 0
 HasAccount meter es =
     IsAccount meter.range meter.opening es (last_after meter es) (total_after meter es)

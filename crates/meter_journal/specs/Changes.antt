@@ -17,8 +17,8 @@ use Rattle.meter_journal.specs.Journal.{Entered, Voided, Journal, Around, entrie
 use Rattle.meter_journal.specs.Lists.{MayGoOn}
 use Rattle.meter_journal.specs.Fitting.{AreFitting}
 
--- An interval row is a quarter hour that begins before the last entry and ends after the opening
--- entry. The last entry is later than the opening entry.
+-- The quarter hour of an interval row overlaps the time from the meter's opening entry, which
+-- installed the meter, to its last entry. The last entry is later than the opening entry.
 pub record LiesWithin (opened last : ℕ) (row : Share) : Type 0 where
   pub quarter : row.start % INTERVAL_SECONDS ≡ 0
   pub following : opened < row.start + INTERVAL_SECONDS
@@ -42,8 +42,8 @@ abbrev pub step_on : Installed → Journal → Entry → Step
 step_on meter lines e = step_to meter.range (last_in meter lines) e
 
 -- The state of a meter after a new entry. The new entry is the last valid entry, and the energy has
--- grown by the step to it. The fields `joined` and `added` state two ways to add the step's shares
--- to the interval rows.
+-- grown by the step to it. The fields `joined` and `added` state two ways to add the step's energy,
+-- divided by quarter hour into shares, to the interval rows.
 pub record ContinuesJournal (meter : Installed) (lines : Journal) (k : EntryKind) (e : Entry) :
     Type 0 where
   pub may : MayGoOn meter (last_in meter lines) (total_in meter lines) e
@@ -64,25 +64,27 @@ EntriesGoOn = (meter : Installed) (lines : Journal) (k : EntryKind) (e : Entry)
     → IsWellInstalled meter
     → AreFitting meter (Entered k e ∷ lines) → ContinuesJournal meter lines k e
 
--- Adding shares to interval rows increases the energy of the rows by the energy of the shares.
--- Subtracting shares never increases the energy of the rows.
+-- Adding shares, which are energies of single quarter hours, to interval rows increases the energy
+-- of the rows by the energy of the shares. Subtracting shares never increases the energy of the
+-- rows.
 pub record MoveEnergy (shares rows : List Share) : Type 0 where
   pub added : energy_in_rows (with_each shares rows) ≡ energy_in_rows rows + energy_in_rows shares
   pub taken : energy_in_rows (without_each shares rows) ≤ energy_in_rows rows
 
--- Theorem: `MoveEnergy` holds for all shares and all interval rows.
+-- Theorem: adding and subtracting any shares changes the energy of any interval rows as
+-- `MoveEnergy` describes.
 abbrev pub SharesMoveEnergy : Type 0
 SharesMoveEnergy = (shares rows : List Share) → MoveEnergy shares rows
 
--- The valid entries before the row `around.row` have an account, whose steps add up to its energy
--- (`IsSound`).
+-- The valid entries before the row `around.row` obey the rules (`HasAccount`). The energies of the
+-- steps between these entries add up to their total energy (`IsSound`).
 pub record WasKept (meter : Installed) (around : Around) : Type 0 where
   pub account : HasAccount meter (entries_in around.before)
   pub sound : let es = entries_in around.before in
       IsSound meter.range meter.opening es (last_after meter es) (total_after meter es)
 
--- Theorem: the valid entries before any row of a journal have an account whose steps add up to its
--- energy.
+-- Theorem: the valid entries before any row of a journal obey the rules (`HasAccount`), and the
+-- energies of the steps between them add up to their total energy.
 abbrev pub PlacesWereKept : Type 0
 PlacesWereKept = (meter : Installed) (lines : Journal) (place : ℕ) (around : Around)
     → IsWellInstalled meter

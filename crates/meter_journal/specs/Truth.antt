@@ -1,4 +1,5 @@
--- Journals whose readings are the readings of a true run of a meter.
+-- Journals whose readings come from an honest meter. Its true counts over time are a true run,
+-- whose items are pairs of a time and a true count.
 use Rattle.std.specs.Prelude.{◌≡◌, ℕ, ℤ, ◌≤◌, ◌%◌, nat_le, true, List, [], ◌∷◌, map, Option, Some, None, if◌then◌else◌}
 use Rattle.std.specs.List.{filter_map, cons_option}
 use Rattle.energy_core.specs.declared.entries.Last.{Last}
@@ -43,9 +44,9 @@ AreReadings (Entered k e ∷ lines) = (is_reading k ≡ true) × AreReadings lin
 AreReadings (Held reading cause ∷ lines) = AreReadings lines
 AreReadings (Voided place ∷ lines) = AreReadings lines
 
--- The readings of the journal are a true run of a meter that is polled often enough. The opening
--- entry, the readings that were valid directly after the last void, and all later readings are its
--- items.
+-- The readings of the journal are those of an honest meter that is polled often enough (a true
+-- run). The opening entry, the readings that were valid directly after the last void, and all later
+-- readings are the items of the run.
 pub record ShowsTrueRun (meter : Installed) (lines : Journal) (first : Item) (items : List Item) :
     Type 0 where
   pub readings_alone : AreReadings lines
@@ -54,25 +55,24 @@ pub record ShowsTrueRun (meter : Installed) (lines : Journal) (first : Item) (it
   pub true_run : IsTrueRun meter.ceiling meter.opening.sf first items
   pub often : IsReadOftenEnough meter.range meter.ceiling meter.opening.sf first items
 
--- The true energy up to the last item of a run at or before the time `bound`, or 0 without such an
--- item.
+-- The true energy up to the last item (a time and a true count) of a run at or before the time
+-- `bound`, or 0 without such an item.
 abbrev pub advance_to : ℤ → Item → List Item → (bound : ℕ) → ℕ
 advance_to sf first [] bound = 0
 advance_to sf first (item ∷ items) bound =
     if nat_le item.at bound then advance sf first item else advance_to sf first items bound
 
--- The true energy up to the first item of a run at or after the time `bound`. Without such an item,
--- it is the energy of the complete run.
+-- The true energy up to the first item (a time and a true count) of a run at or after the time
+-- `bound`. Without such an item, it is the energy of the complete run.
 abbrev pub advance_past : ℤ → Item → List Item → (bound : ℕ) → ℕ
 advance_past sf first [] bound = 0
 advance_past sf first (item ∷ items) bound =
     if nat_le bound (newest first items).at then advance_past sf first items bound
     else advance sf first item
 
--- The journal records a true run truly. No reading after the last void was rejected, and the steps
--- and the energy are the true ones. The energy before the start of an interval is at least the true
--- energy up to the last item at or before this start. It is at most the true energy up to the first
--- item at or after this start.
+-- The journal records the true energy of a run. No reading after the last void was rejected, and
+-- the steps and the total energy are the true ones. The energy before an interval's start lies
+-- between the true energies at the two items around this start.
 pub record IsKeptTruly (meter : Installed) (lines : Journal) (first : Item) (items : List Item) :
     Type 0 where
   pub none_held : held_since lines ≡ []

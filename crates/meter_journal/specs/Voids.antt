@@ -79,8 +79,8 @@ pub record ExchangesSteps (meter : Installed) (lines : Journal) (place : ℕ) (a
   pub out : All IsShareable (steps_out meter around)
   pub put : All IsShareable (steps_put meter around)
 
--- A void subtracts the shares of the removed steps from the interval rows, and adds the shares of
--- the added step. Rows that no step touches any more are removed.
+-- A void subtracts the removed steps' shares, which are energies by quarter hour, from the interval
+-- rows. It then adds the shares of the added step. Rows that no step touches any more are removed.
 pub record ExchangesShares (meter : Installed) (lines : Journal) (place : ℕ) (around : Around) :
     Type 0 where
   pub therein : AreTherein (all_shares (steps_out meter around)) (interval_rows meter lines)

@@ -22,7 +22,8 @@ pub struct Tally {
     pub total: u64,
 }
 
-/// Advances the tally by one entry, and returns the step from the previous entry to this entry.
+/// Advances the tally (the counter's state and the energy) by one entry. Returns the step from the
+/// previous entry to this entry.
 fn advance_entry(meter: &Installed, tally: &mut Tally, entry: &Entry) -> Step
     requires range_low { MIN_RANGE ≤ meter.now.range }
     requires range_high { meter.now.range ≤ MAX_RANGE }
@@ -66,7 +67,8 @@ fn go_past(meter: &Installed, tally: &mut Tally, row: &EntryRow) -> Option<Step>
     Some(advance_entry(meter, tally, &row.entry))
 }
 
-/// Returns the tally of a meter after the valid entries of a list of rows, the oldest row first.
+/// Returns the tally (the counter's state and the energy) of a meter after the valid entries of a
+/// list of rows, the oldest row first.
 pub fn tally_after(meter: &Installed, rows: &[EntryRow]) -> Tally
     requires range_low { MIN_RANGE ≤ meter.now.range }
     requires range_high { meter.now.range ≤ MAX_RANGE }

@@ -29,8 +29,8 @@ pub fn entries_go_on()
 }
 
 /// Theorem: a void changes only the row of the voided entry and the row of the next valid entry.
-/// The shares of the steps to and from the voided entry are subtracted from the interval rows. The
-/// shares of the step between its neighbors are added.
+/// The energies of the steps to and from the voided entry are subtracted from the interval rows.
+/// The energy of the step between its neighbors is added.
 pub fn voids_change_two_rows()
     ensures { VoidsChangeTwoRows }
 {
@@ -43,8 +43,8 @@ pub fn shares_move_energy()
     ensures { SharesMoveEnergy }
 {}
 
-/// Theorem: the valid entries before any entry of a journal have an account whose steps add up to
-/// its energy.
+/// Theorem: the valid entries before any entry of a journal obey the rules, and the energies of the
+/// steps between them add up to their total energy.
 pub fn places_were_kept()
     ensures { PlacesWereKept }
 {}

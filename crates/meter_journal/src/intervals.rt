@@ -1,4 +1,5 @@
-//! Merges the shares of consecutive steps that are in the same quarter-hour interval.
+//! Merges the shares of consecutive steps. A share is the part of a step's energy that falls in one
+//! quarter hour.
 ghost use Rattle.std.specs.Prelude.{◌≡◌, ◌+◌, ◌^◌, ◌≤◌, ◌<◌, ◌++◌, ◌∷◌, [], IsSome};
 ghost use Rattle.std.specs.Prelude.{OnOk, OnErr};
 ghost use Rattle.std.specs.Option.{ForSome, option_to_list};
@@ -11,8 +12,9 @@ use energy_core::{MAX_INTERVALS, MAX_TOTAL, Step};
 use interval_core::{Share, Shares, shares_add_up};
 use std::alloc::AllocError;
 
-/// Merges the next share into the pending row. If the share is in another interval, the share
-/// becomes the pending row and the function returns the completed row.
+/// Merges the next share (an energy in one quarter hour) into the pending interval row. If the
+/// share is in another interval, the share becomes the pending row and the function returns the
+/// completed row.
 pub fn join(pending: &mut Option<Share>, share: Share) -> Option<Share>
     requires { ForSome pending.old (λ row. row.mwh + share.mwh < 2 ^ 64) }
     ensures rows { let so_far = option_to_list pending.old in

@@ -1,5 +1,5 @@
-//! Theorems about every lawful journal of a meter. Each theorem is the contract of a function. The
-//! function's body calls the theorem that the proof needs, or is empty.
+//! Theorems about every journal of a meter that obeys the rules. Each theorem is the contract of a
+//! function. The function's body calls the theorem that the proof needs, or is empty.
 ghost use Rattle.meter_journal.specs.Laws.{JournalsBalance, JournalsAreKept};
 ghost use Rattle.meter_journal.specs.Laws.{IntervalRowsAreAccounts, IntervalRowsAddUp, TruthIsKept};
 ghost use Rattle.meter_journal.specs.Laws.{RowsStand, StandingEntriesFit, VoidsLeaveNoTrace};
@@ -13,14 +13,14 @@ pub fn journals_balance()
     ensures { JournalsBalance }
 {}
 
-/// Theorem: the valid entries of a journal have an account, whatever voids the journal contains.
-/// The steps between these entries add up to the energy of the account.
+/// Theorem: the valid entries of a journal obey the rules, whatever voids the journal contains. The
+/// energies of the steps between these entries add up to their total energy.
 pub fn journals_are_kept()
     ensures { JournalsAreKept }
 {}
 
-/// Theorem: the interval rows are the account of the steps between valid entries. One row exists
-/// for each interval that a step touches, in order, with the sum of all shares in the interval.
+/// Theorem: the interval rows are the energies of the steps between valid entries, added up by
+/// quarter hour. One row exists for each interval that a step touches, in order.
 pub fn interval_rows_are_accounts()
     ensures { IntervalRowsAreAccounts }
 {
@@ -36,9 +36,9 @@ pub fn interval_rows_add_up()
 }
 
 /// Theorem: suppose that the readings that were valid after the last void and all later readings
-/// show a true run. Then no later reading was rejected, and the energy is the true energy. The
-/// energy before the start of any interval is also true, except for the step in progress at that
-/// start.
+/// come from an honest meter that is polled often enough. Then no later reading was rejected, and
+/// the energy is the true energy. The energy before the start of any interval is also true, except
+/// for the step in progress at that start.
 pub fn truth_is_kept()
     ensures { TruthIsKept }
 {

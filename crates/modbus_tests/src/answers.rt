@@ -34,7 +34,7 @@ static IN_GAPS: [Exchange; 6] = [
     },
 ];
 
-/// A device refuses requests for addresses between its areas.
+/// A simulated device refuses requests for addresses in the gaps of its register map.
 #[test]
 fn gaps_are_no_addresses(rt: HostRuntime) {
     let mut bank = Bank::new(rt.alloc(), &GAPS).ok().expect(&rt, "no bank");

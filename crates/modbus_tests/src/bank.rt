@@ -50,7 +50,8 @@ static WRITES: [Write; 6] = [
     },
 ];
 
-/// A device stores values at the addresses of its areas, and refuses any other address.
+/// A simulated device stores values at the addresses of its areas (address ranges), and refuses any
+/// other address.
 #[test]
 fn values_are_kept_where_there_are_addresses(rt: HostRuntime) {
     let mut bank = Bank::new(rt.alloc(), &GAPS).ok().expect(&rt, "no bank");
@@ -63,8 +64,8 @@ fn values_are_kept_where_there_are_addresses(rt: HostRuntime) {
     }
 }
 
-// An area that is invalid in a device with ten coils from address 0, its fault, and the fault's
-// number.
+// An area (address range) that cannot be added to a device with ten coils from address 0, its
+// fault, and the fault's number.
 struct Refused {
     area: Area,
     fault: BankFault,
@@ -110,7 +111,8 @@ static REFUSED: [Refused; 4] = [
     },
 ];
 
-/// An area that overlaps another, is empty or extends past address 65535 is refused.
+/// An area (address range) that overlaps another, is empty or extends past address 65535 is
+/// refused.
 #[test]
 fn areas_have_their_faults(rt: HostRuntime) {
     let coils = Area {

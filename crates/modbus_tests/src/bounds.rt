@@ -1,11 +1,12 @@
-//! Tests a session with the least and the greatest window (1 and 16 pending polls) and timeout (1
-//! and 60 seconds).
+//! Tests a polling session with the least and the greatest window (1 and 16 pending polls) and
+//! timeout (1 and 60 seconds).
 use crate::first_poll::first_poll;
 use crate::session_script::{Asked, Event, GOOD, Line, play, refuse, start};
 use poll_core::{Outcome, Session, StartFault};
 use std::process::Abort;
 
-// Starts as many polls as the window allows, and asserts that one more poll is refused.
+// Starts as many polls as the window (the limit on pending polls) allows, and asserts that one more
+// poll is refused.
 fn fill(rt: &impl Abort, session: &mut Session, window: u8) {
     for number in 0..window {
         let asked = Asked {
@@ -20,7 +21,7 @@ fn fill(rt: &impl Abort, session: &mut Session, window: u8) {
     refuse(rt, session, 1000, StartFault::WindowFull)
 }
 
-/// A window of 1 or of 16 allows exactly this number of pending polls.
+/// A window (a limit on pending polls) of 1 or of 16 allows exactly this number of pending polls.
 #[test]
 fn windows_hold_1_to_16_polls(rt: HostRuntime) {
     fill(&rt, &mut Session::new(5, 1), 1);

@@ -3,8 +3,8 @@ use crate::first_poll::first_poll;
 use crate::session_script::{Event, GOOD, Line, play};
 use poll_core::{ClockBack, Closing, Outcome, StartFault};
 
-/// The events after a refused call: a start is refused too, and the response still completes the
-/// first poll.
+/// The events after a call whose time was earlier than the previous event's. A start with such a
+/// time is refused too, and the response still completes the first poll.
 static AFTERWARDS: [Line; 2] = [
     Line {
         event: Event::Refused {
@@ -22,7 +22,8 @@ static AFTERWARDS: [Line; 2] = [
     },
 ];
 
-/// A session refuses received bytes with an earlier time, and does not change.
+/// A polling session refuses received bytes with an earlier time than the previous event, and does
+/// not change.
 #[test]
 fn a_piece_of_an_earlier_moment_is_refused(rt: HostRuntime) {
     let mut session = first_poll(&rt, 5, 2);
@@ -31,7 +32,8 @@ fn a_piece_of_an_earlier_moment_is_refused(rt: HostRuntime) {
     play(&rt, rt.alloc(), &mut session, &AFTERWARDS)
 }
 
-/// A session refuses a timer event with an earlier time, and does not change.
+/// A polling session refuses a timer event with an earlier time than the previous event, and does
+/// not change.
 #[test]
 fn a_tick_of_an_earlier_moment_is_refused(rt: HostRuntime) {
     let mut session = first_poll(&rt, 5, 2);
@@ -40,7 +42,8 @@ fn a_tick_of_an_earlier_moment_is_refused(rt: HostRuntime) {
     play(&rt, rt.alloc(), &mut session, &AFTERWARDS)
 }
 
-/// A session refuses a close of the connection with an earlier time, and does not change.
+/// A polling session refuses a close of its connection with an earlier time than the previous
+/// event, and does not change.
 #[test]
 fn a_closing_of_an_earlier_moment_is_refused(rt: HostRuntime) {
     let mut session = first_poll(&rt, 5, 2);

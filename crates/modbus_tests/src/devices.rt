@@ -4,7 +4,8 @@ use mb_device::{Area, Bank, Kind};
 use std::alloc::Global;
 use std::process::Abort;
 
-/// The areas of a device: two adjacent areas of holding registers, a third after a gap, and a coil.
+/// The areas (address ranges) of a simulated device: two adjacent areas of holding registers, a
+/// third after a gap, and a coil.
 pub(crate) static GAPS: [Area; 4] = [
     Area {
         kind: Kind::Holding,

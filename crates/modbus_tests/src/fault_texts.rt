@@ -128,7 +128,7 @@ fn frames(rt: HostRuntime) {
     assert_texts(&rt, rt.alloc(), &MALFORMED)
 }
 
-/// Each fault of a device's areas or of a server has its text.
+/// Each fault of a device's areas (address ranges) or of a server has its text.
 #[test]
 fn servers(rt: HostRuntime) {
     assert_texts(&rt, rt.alloc(), &BANKS);

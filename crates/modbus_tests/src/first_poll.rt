@@ -13,7 +13,8 @@ static FIRST: Asked = Asked {
     frame: [0, 0, 0, 0, 0, 6, 1, 3, 0x9c, 0x9e, 0, 3],
 };
 
-/// Creates a session with this timeout in seconds and this window, and starts the first poll.
+/// Creates a polling session with this timeout in seconds and this window (limit on pending polls),
+/// and starts the first poll.
 pub fn first_poll(rt: &impl Abort, timeout: u64, window: usize) -> Session {
     assert!(rt; 1 <= timeout && timeout <= 60);
     assert!(rt; 1 <= window && window <= 16);
@@ -140,8 +141,8 @@ static OTHER_FRAMES: [[Line; 1]; 6] = [
     }],
 ];
 
-/// Plays the events on sessions with a timeout of 5 seconds and windows of 1, 2 and 16, after the
-/// first poll was started.
+/// Plays the events on sessions with a timeout of 5 seconds and windows (limits on pending polls)
+/// of 1, 2 and 16, after the first poll was started.
 pub fn play_at_windows(rt: &impl Abort, alloc: Global, lines: &[Line]) {
     for window in [1, 2, 16] {
         let mut session = first_poll(rt, 5, window);

@@ -1,5 +1,5 @@
-//! Tests that a transaction identifier is not reused after 65,535 further starts, while the poll
-//! with the identifier is still pending.
+//! Tests that the transaction identifier of a pending poll is not reused, even after 65,535 further
+//! polls.
 use crate::session_script::{Asked, Event, Line, feed, play, start};
 use poll_core::{Outcome, Session, StartFault};
 use std::alloc::Global;

@@ -35,7 +35,7 @@ const GARBLED: &[u8] = &[
 ];
 
 // An input stream, the greatest chunk of the link in bytes, the failing call if any, the number of
-// turns, and the expected results.
+// turns (each reads one chunk), and the expected results.
 struct Case {
     input: &'static [u8],
     piece: usize,
@@ -48,7 +48,7 @@ struct Case {
 }
 
 static CASES: [Case; 11] = [
-    // Servers with enough turns for the input, or with too few.
+    // Servers with enough turns (reads of a chunk) for the input, or with too few.
     Case {
         input: READ,
         piece: 12,
@@ -165,15 +165,15 @@ static CASES: [Case; 11] = [
     },
 ];
 
-// Returns whether a server returns `Garbled` without reading or writing.
+// Returns whether a server has ended: it returns `Garbled` again, without reading or writing.
 fn is_over(server: &mut Server, link: &mut MemoryLink<'_>, bank: &mut Bank) -> bool {
     let before = (link.given().len(), link.takes());
     let served = server.serve(link, bank, 9);
     served == Err(ServeFault::Garbled) && (link.given().len(), link.takes()) == before
 }
 
-// Returns whether a server has the expected results, and returns `Garbled` again exactly after a
-// fault.
+// Returns whether a server has the expected results. After a fault, and only then, it must return
+// `Garbled` again.
 fn is_served(rt: &impl Abort, alloc: Global, case: &Case) -> bool {
     let mut bank = bank_with_nine(rt, alloc);
     let mut output = [0; 40];
@@ -194,7 +194,7 @@ fn streams_are_served(rt: HostRuntime) {
     }
 }
 
-/// In one turn, a server responds to each frame that ends in the received chunk.
+/// In one turn, a server reads one chunk, and responds to each frame that ends in this chunk.
 #[test]
 fn one_turn_answers_each_frame_of_its_piece(rt: HostRuntime) {
     let mut bank = bank_with_nine(&rt, rt.alloc());

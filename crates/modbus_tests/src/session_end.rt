@@ -63,7 +63,7 @@ static ENDS: [[Line; 4]; 3] = [
     ],
 ];
 
-/// The end of a session loses all pending polls.
+/// The end of a polling session loses all pending polls.
 #[test]
 fn the_end_of_a_session_loses_polls(rt: HostRuntime) {
     for lines in &ENDS {

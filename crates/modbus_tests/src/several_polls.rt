@@ -58,7 +58,7 @@ static ONE_AFTER_ANOTHER: [Line; 7] = [
     },
 ];
 
-/// The starts of two polls in a session with a window of two.
+/// The starts of two polls in a polling session with a window (a limit on pending polls) of two.
 static TWO_STARTS: [Line; 6] = [
     Line {
         event: Event::Ready { id: 0, count: 2 },

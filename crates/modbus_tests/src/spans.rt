@@ -41,7 +41,7 @@ fn spans_are_lawful(rt: HostRuntime) {
     }
 }
 
-/// A range of registers returns the request that reads its registers.
+/// A range of registers gives the read request for exactly these registers.
 #[test]
 fn a_span_is_asked_for(rt: HostRuntime) {
     assert!(rt; (THREE.function.code(), LAST.function.code()) == (3, 4));

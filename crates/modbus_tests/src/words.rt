@@ -16,7 +16,8 @@ fn words_are_lent(rt: HostRuntime) {
     }
 }
 
-/// A call of `next` that reported a poll is still in progress, and must be called again.
+/// After `next` has reported a poll, `settling` is true: the caller must call `next` again for
+/// further outcomes.
 #[test]
 fn a_reported_call_is_under_way(rt: HostRuntime) {
     let mut session = first_poll(&rt, 5, 2);

@@ -20,7 +20,8 @@ pub reads_lacking : {T U : Type 0} (a b : Ledger) (x : T) (r : Result U BooksFau
 reads_lacking a b x (Ok y) reads lacks = absurd lacks
 reads_lacking a b x (Err fault) reads lacks = reads_without a b x (Err fault) reads lacks
 
--- If memory runs out before the first query, then the store is unchanged.
+-- If memory runs out before the first call of the store, then the unchanged store meets the
+-- guarantees of a sequence of calls.
 pub passes_lacking : {U : Type 0} (a : Ledger) (r : Result U BooksFault) → IsErrAnd r (λ fault. fault ≡ Memory) → LedgerAfterCalls a a r
 passes_lacking a (Ok y) lacks = absurd lacks
 passes_lacking {U} a (Err fault) lacks =

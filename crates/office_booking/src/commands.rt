@@ -1,4 +1,5 @@
-//! Executes the commands that the office accepts, on its store and on the sessions of its devices.
+//! Executes the commands that the office accepts, on its store and on the Modbus sessions of its
+//! devices.
 
 mod additions;
 mod effects;

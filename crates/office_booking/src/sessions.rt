@@ -1,4 +1,5 @@
-//! Defines the slot of a device with its session, and finds slots by device name.
+//! Defines the slot of a device, which has the device's session while the device is connected, and
+//! finds slots by device name.
 
 mod places;
 mod slots;

@@ -51,7 +51,8 @@ consults_then old between new x result first after = record {
   keeps = keeps_then old between new first.keeps after.keeps;
 }
 
--- A sequence of lookups that ends with an error satisfies the guarantees of a write that failed.
+-- If lookups before a write end with an error, then the write was not made, and the guarantees of a
+-- failed write hold.
 pub failed_reading : {T S : Type 0} (old new : Ledger) (known later : List Fact) (why : BooksFault) → Consults {T = T} old new (Err why)
     → Moves {T = S} old new known later (Err why)
 failed_reading old new known later why reads = record {
@@ -90,7 +91,8 @@ settles old new known left facts x books h lawful may = elim (settled_or_none ol
   | inr none ↦ inr (ap (λ (fs : List Fact). with_facts fs known) none.0, none.1)
 ]
 
--- A call of `book` that writes lawful records satisfies all guarantees of `Moves`.
+-- A call of `book` satisfies all guarantees of `Moves` if it writes records that follow the rules
+-- (`AreLawful`).
 pub booked : (old new : Ledger) (known facts : List Fact) (result : Result (Unit {0}) BooksFault)
     → (old.holds known → AreLawful (with_facts facts known)) → Books old new facts result
     → Moves old new known (with_facts facts known) result

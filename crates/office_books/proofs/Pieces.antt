@@ -16,7 +16,7 @@ use Rattle.office_books.specs.declared.entries.MeterEntry.{MeterEntry}
 use Rattle.office_books.specs.declared.entries.MeterEntry.TheVariants as entry
 use Rattle.office_books.specs.Entries.{entries_at, first_from, listed_rows, place_of, scale_after}
 
--- A void changes no row's sequence number.
+-- A void (cancellation of an entry) changes no row's sequence number.
 
 rolled_place : (last : Last) (row : EntryRow) → (journal.rolled last row).place ≡ row.place
 rolled_place last row =

@@ -1,5 +1,4 @@
--- Lists of a meter's entries by sequence number, and of the installations at an accounting
--- register.
+-- Lists of a meter's entries by sequence number, and of the meters at an accounting register.
 use Rattle.std.specs.Prelude.{ℕ, ℤ, nat_le, List, [], ◌∷◌, map, reverse, take, Option, Some, None}
 use Rattle.std.specs.List.{filter}
 use Rattle.energy_core.specs.Account.{last_of}
@@ -49,8 +48,8 @@ first_from from most entries = take most (filter (λ e. nat_le from (place_of e)
 abbrev pub entries_from : List Fact → (meter : List ℕ) → (from most : ℕ) → List MeterEntry
 entries_from facts meter from most = first_from from most (all_entries facts meter)
 
--- The installations at the named accounting register in order of installation, closed meters
--- included.
+-- The meters at the named accounting register with their state, in order of installation, closed
+-- meters included.
 abbrev pub installations_of : List Fact → (register : List ℕ) → List Installation
 installations_of facts register =
     map (installation_of facts) (installations_at facts register)

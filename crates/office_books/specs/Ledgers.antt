@@ -20,16 +20,18 @@ pub record Ledger : Type 1 where
   pub failures : Failures
   pub zone : Zone
 
--- The guarantees of each call of a store. The store counts a failure, its time zone stays the same,
--- and a clean store was clean before the call.
+-- The guarantees of each call of a store. The store counts a failure, and its time zone stays the
+-- same. If the store is clean after the call, which means that no wrong result went undetected,
+-- then it was clean before.
 pub record LedgerAfterCall {T : Type 0} (old new : Ledger) (result : Result T BooksFault) :
     Type 0 where
   pub clean : new.is_clean → old.is_clean
   pub faults : new.failures ≡ faults_after result old.failures
   pub zone : new.zone ≡ old.zone
 
--- The guarantees of a sequence of calls. The failure counter follows from the result, the time zone
--- stays the same, and a clean store was clean before the calls.
+-- The guarantees of a sequence of calls. The failure counter follows from the result, and the time
+-- zone stays the same. If the store is clean after the calls, which means that no wrong result went
+-- undetected, then it was clean before.
 pub record LedgerAfterCalls {T : Type 0} (old new : Ledger) (result : Result T BooksFault) :
     Type 0 where
   pub clean : new.is_clean → old.is_clean
@@ -53,7 +55,8 @@ pub record Consults {T : Type 0} (old new : Ledger) (result : Result T BooksFaul
   pub goes : LedgerAfterCalls old new result
   pub keeps : KeepsFacts old new
 
--- If the store is clean after a lookup, the result of the lookup agrees with the store's records.
+-- True if the result of a lookup agrees with the store's records. The premise is that the store is
+-- clean after the lookup, which means that no wrong result went undetected.
 abbrev pub Finds : {T : Type 0} → (old new : Ledger) → Result T BooksFault
     → (List Fact → T → Type 0) → Type 0
 Finds old new result says = (known : List Fact) → old.holds known → new.is_clean

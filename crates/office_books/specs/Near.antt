@@ -29,8 +29,8 @@ IsWithinWhole facts meter place = (whole : Installation) (found : EntryContext)
     → entry_at facts meter place ≡ Some found
     → found.before.total ≤ whole.total
 
--- The guarantees of the lookup of an entry: it returns the entry with the meter's present total
--- energy, which is at least the energy before the entry.
+-- The guarantees of the lookup of an entry from nearby rows. The lookup returns the entry with the
+-- meter's present total energy, which is at least the energy before the entry.
 pub record ReportsNear (facts : List Fact) (meter : List ℕ) (place : ℕ) (found : Option EntryContext) :
     Type 0 where
   pub near : found ≡ entry_near facts meter place

@@ -22,7 +22,7 @@ pub record AreSame (facts others : List Fact) : Type 0 where
   pub outcomes : IsPermutation (ended_in facts) (ended_in others)
   pub replies : IsPermutation (replies_in facts) (replies_in others)
 
--- If the model of a clean and open store allows two lists of records, both lists have the same
+-- True if all lists of records that the model of a clean and open store allows have the same
 -- tables.
 abbrev pub AreKnown : Ledger → Type 0
 AreKnown books =

@@ -1,5 +1,5 @@
--- Guarantees of lookups that return only installations with all numbers in range, even from a
--- damaged store.
+-- Guarantees of lookups of a meter's state (its installation). All numbers of the returned state
+-- are in range, even if the store is damaged.
 use Rattle.std.specs.Prelude.{◌≡◌, ◌≤◌, ◌<◌, ◌+◌, false, List, Option, Result, Ok, Err, IfOk, IfSome}
 use Rattle.energy_core.specs.declared.limits.TheConstants.{MAX_CEILING, MAX_RANGE, MIN_RANGE}
 use Rattle.energy_core.specs.declared.admission.TermFault.{TermFault}
@@ -36,8 +36,8 @@ pub record HasNumbers (opening : Opening) : Type 0 where
 abbrev pub HaveAccount : Opening → List EntryRow → Type 0
 HaveAccount opening rows = HasAccount (installed opening) (entries_in (latest_first rows))
 
--- The guarantees of a lookup of an installation: it changes nothing, and returns only an
--- installation with all numbers in range, even from a damaged store.
+-- The guarantees of a lookup of a meter's state: it changes nothing, and returns only a state with
+-- all numbers in range, even from a damaged store.
 pub record ReadsInstallation (old new : Ledger) (result : Result (Option Installation) BooksFault) :
     Type 0 where
   pub reads : OnlyReads old new result
@@ -50,20 +50,20 @@ pub record ReadsPlace (old new : Ledger) (result : Result (Option EntryContext) 
     pub reads : OnlyReads old new result
     pub sound : IfOk result (λ place. IfSome place (λ p. IsSound p.before))
 
--- True if the entry may follow as the next entry of this installation.
+-- True if the entry is admissible as the next entry of this installed meter.
 abbrev pub MayEnter : Installation → Entry → Type 0
 MayEnter row e =
     entered row.opening.range row.total row.last e
     ≡ Ok (after row.last e, step_to row.opening.range row.last e)
 
--- If the entry is admissible, `moved` is the meter's state after the entry, with the
--- energy of the entry added.
+-- True if `moved` is the meter's state after the entry, with the energy of the entry added. An
+-- entry that is not admissible is not considered.
 abbrev pub MovesBy : Entry → (row moved : Installation) → Type 0
 MovesBy e row moved =
     (last : Last) (step : Step) → entered row.opening.range row.total row.last e ≡ Ok (last, step)
     → (moved.last ≡ last) × (moved.total ≡ row.total + step.mwh)
 
--- If the entry is not admissible, the meter's state is unchanged.
+-- True if an inadmissible entry leaves the meter's state unchanged.
 abbrev pub StaysAt : Entry → (row moved : Installation) → Type 0
 StaysAt e row moved =
     (fault : TermFault) → entered row.opening.range row.total row.last e ≡ Err fault → moved ≡ row

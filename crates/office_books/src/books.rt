@@ -31,7 +31,7 @@ pub enum Repeat {
     Other,
 }
 
-/// A store of lawful records.
+/// A store of lawful records, which are records that the rules accept one after another.
 ///
 /// A lookup reads the records and never changes them. `book` adds all of its records, or none.
 ///
@@ -128,21 +128,22 @@ pub trait Books: Drop {
             (λ known n. n ≡ length (registers_of known device.now)) }
         ensures reads { OnlyReads (ledger self.old) (ledger self.new) result };
 
-    /// Returns the installation of the meter with the name, or `None` if no meter has this name.
+    /// Returns the installation (opening, last entry and total energy) of the meter with the name,
+    /// or `None` if no meter has this name.
     fn meter(&mut self, name: &Name) -> Result<Option<Installation>, BooksFault>
         ensures found { Finds (ledger self.old) (ledger self.new) result
             (λ known row. row ≡ meter_of known name.now) }
         ensures reads { ReadsInstallation (ledger self.old) (ledger self.new) result };
 
-    /// Returns the latest installation at an accounting register, open or closed, or `None` if no
-    /// meter was installed there.
+    /// Returns the latest meter at an accounting register, open or closed, with its state, or
+    /// `None` if no meter was installed there.
     fn installation(&mut self, register: &Name) -> Result<Option<Installation>, BooksFault>
         ensures found { Finds (ledger self.old) (ledger self.new) result
             (λ known row. row ≡ installation_at known register.now) }
         ensures reads { ReadsInstallation (ledger self.old) (ledger self.new) result };
 
-    /// Returns the installations at an accounting register in order of installation, closed meters
-    /// included.
+    /// Returns the meters at an accounting register with their state, in order of installation,
+    /// closed meters included.
     fn meters(&mut self, register: &Name) -> Result<Vec<Installation>, BooksFault>
         ensures found { Finds (ledger self.old) (ledger self.new) result
             (λ known v. v.items ≡ installations_of known register.now) }
@@ -251,8 +252,8 @@ pub trait Books: Drop {
             (λ known. holds_within span (holds_of known meter.now)) }
         ensures reads { OnlyReads (ledger self.old) (ledger self.new) result };
 
-    /// Adds all of these records, or none of them. Each record must be lawful after the records
-    /// before it.
+    /// Adds all of these records, or none of them. The rules must accept each record after the
+    /// records before it.
     fn book(&mut self, facts: Vec<Fact>) -> Result<(), BooksFault>
         ensures books { ledgers.Books (ledger self.old) (ledger self.new) facts.items result };
 }

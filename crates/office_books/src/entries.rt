@@ -11,8 +11,8 @@ use meter_journal::EntryRow;
 use office_events::Opening;
 use std::alloc::{AllocError, Global};
 
-/// An entry of a meter. A later void can only mark it as invalid, or change its number of rollovers
-/// if the entry before it is voided.
+/// An entry of a meter. A later void (cancellation) can only mark the entry as invalid, or change
+/// its number of rollovers if the entry before it is voided.
 #[derive(Clone, Copy, Debug, PartialEq, Eq)]
 pub enum MeterEntry {
     /// The opening: the state of the counter when the meter was installed. The opening has sequence

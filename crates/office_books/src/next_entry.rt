@@ -1,4 +1,4 @@
-//! Judges and adds the next entry of an installation.
+//! Judges and adds the next entry of an installed meter.
 ghost use Rattle.std.specs.Prelude.{◌≡◌};
 ghost use Rattle.office_rules.specs.Readings.{judgement};
 ghost use Rattle.office_rules.specs.Ranges.{IsSound};
@@ -19,7 +19,7 @@ fn terms_of(row: &Installation) -> Terms
     }
 }
 
-/// Returns the verdict on a reading that follows the present state of an installation.
+/// Returns the verdict on a reading that follows the present state of an installed meter.
 pub fn verdict_at(row: &Installation, reading: &Reading) -> Verdict
     requires { IsSound row.now }
     ensures { result ≡ judgement row.now reading.now }
@@ -30,7 +30,7 @@ pub fn verdict_at(row: &Installation, reading: &Reading) -> Verdict
     energy_core::judge(&counter, &terms_of(row), &row.last, reading)
 }
 
-/// Returns the installation after one more entry, or the unchanged installation if the entry is not
+/// Returns the state of a meter after one more entry, or the unchanged state if the entry is not
 /// admissible.
 pub fn after_entry(row: &Installation, entry: &Entry) -> Installation
     requires { IsSound row.now }
@@ -53,8 +53,8 @@ pub fn after_entry(row: &Installation, entry: &Entry) -> Installation
     }
 }
 
-/// Returns the installation after a stored entry, which closes the installation if it is a closing
-/// entry. An installation with a number out of range is returned unchanged.
+/// Returns the state of a meter after a stored entry, which closes the meter if it is a closing
+/// entry. A state with a number out of range is returned unchanged.
 pub fn moved(row: &Installation, booked: &BookedEntry) -> Installation
     ensures { IsSound row.now → MayEnter row.now booked.now.entry
         → result ≡ moved_by booked.now.kind booked.now.entry row.now }

@@ -1,11 +1,11 @@
-//! Checks whether all numbers of an installation are in range.
+//! Checks whether all numbers of a meter's state are in range.
 ghost use Rattle.std.specs.Prelude.{◌≡◌, false, IsTrue};
 ghost use Rattle.office_rules.specs.Ranges.{IsSound};
 
 use energy_core::{MAX_CEILING, MAX_RANGE, MAX_SCALE, MAX_TOTAL, MIN_RANGE, MIN_SCALE};
 use office_events::Installation;
 
-/// Returns true if all numbers of an installation are in range, as judging its next reading
+/// Returns true if all numbers of a meter's state are in range, as judging its next reading
 /// requires.
 pub fn is_sound(row: &Installation) -> bool
     ensures so { IsTrue result → IsSound row.now }

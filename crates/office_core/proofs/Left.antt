@@ -1,4 +1,5 @@
--- Lemmas that the store agrees with the accepted events after each call.
+-- Lemmas that the store has the records of the accepted events after each call, also if a crash
+-- follows.
 use Rattle.std.proofs.Common.{◌≡◌, ◌⊎◌, zero, suc, List, [], ◌∷◌, ◌++◌, inl, inr, refl, sym, ◌∙◌, arith, Result, Ok, Err}
 use Rattle.std.specs.Prelude.{All}
 use Rattle.std.proofs.lemmas.List.Elements.{All-append}
@@ -60,7 +61,8 @@ moved_not old new next past why moves is_past clean stand = record {
   leaves = leaves_err new next past stand.leaves.left stand.leaves.each is_past (moves.under_way stand.leaves.left stand.holds clean stand.leaves.may);
 }
 
--- After a successful call, a crash leaves the records of the accepted events.
+-- After a successful call of the store, a crash leaves the records of the accepted events, the new
+-- event included.
 pub done_left : {T : Type 0} (old new : Ledger) (next : Accepted) (past : History) (x : T) → Moves old new (facts_of past) (facts_of (next ∷ past)) (Ok x)
     → new.is_clean → BooksStand old past → Leaves old new (LeftOnceDone past next)
 done_left old new next past x moves clean stand = λ before may. elim (moves.settled before stand.holds clean may) [

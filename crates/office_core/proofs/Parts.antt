@@ -1,5 +1,5 @@
--- The lemma that the interval rows of a meter in the span of all times are all interval rows of the
--- meter.
+-- The lemma that a query for a meter's interval rows (energy by quarter hour) in the span of all
+-- times returns all of them.
 use Rattle.std.proofs.Common.{◌≡◌, ℕ, List, refl, subst}
 use Rattle.std.specs.Prelude.{Option, Some, None, Result}
 use Rattle.std.specs.Option.{option_map}

@@ -1,5 +1,5 @@
--- Lemmas that the days of a range can be computed from the interval rows of a time span around the
--- range.
+-- Lemmas about the energy of each civil day in a range. It can be computed from the interval rows
+-- (energy by quarter hour) of a time span around the range.
 use Rattle.std.proofs.Common.{◌≡◌, ℕ, ◌<◌, Bool, true, false, cond, Some, None, List, [], ◌∷◌, length, refl, sym, ap, subst, ◌∙◌, inl, inr, arith}
 use Rattle.std.specs.Prelude.{ℤ, ◌<ℤ◌, ◌&&◌, Contains, filter, map}
 use Rattle.std.specs.Ordering.{int_eq}
@@ -19,7 +19,7 @@ use Rattle.office_books.specs.declared.spans.Span.TheVariants as span
 use Rattle.office_books.specs.Spans.{is_within, rows_within}
 use Rattle.office_core.specs.DayRange.{accounts_within}
 
--- ---- a list that two filters process one after the other
+-- ---- a filter after a weaker filter has the same result as alone
 
 filter_through : {X : Type 0} (p q : X → Bool) → ((x : X) → p x ≡ true → q x ≡ true) → (xs : List X) → filter p (filter q xs) ≡ filter p xs
 filter_through p q through [] = refl
@@ -118,7 +118,8 @@ module _ (zone : Zone) (asked : ℤ → Bool) where
   abbrev of_rows : ℤ → List Share → DayAccount
   of_rows day rows = record { day = day; count = distinct_count (starts_of rows); mwh = energy_of rows }
 
-  -- The requested days equal the days of those interval rows whose days are requested.
+  -- If `accounts` are the days of all interval rows, then the requested days among them are the
+  -- days of the rows on requested days.
   pub accounts_asked : (rows : List Share) (accounts : List DayAccount) → AreAccounts zone rows accounts → AreAccounts zone (filter row_asked rows) (filter account_asked accounts)
   accounts_asked rows accounts are = record {
     in_order = in_order accounts are.in_order;

@@ -1,4 +1,4 @@
--- Lemmas about several queries to the office in a row.
+-- Lemmas about several queries to the office, each made only if the query before it succeeded.
 use Rattle.std.proofs.Common.{◌≡◌, inl, inr, true, Option, Some, None, refl, sym, ap, subst, ◌∙◌}
 use Rattle.std.specs.Prelude.{Result, Ok, Err}
 use Rattle.office_events.specs.declared.refusals.Refusal.{Refusal}
@@ -43,8 +43,8 @@ pub found_so : {T : Type 0} (m : Type 0) (found : Option T) (before after : Fail
     → IsFound m found before after (Ok x)
 found_so m found before after x is same = inl (ap or_not_found (sym is), same)
 
--- If a first query succeeds and a second query fails, then the result of both queries is the
--- failure.
+-- If the query for `f` is refused, then the query for `g`, which needs `f`, is refused for the same
+-- reason.
 pub refused_on : {T U : Type 0} (few many : Type 0) (f : Option T) (g : Option U) (before mid after : Failures) (why : Refusal) → (few → many)
     → (f ≡ None → g ≡ None) → mid ≡ before → IsFound few f mid after (Err why) → IsFound many g before after (Err why)
 refused_on {T} {U} few many f g before mid after why more nothing same (inl is) =
@@ -115,7 +115,7 @@ module _ {B : Type 0} (ledger : B → Ledger) where
     zone = more.zone ∙ first.zone;
   }
 
-  -- If an office answered a query, then the office has not stopped.
+  -- If an office answered a query with `Ok`, then the office had not stopped.
   pub goes_on : {T : Type 0} (a b : Office B) (x : T) → OnlyAsks ledger a b (Ok x) → is_stopped a ≡ true → ⊥
   goes_on a b x asks stopped = let e = asks.stopped.1 stopped in cc e
 
@@ -133,7 +133,8 @@ module _ {B : Type 0} (ledger : B → Ledger) where
     zone = kept.zone;
   }
 
-  -- If memory runs out after a successful query, then the guarantees of a query hold.
+  -- If memory runs out after successful queries, then the refusal `Memory` meets the guarantees of
+  -- a query.
   pub without_memory : {U : Type 0} (a b : Office B) → (is_stopped a ≡ true → ⊥) → Keeps ledger a b
       → OnlyAsks {T = U} ledger a b (Err refusal.Memory)
   without_memory a b goes kept = record {

@@ -1,4 +1,4 @@
--- Lemmas about a sink that adds up interval rows by civil day.
+-- Lemmas about the sink that adds up interval rows (energy by quarter hour) by civil day.
 use Rattle.std.proofs.Common.{◌≡◌, ℕ, ◌+◌, ◌≤◌, ◌<◌, Bool, not, List, [], ◌∷◌, ◌++◌, length, get_or, Option, Some, None, inr, refl, sym, ap, subst, ◌∙◌, arith, append_assoc, length-append}
 use Rattle.std.specs.Prelude.{MatchOption, MatchResult, Result, Ok, Err, map, unwrap_or}
 use Rattle.std.specs.declared.alloc.Global.{Global}

@@ -68,8 +68,8 @@ abbrev pub IsRowFound : {T : Type 0} → Option T → (before after : Failures) 
     → Type 0
 IsRowFound found before after result = IsFound ⊥ found before after result
 
--- The guarantees of a query that passes rows to a sink. The sink got the first of the rows, and all
--- of them on `Ok`. The result is `NotFound` if the rows do not exist.
+-- The guarantees of a query that passes rows to a sink, a visitor of rows. The sink got the first
+-- of the rows, and all of them on `Ok`. The result is `NotFound` if the rows do not exist.
 pub record HandsRows {S T : Type 0} (takes : S → T → S → Type 0) (rows : Option (List T))
     (before after : Failures) (from to : S) (result : Result (Unit {0}) Refusal) : Type 0 where
   pub answer : IsRowFound (is_there rows) before after result
@@ -91,8 +91,8 @@ pub record TakesDays {S : Type 0} (takes : S → DayTotal → S → Type 0) (zon
   pub few : length days < 2 ^ 64
   pub took : TakesAll takes from days to
 
--- The guarantees of a query that passes days to a sink. The sink got all days on `Ok` and none on
--- an error. Memory outside the store is needed only if the register exists.
+-- The guarantees of a query that passes days to a sink, a visitor of days. The sink got all days on
+-- `Ok` and none on an error. Memory outside the store is needed only if the register exists.
 pub record HandsDays {S : Type 0} (takes : S → DayTotal → S → Type 0) (zone : Zone)
     (facts : List Fact) (register : Option (List ℕ)) (before after : Failures) (from to : S)
     (result : Result (Unit {0}) Refusal) : Type 0 where
@@ -117,16 +117,17 @@ RowsIn takes old new from to result rows =
     (known : List Fact) → old.holds known → new.is_clean
     → HandsRows takes (rows known) old.failures new.failures from to result
 
--- True if the days of a query agree with the store's lawful records. The premise is that no wrong
--- result of the store went undetected.
+-- True if the days of a query agree with the store's records. The premises are that the records
+-- follow the rules (`AreLawful`), and that no wrong result of the store went undetected.
 abbrev pub DaysIn : {S : Type 0} → (S → DayTotal → S → Type 0) → (old new : Ledger) → (from to : S)
     → Result (Unit {0}) Refusal → (register : Option (List ℕ)) → Type 0
 DaysIn takes old new from to result register =
     (known : List Fact) → AreLawful known → old.holds known → new.is_clean
     → HandsDays takes old.zone known register old.failures new.failures from to result
 
--- True if the result is the list of an accounting register's days in a time span, or a failure.
--- This requires lawful records, and that no wrong result of the store went undetected.
+-- True if the result is the list of an accounting register's days in a time span, or a failure. The
+-- premises are that the store's records follow the rules (`AreLawful`), and that no wrong result of
+-- the store went undetected.
 abbrev pub ListsDays : (old new : Ledger) → (register : List ℕ) → Span
     → Result (Vec DayTotal Global) Refusal → Type 0
 ListsDays old new register span result =
@@ -189,7 +190,8 @@ CountsAsked before after (Ok x) = after ≡ before
 CountsAsked before after (Err why) = CountsWhy before after why
 
 -- The effect of a query on the store. The records, the records that a crash may leave, and the time
--- zone are unchanged. A store with an undetected wrong result is still not clean after the query.
+-- zone are unchanged. If the store is clean (no wrong result went undetected) after the query, it
+-- was clean before.
 pub record Asks {T : Type 0} (old new : Ledger) (result : Result T Refusal) : Type 0 where
   pub keeps : KeepsFacts old new
   pub counts : CountsAsked old.failures new.failures result

@@ -78,8 +78,8 @@ pub record HandsDaysWithin {S : Type 0} (takes : S → DayTotal → S → Type 0
   pub whole : OnOk result (TakesDaysWithin takes zone facts register range before after)
   pub none : OnErr result (after ≡ before)
 
--- True if the days of a query for a range agree with the store's lawful records. The premise is
--- that no wrong result of the store went undetected.
+-- True if the days of a query for a range agree with the store's records. The premises are that the
+-- records follow the rules (`AreLawful`), and that no wrong result of the store went undetected.
 abbrev pub DaysWithinIn : {S : Type 0} → (S → DayTotal → S → Type 0) → (old new : Ledger)
     → (before after : S) → Result (Unit {0}) Refusal → (register : Option (List ℕ))
     → DayRange → Type 0
@@ -88,8 +88,9 @@ DaysWithinIn takes old new before after result register range =
     → HandsDaysWithin takes old.zone known register range old.failures new.failures
     before after result
 
--- True if the result is the list of an accounting register's days in the range, or a failure. This
--- requires lawful records, and that no wrong result of the store went undetected.
+-- True if the result is the list of an accounting register's days in the range, or a failure. The
+-- premises are that the store's records follow the rules (`AreLawful`), and that no wrong result of
+-- the store went undetected.
 abbrev pub ListsDaysWithin : (old new : Ledger) → (register : List ℕ) → DayRange
     → Result (Vec DayTotal Global) Refusal → Type 0
 ListsDaysWithin old new register range result =

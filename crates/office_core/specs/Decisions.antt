@@ -1,4 +1,5 @@
--- The decision whether an event is accepted, before the office executes the event.
+-- The decision whether an event is accepted, refused, or answered as a retry. The office decides
+-- before it executes the event.
 use Rattle.std.specs.Prelude.{◌≡◌, ℕ, List, false, Option, Some, None, Result, Ok, Err, IfOk, IfSome, IsOk}
 use Rattle.office_events.specs.declared.answers.Answer.{Answer}
 use Rattle.office_events.specs.declared.answers.Answer.TheVariants as answer
@@ -20,8 +21,8 @@ abbrev pub Decides : History → (at : ℕ) → Event → Option (Result Answer 
 Decides past at e None = IsAccepted past at e
 Decides past at e (Some given) = given ≡ decision_of past at e
 
--- True if the result, computed from the slots and the store, is the correct decision on the event.
--- This requires that no wrong result of the store went undetected.
+-- True if the result is the correct decision on the event, computed from the devices' slots and the
+-- store. The premise is that no wrong result of the store went undetected.
 abbrev pub Decided : (old new : Ledger) → List Slot → (latest at : ℕ) → Event
     → Result (Option (Result Answer Refusal)) BooksFault → Type 0
 Decided old new kept latest at e result =

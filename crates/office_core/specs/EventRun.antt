@@ -38,7 +38,8 @@ in_turn (fed ∷ events) (result ∷ results) =
 abbrev pub events_of : {B : Type 0} → List (ℕ × Event) → Run B → List Answered
 events_of events run = in_turn events run.results.items
 
--- The history after these answered events, which has the openings and the accepted events.
+-- The history after these answered events. It is the history `past` with the accepted ones of the
+-- events.
 abbrev pub history_after : History → List Answered → History
 history_after past [] = past
 history_after past (fed ∷ later) =
@@ -70,8 +71,8 @@ ReportsOfLast past (fed ∷ []) office = IsReported past fed.at fed.event fed.re
 ReportsOfLast past (fed ∷ next ∷ later) office =
     ReportsOfLast (with_answer past fed.at fed.event fed.result) (next ∷ later) office
 
--- True if the office refused exactly the events after its stop as stopped. If an event that may end
--- polls fails, the office stops.
+-- True if the office refused with `Stopped` exactly the events that came after it had stopped. The
+-- office stops if an event that may end polls fails.
 abbrev pub StopsInTurn : (before after : Bool) → List Answered → Type 0
 StopsInTurn before after [] = after ≡ before
 StopsInTurn before after (fed ∷ later) =
@@ -99,8 +100,8 @@ LeftByRun past opened fed before after =
     (between : List (List Fact)) × LeftOnceDone past (Opened opened) before between
     × LeftInTurn (Opened opened ∷ past) fed between after
 
--- True if `says` holds for each successful run of events over a store that agrees with a history.
--- The premise is that no wrong result of the store went undetected.
+-- True if the property `says` holds for each successful run of events over a store that agrees with
+-- a history. The premise is that no wrong result of the store went undetected.
 abbrev pub Ran : {B : Type 0} → (B → Ledger) → (books : B)
     → Result (Run B) (B × Refusal) → (History → Run B → Type 0) → Type 0
 Ran ledger books result says = (past : History) → BooksStand (ledger books) past
@@ -113,8 +114,8 @@ pub record StandsAfter {B : Type 0} (ledger : B → Ledger)
   pub office : Stands ledger (history_after begun (events_of events run)) run.office
   pub reported : ReportsOfLast begun (events_of events run) run.office
 
--- True if a run of events that does not start returns the store with the reason. Either memory for
--- the answers ran out and the store is unchanged, or the opening was refused or failed.
+-- True if a run that could not start returns the store with the reason. Either memory for the
+-- answers ran out and the store is unchanged, or the office's opening was refused or failed.
 abbrev pub HandsBack : {B : Type 0} → (B → Ledger) → (books : B) → (opened : ℕ) → History
     → B × Refusal → Type 0
 HandsBack ledger books opened past back =
@@ -139,7 +140,7 @@ AnswersEach ledger books begun events run =
 
 -- True if the store has the records of the history, and the promise in `Headline.antt` holds for
 -- these records. Voided entries have no effect. If a meter has correct readings and is read often
--- enough, it has its true energy in each quarter hour.
+-- enough, its recorded energy in each quarter hour is its true energy.
 pub record BooksRecord (books : Ledger) (history : History) : Type 0 where
   pub accepted : IsPast history
   pub holds : books.holds (facts_of history)
@@ -160,7 +161,8 @@ abbrev pub RecordsIfClean : {B : Type 0} → (B → Ledger) → (opened : ℕ) �
 RecordsIfClean ledger opened events past run =
     (ledger (books_in run.office)).is_clean → RecordsAccepted ledger opened events past run
 
--- True if a store that is clean after a run of events was also clean before the run.
+-- True if a store that is clean (no wrong result went undetected) after a run of events was also
+-- clean before the run.
 abbrev pub IsCleanOnlyIfWas : {B : Type 0} → (B → Ledger) → (books : B) → Run B → Type 0
 IsCleanOnlyIfWas ledger books run =
     (ledger (books_in run.office)).is_clean → (ledger books).is_clean
@@ -169,7 +171,8 @@ IsCleanOnlyIfWas ledger books run =
 -- and no event is refused because a quarter hour has no civil day. The stop and the failure counter
 -- follow from the answers.
 --
--- If the store is clean after the run, it was clean before the run. The time zone stays the same.
+-- If the store is clean (no wrong result went undetected) after the run, it was clean before the
+-- run. The time zone stays the same.
 pub record EndsInTurn {B : Type 0} (ledger : B → Ledger)
     (books : B) (events : List (ℕ × Event)) (run : Run B) : Type 0 where
   pub each : length run.results.items ≡ length events

@@ -20,7 +20,7 @@ StoreFailed store.Refused before after = after ≡ failed_by (fault.Store kind.R
 StoreFailed store.Damaged before after = after ≡ failed_by (fault.Store kind.Damaged) before
 StoreFailed store.NoDay before after = ⊥
 
--- True if memory ran out in the store, which noted the failure, or outside the store. Memory
+-- True if memory ran out in the store, which counted the failure, or outside the store. Memory
 -- outside the store is needed only if `takes_memory` holds.
 abbrev pub MemoryLacked : (takes_memory : Type 0) → (before after : Failures) → Type 0
 MemoryLacked takes_memory before after =
@@ -48,16 +48,15 @@ CountsFailures before after (Err (refusal.Store why)) = StoreFailed why before a
 CountsFailures before after (Err refusal.Memory) = MemoryLacked (Unit {0}) before after
 CountsFailures before after (Err _) = after ≡ before
 
--- The failure counter after an event that the office refuses with a cause of the store. `Refused`
--- is not counted if all poll numbers are used.
+-- The failure counter after an event was refused with a cause of the store. The failure was counted
+-- once. `Refused` may also mean that all poll numbers are used, which is not counted.
 abbrev pub StoreCounts : (before after : Failures) → StoreCause → Type 0
 StoreCounts before after store.Refused =
     StoreFailed store.Refused before after ⊎ (after ≡ before)
 StoreCounts before after why = StoreFailed why before after
 
 -- The failure counter after an event. Each failure that the answer reports was counted, with two
--- exceptions. Not counted is memory that ran out outside the store, and that all poll numbers are
--- used.
+-- exceptions: memory ran out outside the store, or all poll numbers are used.
 abbrev pub Counts : {T : Type 0} → (before after : Failures) → Result T Refusal → Type 0
 Counts before after (Ok x) = after ≡ before
 Counts before after (Err (refusal.Store why)) = StoreCounts before after why
@@ -86,7 +85,7 @@ is_failure (Err (refusal.Store why)) = true
 is_failure (Err refusal.Memory) = true
 is_failure (Err _) = false
 
--- True if the event stops the office. The event may end polls and failed, so some sessions may have
--- been updated and others not.
+-- True if the event stops the office. The event may end polls and failed, so some Modbus sessions
+-- may have been updated and others not.
 abbrev pub stops : Event → Result Answer Refusal → Bool
 stops e result = may_settle e && is_failure result

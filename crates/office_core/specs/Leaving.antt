@@ -10,8 +10,8 @@ use Rattle.office_rules.specs.History.{History, Accepted, Opened, Fed, facts_of}
 use Rattle.office_rules.specs.Lawfulness.{IsPast}
 use Rattle.office_books.specs.Ledgers.{Ledger}
 
--- True if the records are those after one more event or opening than in the history `past`. The
--- event or opening may follow a shorter history with the same records.
+-- True if `facts` are the records of `past` and of one more event or opening. That event may follow
+-- a different history, `earlier`, that has the same records as `past`.
 pub record IsOneMore (past : History) (facts : List Fact) : Type 0 where
   pub next : Accepted
   pub earlier : History
@@ -38,9 +38,9 @@ pub record BooksStand (ledger : Ledger) (past : History) : Type 0 where
   pub holds : ledger.holds (facts_of past)
   pub leaves : StopLeaves ledger past
 
--- Each list of records is one state of the file that a reader may find after a crash. In the
--- definitions below, `before` has the states that a crash during a call may leave, and `after`
--- those that a crash after the call may leave.
+-- A crash may leave the database file in one of several states, each a list of records. In the
+-- definitions below, `before` has the states that a crash during a call may leave. `after` has the
+-- states that a crash after the call may leave.
 
 -- The effect of an accepted event or opening on the records that a crash may leave. A crash leaves
 -- exactly the records with this event. If the event added no record, a crash may leave the same
@@ -80,8 +80,8 @@ LeftByOpening past at (Err refusal.Memory) before after =
     LeftOnceFailed past (Opened at) before after
 LeftByOpening past at (Err why) before after = after ≡ before
 
--- True if `so` relates two collections of lists of records. A crash may leave the first lists
--- before a call, and the second lists after the call.
+-- True if `so` describes how a call changes the lists of records that a crash may leave: `before`
+-- the call and `after` it.
 abbrev pub Leaves : (old new : Ledger) → ((before after : List (List Fact)) → Type 0) → Type 0
 Leaves old new so = (before : List (List Fact)) → old.may_leave before
     → (after : List (List Fact)) × so before after × new.may_leave after

@@ -48,13 +48,14 @@ entries_within facts meter from most =
     option_map (λ opening. first_from from most (entries_at facts (Some opening)))
     (option_and_then (opening_of facts) meter)
 
--- The installations at the named accounting register, or `None` if no register has the name.
+-- The meters at the named accounting register with their state (installation), or `None` if no
+-- register has the name.
 abbrev pub meters_at : List Fact → (register : List ℕ) → Option (List Installation)
 meters_at facts register =
     option_map (λ row. installations_of facts register) (register_of facts register)
 
--- The installations at the named accounting register, or `None` if no register has the name or the
--- name is invalid.
+-- The meters at the named accounting register with their state, or `None` if no register has the
+-- name or the name is invalid.
 abbrev pub meters_named : List Fact → (register : Option (List ℕ)) → Option (List Installation)
 meters_named facts register = option_and_then (meters_at facts) register
 

@@ -1,4 +1,4 @@
--- The effect of an opening of the office on the store.
+-- The effect on the store when an office is opened over the store.
 use Rattle.std.specs.Prelude.{◌≡◌, ◌⊎◌, ℕ, max, List, ◌∷◌, None, Some, Result, Ok, Err, IfErr}
 use Rattle.std.specs.declared.alloc.Global.{Global}
 use Rattle.std.specs.declared.vec.Vec.{Vec}
@@ -14,9 +14,9 @@ use Rattle.office_core.specs.declared.office.Office.{Office}
 use Rattle.office_core.specs.Leaving.{BooksStand, Leaves, LeftByOpening}
 use Rattle.office_core.specs.Standing.{books_in}
 
--- The effect of an opening that was refused for its timestamp or that failed. The store's records
--- are unchanged. Memory outside the store is needed only if no reason to refuse the opening
--- applies.
+-- The effect of an opening of the office that was refused for its timestamp or that failed. The
+-- store's records are unchanged. Memory outside the store is needed only if no reason to refuse the
+-- opening applies.
 --
 -- A crash may leave the same records as before. If the opening failed, a crash may also leave the
 -- complete records of the opening.
@@ -34,8 +34,9 @@ abbrev pub HandsBackUnopened : {B : Type 0} → (B → Ledger) → (books : B) �
 HandsBackUnopened ledger books at past back =
     (ledger back.0).is_clean → IsNotOpened past at (ledger books) (ledger back.0) back.1
 
--- The records that a crash may leave after an opening. A crash leaves the records with those of the
--- opening. If the opening added no record, a crash may leave the same lists of records as before.
+-- The records that a crash may leave after the office was opened. A crash leaves the records with
+-- those of the opening. If the opening added no record, a crash may leave the same lists of records
+-- as before.
 abbrev pub LeavesOpening : {B : Type 0} → (B → Ledger) → (books : B) → (at : ℕ) → History
     → Office B → Type 0
 LeavesOpening ledger books at past office = (ledger (books_in office)).is_clean
@@ -46,8 +47,8 @@ LeavesOpening ledger books at past office = (ledger (books_in office)).is_clean
 abbrev pub asking_moment : History → (given : ℕ) → ℕ
 asking_moment past given = max given (latest_in (facts_of past))
 
--- The effect of an opening at timestamp `at`. The store has the records of the opening, and each
--- device has a slot.
+-- The effect of a successful opening of the office at timestamp `at`. The store has the records of
+-- the opening, and each device has a slot.
 pub record IsReopened (past : History) (at : ℕ) (old new : Ledger) (slots : List Slot) :
     Type 0 where
   pub books : BooksStand new (Opened at ∷ past)
@@ -60,9 +61,9 @@ abbrev pub Reopens : History → (at : ℕ) → (old new : Ledger) → Result (V
 Reopens past at old new (Ok slots) = IsReopened past at old new slots.items
 Reopens past at old new (Err why) = IsNotOpened past at old new why
 
--- The guarantees of an opening, whatever the store returned. The opening reports exactly the
--- store's failures. If the store is clean after the opening, it was clean before. The time zone
--- stays the same.
+-- The guarantees of an opening of the office, whatever the store returned. The opening reports
+-- exactly the store's failures. If the store is clean (no wrong result went undetected) after the
+-- opening, it was clean before. The time zone stays the same.
 --
 -- No opening is refused as stopped, or because a quarter hour has no civil day.
 pub record Passed {T : Type 0} (old new : Ledger) (result : Result T Refusal) : Type 0 where

@@ -18,7 +18,8 @@ use Rattle.office_core.specs.Failing.{IsOutside}
 use Rattle.office_core.specs.Standing.{After}
 use Rattle.office_core.specs.Taking.{failures_of}
 
--- The row of an accounting register, which has the register and its latest installation, if any.
+-- The row of an accounting register: the register and its latest meter with the meter's state, if
+-- any.
 abbrev pub row_at : List Fact → Register → SiteRow
 row_at facts register =
     record { register = register; meter = installation_at facts register.name }

@@ -23,8 +23,8 @@ notes_in office = office.notes.items
 abbrev pub outgoing_in : {B : Type 0} → Office B → List ℕ
 outgoing_in office = office.outgoing
 
--- The state of a running office after a history. The office has the latest accepted timestamp, and
--- a slot with the session of each device.
+-- The state of a running office after a history of events. The office has the latest accepted
+-- timestamp, and a slot with the connection state (session) of each device.
 pub record Goes {B : Type 0} (past : History) (office : Office B) : Type 0 where
   pub latest : office.latest ≡ latest_of past
   pub slots : KeepsSlots office.slots.items (slots_of past)

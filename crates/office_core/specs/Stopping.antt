@@ -44,7 +44,7 @@ EventsAreLeftWhole =
     → All (λ facts. AreOfEvents past fed facts
     ⊎ AreOfBefore past (history_after past fed) before facts) after
 
--- Theorem: the theorem on crashes also holds for a run of events, which starts with the opening of
+-- Theorem: `EventsAreLeftWhole` also holds for a run of events, which starts with the opening of
 -- the office.
 abbrev pub RunsAreLeftWhole : Type 0
 RunsAreLeftWhole =

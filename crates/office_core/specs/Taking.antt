@@ -54,8 +54,8 @@ pub record IsReported {B : Type 0} (past : History) (at : ℕ) (e : Event)
 -- if and only if it has stopped, and never because a quarter hour has no civil day.
 --
 -- If an event that may end polls fails, the office stops. The office reports exactly the store's
--- failures. If the store is clean after the event, it was clean before. The time zone stays the
--- same.
+-- failures. If the store is clean (no wrong result went undetected) after the event, it was clean
+-- before. The time zone stays the same.
 pub record Ends {B : Type 0} (ledger : B → Ledger) (old new : Office B) (e : Event)
     (result : Result Answer Refusal) : Type 0 where
   pub stopped : (result ≡ Err refusal.Stopped) ↔ (is_stopped old ≡ true)
@@ -76,8 +76,9 @@ pub record IsQuiet {B : Type 0} (old new : Office B) (result : Result Answer Ref
   pub answer : is_failure result ≡ false
   pub books : books_in new ≡ books_in old
 
--- The preconditions of processing an event. The office is running, its notifications and bytes are
--- cleared, and a point list in the event has a plan.
+-- The preconditions of processing an event. The office is running, and its notifications and bytes
+-- to send are cleared. If the event sets a point list, the list has a plan: the Modbus reads that
+-- cover it.
 pub record MayTake {B : Type 0} (ledger : B → Ledger) (past : History) (e : Event)
     (office : Office B) : Type 0 where
   pub books : BooksStand (ledger office.books) past
@@ -115,8 +116,8 @@ TakesAccepted ledger at e old new result =
     → Takes ledger past at e old new result
 
 -- The guarantees of processing an event, whatever the store returned. The office reports exactly
--- the store's failures. If the store is clean after the event, it was clean before. The time zone
--- and the stopped flag stay the same.
+-- the store's failures. If the store is clean (no wrong result went undetected) after the event, it
+-- was clean before. The time zone and the stopped flag stay the same.
 --
 -- The event is not refused as stopped, or because a quarter hour has no civil day.
 pub record Passes {B : Type 0} (ledger : B → Ledger) (old new : Office B)

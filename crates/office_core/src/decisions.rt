@@ -58,7 +58,7 @@ pub fn stops(event: &Event, given: &Result<Answer, Refusal>) -> bool
     may_settle(event) && is_failure(given)
 }
 
-/// Proves that a point list in the event has a plan of its reads.
+/// Proves that a point list in the event has a plan: the Modbus reads that cover the list.
 pub fn prove_list_is_planned(event: &Event)
     ensures { PutsPlanned (command_in event.now) }
 {

@@ -16,11 +16,11 @@ use std::alloc::Global;
 /// Opens an office over a store and processes these events, each at its timestamp.
 ///
 /// Timestamps are in seconds since 1970-01-01 UTC. Each event has one answer. At the end the store
-/// has the records of the accepted events, and the promise in `Headline.antt` holds for them. This
-/// requires that no wrong result of the store went undetected.
+/// has the records of the accepted events, and the promise in `Headline.antt` holds for them. The
+/// premise is that no wrong result of the store went undetected.
 ///
-/// The run allocates memory for all answers before it opens the office. If either step fails, the
-/// caller gets the store back.
+/// The run allocates memory for all answers before it opens the office. If the allocation or the
+/// opening fails, the caller gets the store back.
 pub fn run<B: Books>(
     alloc: Global,
     books: B,

@@ -56,8 +56,8 @@ pub struct Office<B: Books> {
 impl<B: Books> Office<B> {
     /// Opens an office over a store, at the timestamp `moment` in seconds since 1970-01-01 UTC.
     ///
-    /// The office records each pending poll as lost, and no device is connected. If the opening is
-    /// refused, the caller gets the store back.
+    /// At the opening no device is connected, and the office records each poll that was still
+    /// pending as lost. If the opening is refused, the caller gets the store back.
     pub fn open(alloc: Global, mut books: B, moment: u64) -> Result<Office<B>, (B, Refusal)>
         ensures opened { (past : History) → BooksStand (B.ledger books) past
             → IfOk result (StandsIfClean B.ledger (Opened moment ∷ past)) }
@@ -106,7 +106,8 @@ impl<B: Books> Office<B> {
         }
     }
 
-    /// Records the outcomes of the polls that an accepted device event ends.
+    /// Records the outcomes of the polls that an accepted device event ends, such as a response or
+    /// a timeout.
     fn settle(&mut self, moment: u64, event: &Event) -> Result<Answer, Refusal>
         requires settling { events.is_command event.now ≡ false }
         requires limit { moment ≤ moment_limit }
@@ -224,8 +225,8 @@ impl<B: Books> Office<B> {
         questions::register(&mut self.books, name)
     }
 
-    /// Returns the present installation of the meter with the name. The name `None` is invalid, and
-    /// no meter has it.
+    /// Returns the installation of the meter with the name: its opening, last entry and total
+    /// energy. The name `None` is invalid, and no meter has it.
     pub fn meter(&mut self, name: &Option<Name>) -> Result<Installation, Refusal>
         ensures found { ReportsRow B.ledger self.old self.new result
             (λ facts. option_and_then (meter_of facts) name.now) }
@@ -238,8 +239,8 @@ impl<B: Books> Office<B> {
         questions::meter(&mut self.books, name)
     }
 
-    /// Returns the latest installation at an accounting register, open or closed. The name `None`
-    /// is invalid, and no register has it.
+    /// Returns the latest meter at an accounting register, open or closed, with its state. The name
+    /// `None` is invalid, and no register has it.
     pub fn installation(&mut self, register: &Option<Name>) -> Result<Installation, Refusal>
         ensures found { ReportsRow B.ledger self.old self.new result
             (λ facts. option_and_then (installation_at facts) register.now) }
@@ -344,8 +345,8 @@ impl<B: Books> Office<B> {
         questions::holds(&mut self.books, meter, span, sink)
     }
 
-    /// Returns the installations at an accounting register in order of installation, closed meters
-    /// included. The name `None` is invalid, and no register has it.
+    /// Returns the meters at an accounting register with their state, in order of installation,
+    /// closed meters included. The name `None` is invalid, and no register has it.
     pub fn meters(&mut self, register: &Option<Name>) -> Result<Vec<Installation>, Refusal>
         ensures listed { ListsAccepted B.ledger self.old self.new result
             (λ facts. meters_named facts register.now) }

@@ -86,7 +86,8 @@ pub fn register<B: Books>(books: &mut B, name: &Option<Name>) -> Result<Register
     found(books.register(name))
 }
 
-/// Returns the present installation of a meter, or the refusal `NotFound`.
+/// Returns the installation of a meter (its opening, last entry and total energy), or the refusal
+/// `NotFound`.
 pub fn meter<B: Books>(books: &mut B, name: &Option<Name>) -> Result<Installation, Refusal>
     ensures found { FoundIn (B.ledger books.old) (B.ledger books.new) result
         (λ known. option_and_then (meter_of known) name.now) }
@@ -99,7 +100,8 @@ pub fn meter<B: Books>(books: &mut B, name: &Option<Name>) -> Result<Installatio
     found(books.meter(name))
 }
 
-/// Returns the latest installation at an accounting register, or the refusal `NotFound`.
+/// Returns the latest meter at an accounting register with its state (installation), or the refusal
+/// `NotFound`.
 pub fn installation<B: Books>(
     books: &mut B,
     register: &Option<Name>,
@@ -203,8 +205,8 @@ pub fn holds<B: Books, K: RowSink<HeldReading>>(
     Ok(())
 }
 
-/// Returns the installations at an accounting register in order of installation, closed meters
-/// included.
+/// Returns the meters at an accounting register with their state, in order of installation, closed
+/// meters included.
 pub fn meters<B: Books>(
     books: &mut B,
     register: &Option<Name>,

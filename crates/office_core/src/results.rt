@@ -1,5 +1,5 @@
-//! The result of a run of events. The type is not in the module of the function `run`, because a
-//! module cannot contain both names.
+//! The result of a run of events. The type has its own module, because a module cannot contain both
+//! the type `Run` and the function `run`.
 use crate::office::Office;
 use office_books::Books;
 use office_events::{Answer, Refusal};

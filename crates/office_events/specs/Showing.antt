@@ -6,7 +6,8 @@ use Rattle.office_events.specs.declared.events.Event.{Event}
 use Rattle.office_events.specs.declared.refusals.Refusal.{Refusal}
 
 -- The report of an event: its time, the event, its answer, its notifications and the frames to
--- send. `place` is the index of the device whose polling round caused the event, or `None`.
+-- send. `place` is the index of the device whose polling round (the reads of its plan) caused the
+-- event, or `None`.
 pub record Shown : Type 0 where
   pub place : Option ℕ
   pub at : ℕ

@@ -1,5 +1,6 @@
 //! The types of the events that reach the office, of its answers, notifications and records. The
-//! office is the program's state over one store.
+//! office is the program's state over one store: it polls devices and records the energy of their
+//! meters.
 #![tactic(auto)]
 
 mod answers;

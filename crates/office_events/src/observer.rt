@@ -4,8 +4,8 @@ use crate::events::Event;
 use crate::refusals::Refusal;
 
 /// An observer that gets a report of each event: the event, its answer, its notifications and the
-/// frames to send. `place` is the index of the device whose polling round caused the event, or
-/// `None`.
+/// frames to send. `place` is the index of the device whose polling round (the reads of its plan)
+/// caused the event, or `None`.
 pub trait Observer {
     ghost use Rattle.std.specs.Prelude.{Option};
     ghost use Rattle.office_events.specs.Showing.{Shown, shown};

@@ -68,8 +68,8 @@ pub enum Refusal {
     TotalFull,
     /// The meter at the accounting register is closed.
     Ended,
-    /// The device is not connected or is already connected, or its session can start no further
-    /// poll.
+    /// The device is not connected or is already connected, or it can start no further poll, for
+    /// example because too many polls are pending.
     Busy,
     /// The caller already used this idempotency key for a different request.
     Reused,

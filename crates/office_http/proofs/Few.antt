@@ -18,7 +18,8 @@ use Rattle.office_rules.proofs.Journals.{IsInstalled, installed_fits, well}
 use Rattle.office_rules.proofs.Lookups.{find_passes, same_text}
 use Rattle.office_core.specs.Asking.{intervals_of, rows_in}
 
--- The lemmas on journals from which the bound on the number of interval rows follows.
+-- Theorems on the journal of a meter, which is the history of its entries. They bound the number of
+-- the meter's interval rows.
 pub record FromJournals : Type 0 where
   pub accounts : IntervalRowsAreAccounts
   pub within : RowsLieWithin

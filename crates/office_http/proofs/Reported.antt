@@ -99,7 +99,7 @@ some_rows n count is = grind (arith, nat_tests)
 below : {n : ℕ} → n < 18446744073709551616 → n ≤ most
 below h = omega (arith, h)
 
--- The result of a query that succeeded.
+-- The result of a query that succeeded, without its rows.
 abbrev whole_answer : Unit {0} → Result (Unit {0}) Refusal
 whole_answer x = Ok x
 
@@ -169,7 +169,8 @@ module _ {B : Type 0} (ledger : B → Ledger) (past : History) (at : ℕ) (read 
         puts = put.0;
       })
 
-  -- If the store fails before the first row of a report, then the response reports that failure.
+  -- If the store fails before the first row of a report, then the response that reports this
+  -- failure is the complete response.
   failed_served : (takes_memory : Type 0) (why : Refusal) (from out : Outgoing) (cut : Option Refusal) → IsOutside takes_memory (failures_of ledger old) (failures_of ledger new) why → Reported why
       → StandsStill ledger past old new → sending.Puts from out (reply_bytes (refused why)) × (cut ≡ None) → Puts ledger past at read old new from out cut
   failed_served takes_memory why from out cut outside reported stands put =
@@ -292,7 +293,7 @@ zero_or_more : (n : ℕ) → (n ≡ 0) ⊎ (0 < n)
 zero_or_more zero = inl refl
 zero_or_more (suc n) = inr (omega arith)
 
--- For any content of the store, the call writes only to its response.
+-- However a report ends, the call only appends some text to the response.
 ended_gives : (lines : Report) (answer : Result (Unit {0}) Refusal) (out : Outgoing) (cut : Option Refusal) → EndsReport lines answer out cut
     → (text : List ℕ) × sending.Puts lines.out out text
 ended_gives lines (Ok x) out cut ends = (_, ends.0)

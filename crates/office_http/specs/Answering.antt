@@ -21,8 +21,8 @@ use Rattle.office_core.specs.Asking.{AreDaysNamed, intervals_of, or_not_found}
 use Rattle.http_answer.specs.Kinds.{kind_answered}
 use Rattle.http_answer.specs.Offices.{Office}
 
--- The result of a command by its kind. Without a kind the store is damaged: the program answers
--- Noted to a command only after wrong data of the store.
+-- The result of an executed command: its kind. A command's answer lacks the kind only if the store
+-- returned wrong data, so the result is then a damaged store.
 abbrev pub or_damaged : Option CommandKind → Result CommandKind Refusal
 or_damaged None = Err (refusal.Store store.Damaged)
 or_damaged (Some kind) = Ok kind
@@ -37,7 +37,7 @@ abbrev pub IsRegister : List Fact → (name : Option (List ℕ)) → Type 0
 IsRegister facts name = option_and_then (register_of facts) name ≡ None → ⊥
 
 -- The answer to a query for days: the daily energy of the accounting register, in the configured
--- time zone. Without such a register there is no answer.
+-- time zone. If the store has no such register, the query is refused.
 pub record AnswersDays (zone : Zone) (facts : List Fact)
     (answer : Option (List ℕ) → Result (List DayTotal) Refusal) : Type 0 where
   pub known : (name : Option (List ℕ)) (days : List DayTotal) → IsRegister facts name
@@ -45,8 +45,8 @@ pub record AnswersDays (zone : Zone) (facts : List Fact)
   pub unknown : (name : Option (List ℕ)) → option_and_then (register_of facts) name ≡ None
       → answer name ≡ Err refusal.NotFound
 
--- The program's answers. Answers to queries follow from the records of its accepted events, and
--- answers to commands from the rules for commands.
+-- The program's answers at the time `at`. Answers to queries follow from the records of the events
+-- that the program accepted earlier. Answers to commands follow from the rules for commands.
 pub record AnswersAt (zone : Zone) (past : History) (at : ℕ) (office : Office) : Type 0 where
   pub meter : (name : Option (List ℕ))
       → office.meter name ≡ or_not_found (option_and_then (meter_of (facts_of past)) name)

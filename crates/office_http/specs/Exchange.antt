@@ -73,7 +73,7 @@ pub record Passage : Type 0 where
   pub later_given : Option (List ℕ)
   pub last : Option LastTake
 
--- The model of a link before and after a call, from its five parts.
+-- The model of a link (a client's connection) before and after a call, from its five parts.
 abbrev pub passage : (remaining later_remaining given later_given : Option (List ℕ))
     → Option LastTake
     → Passage
@@ -85,8 +85,8 @@ passage remaining later_remaining given later_given last = record {
   last = last;
 }
 
--- Before the last read from the link, the bytes held neither a complete request nor an invalid
--- head. Also true if the call read nothing.
+-- The call made no unnecessary read from the link. Before the last read, the bytes held neither a
+-- complete request nor an invalid head. Also true if the call read nothing.
 abbrev pub StopsReading : (read : List ℕ) → Option LastTake → Type 0
 StopsReading read last = (read ≡ []) ⊎ TakesWhatLacks (IsUnfinished routes) [] read last
 
@@ -109,8 +109,8 @@ pub record GivesReply {B : Type 0} (ledger : B → Ledger) (past : History) (at 
   pub serves : Serves ledger past at read old new cut put
   pub gives : Gives sent given later_given put
 
--- For every history of accepted events that matches the program's state, the call wrote the
--- response to the bytes in `read`.
+-- The call wrote the response to the bytes in `read`, if `past` is the history of events that the
+-- program accepted earlier.
 abbrev pub GivesReplyTo : {B : Type 0} → (read : List ℕ) → (B → Ledger) → (at : ℕ)
     → (old new : Office B) → (given later_given : Option (List ℕ)) → Result (Unit {0}) HandleFault
     → History → Type 0
@@ -126,8 +126,8 @@ pub record Replies {B : Type 0} (ledger : B → Ledger) (at : ℕ) (old new : Of
   pub replies : After ledger old new
       (GivesReplyTo read ledger at old new link.given link.later_given result)
 
--- The bytes hold neither a complete request nor an invalid head. The call wrote nothing and left
--- the program's state unchanged.
+-- The bytes hold neither a complete request nor an invalid head, so the call failed. It wrote
+-- nothing and left the program's state unchanged.
 pub record ReadsOn {B : Type 0} (old new : Office B) (link : Passage) (read : List ℕ) : Type 0 where
   pub goes_on : IsUnfinished routes read
   pub nothing : Keeps link.given link.later_given

@@ -37,8 +37,8 @@ with_asked past at None = past
 with_asked past at (Some asked) =
     with_answer past at (event.Asked asked) (decision_of past at (event.Asked asked))
 
--- The response is the program's answer by the records of its accepted events. If the bytes hold a
--- command, the history is extended by that command.
+-- The response has the program's answer, which follows from the events that it accepted earlier
+-- (`past`). If the bytes hold a command, then `later` is this history with the command added.
 pub record IsAnswered (zone : Zone) (past : History) (at : ℕ) (read reply : List ℕ)
     (later : History)
     : Type 0 where
@@ -82,9 +82,9 @@ abbrev pub IsPut : (cut : Option Refusal) → (put reply : List ℕ) → Type 0
 IsPut None put reply = reply ≡ put
 IsPut (Some why) put reply = IsCutOff put reply
 
--- The program executed the command in the bytes, and the answer is the program's answer to that
--- command. A crash leaves the earlier records, and the records of this command completely or not at
--- all.
+-- The program executed the command in the bytes, and `answer` is its answer to that command. After
+-- a crash, the store has all earlier records. It has the records of this command completely or not
+-- at all.
 pub record IsFed (old new : Ledger) (past : History) (at : ℕ) (read : List ℕ) (later : History) :
     Type 0 where
   pub asked : Asked
@@ -94,15 +94,15 @@ pub record IsFed (old new : Ledger) (past : History) (at : ℕ) (read : List ℕ
   pub leaves : Leaves old new (LeftByEvent past at (event.Asked asked) answer)
 
 -- Either the program executed the command in the bytes, or it executed nothing. In the second case,
--- a crash leaves the earlier records.
+-- the store has all earlier records after a crash.
 abbrev pub LeavesServed : (old new : Ledger) → (past : History) → (at : ℕ) → (read : List ℕ)
     → (later : History) → Type 0
 LeavesServed old new past at read later =
     IsFed old new past at read later ⊎ ((later ≡ past) × KeepsFacts old new)
 
--- The call wrote the response to the bytes or a part of the response, and the program's state
--- matches its accepted events. A crash leaves the earlier records, perhaps with the records of the
--- command in the bytes.
+-- The call wrote the response to the bytes, or a part of the response. The program's state results
+-- from the accepted events in `later`. After a crash, the store has all earlier records, perhaps
+-- with those of the command in the bytes.
 pub record Serves {B : Type 0} (ledger : B → Ledger) (past : History) (at : ℕ) (read : List ℕ)
     (old new : Run B) (cut : Option Refusal) (put : List ℕ) : Type 0 where
   pub reply : List ℕ
@@ -121,7 +121,7 @@ pub record Puts {B : Type 0} (ledger : B → Ledger) (past : History) (at : ℕ)
   pub puts : sending.Puts from to put
 
 -- For any content of the store, no request makes the program refuse further events or changes its
--- time zone. The mark that the store once returned wrong data is not cleared.
+-- time zone. A store that has returned wrong data stays marked as not clean (`is_clean`).
 pub record Lasts {B : Type 0} (ledger : B → Ledger) (old new : Run B) : Type 0 where
   pub stopped : is_stopped new ≡ is_stopped old
   pub clean : (ledger (books_in new)).is_clean → (ledger (books_in old)).is_clean

@@ -1,4 +1,5 @@
--- Properties of a command's action on an office that was opened over a store.
+-- Properties of a command's action on an office (the engine that records meters' energy) that was
+-- opened over a store.
 use Rattle.std.proofs.Common.{◌≡◌, inr, ℕ, List, Option, ◌∷◌, subst}
 use Rattle.command_io.specs.declared.status.ExitStatus.{ExitStatus}
 use Rattle.office_events.specs.Names.{named}

@@ -56,8 +56,8 @@ exchange last rolls = command.Exchange (record {
   range = 4294967296;
 })
 
--- After an hour, an entry of 100,001 counts is not doubted. The counter may have been about to
--- advance by the first count, so this count may need no energy.
+-- After an hour, an entry of 100,001 counts is not doubted. When the hour began, the counter may
+-- have been about to advance, so the first count may need no energy.
 the_most_in_an_hour : doubted_at 4600 (manual 105001 0 None) wh ≡ None
 unfolding unit_of
 the_most_in_an_hour = refl
@@ -80,8 +80,8 @@ one_more_half_an_hour_ago : doubted_at 4600 (manual 55002 0 (Some 2800)) wh ≡ 
 unfolding unit_of
 one_more_half_an_hour_ago = refl
 
--- The last reading of a replaced or closed meter is doubted under the same rule as a manual
--- reading. The same holds for the reading before a change of a meter.
+-- A closing, the end of an exchanged meter and the reading before a reset or rescaling are doubted
+-- under the same rule as a manual reading.
 the_most_before_an_exchange : doubted_at 4600 (exchange 105001 0) wh ≡ None
 unfolding unit_of
 the_most_before_an_exchange = refl
@@ -116,7 +116,7 @@ one_more_before_another_scale :
 unfolding unit_of
 one_more_before_another_scale = refl
 
--- If the counter has rolled over before an entry, then the entry counts the rollover.
+-- An entry after a rollover counts the full range of the rollover.
 --
 -- The meter's counter rolls over at 65,536 and counts thousandths of a Wh. A second ago it showed
 -- 65,000.

@@ -86,8 +86,8 @@ fails_too : (p q : Bool) → (p ≡ true → q ≡ true) → q ≡ false → p �
 fails_too true q implies isnt = absurd (let e : false ≡ true = sym isnt ∙ implies refl in cc e)
 fails_too false q implies isnt = refl
 
--- If a test implies a second test, then filtering a list by both tests equals filtering by the
--- first test.
+-- If a first test implies a second test, then filtering a list by both tests equals filtering by
+-- the first test.
 filter_among : {X : Type 0} (p q : X → Bool) → ((x : X) → p x ≡ true → q x ≡ true) → (xs : List X) → filter p (filter q xs) ≡ filter p xs
 filter_among p q implies [] = refl
 filter_among p q implies (x ∷ xs) =
@@ -497,8 +497,8 @@ module _ {B : Type 0} (ledger : B → Ledger) (zone : Zone) (range : DayRange) w
       (failures_of ledger a) (failures_of ledger a) (failures_of ledger b) why (λ none. tt) (gone_meters facts (meters_named facts register)) refl
       (listed_err (meters_named facts register) (failures_of ledger a) (failures_of ledger b) why (lists past stands clean))
 
--- If the write of a statement succeeded, then the statement was printed completely. If the write
--- failed, then the statement was printed in part.
+-- If the write of a statement succeeded, then the complete statement was printed. If the write
+-- failed, then a part of the statement was printed.
 pub written_so : {E : Type 0} (written : Result (Unit {0}) E) (text : List ℕ) (meant status : ExitStatus) (old new : Option (List ℕ))
     → status ≡ cond (is_ok written) meant Failed → GotText written text old new → IsReported text meant status old new
 written_so (Ok done) text meant status old new ends got = inl (ends, got)

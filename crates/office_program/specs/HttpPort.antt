@@ -1,4 +1,5 @@
--- The result of a command that serves HTTP on a port, for an office that is opened over a store.
+-- The result of a command that serves HTTP on a port. The command opens an office, the engine that
+-- records meters' energy, over a store of its records.
 use Rattle.std.specs.Prelude.{◌≡◌, ℕ, List, Option}
 use Rattle.office_rules.specs.History.{History}
 use Rattle.office_books.specs.Ledgers.{Ledger}
@@ -20,8 +21,9 @@ pub record Port : Type 0 where
 abbrev pub port : (names : List (List ℕ)) → (connections : ℕ) → Port
 port names connections = record { names = names; connections = connections }
 
--- The state of an office after it served a port. It answered at most this many connections, each at
--- the clock's time. If the end is `NoPort`, nothing changed.
+-- The state of an office after it served HTTP on a port. The office answered at most
+-- `at.connections` connections, each at the clock's time. If the command can't listen on the port,
+-- nothing changed.
 abbrev pub ServesPort : {B : Type 0} → Port → (then later : Option (List ℕ)) → (B → Ledger)
     → (past : History) → (opened left : Office B) → ServeEnd → Type 0
 ServesPort at then later ledger past opened left NoPort = left ≡ opened
@@ -38,8 +40,8 @@ pub record Serves {B : Type 0} (ledger : B → Ledger) (at : Port)
   pub serves : ServesPort at then later ledger following opened left end
   pub silent : holds ≡ had
 
--- True if the office was opened and served HTTP on the port. If the opening was refused, only the
--- refusal was printed.
+-- True if the office was opened and served HTTP on the port. If opening the office was refused,
+-- only the refusal was printed.
 abbrev pub ReportsServing : {B : Type 0} → (B → Ledger) → (past : History) → Port
     → (moments later : Option (List ℕ)) → (books back : B) → (had holds : Option (List ℕ))
     → ServeEnd → Type 0
@@ -48,8 +50,8 @@ ReportsServing ledger past at moments later books back had holds (Unopened statu
 ReportsServing ledger past at moments later books back had holds end =
     WithOffice ledger past moments back (Serves ledger at later had holds end)
 
--- The state before or after a command: the store, the clock as far as it is known, and the printed
--- text.
+-- The state before or after a command, for use in contracts: the store, the clock as far as it is
+-- known, and the printed text.
 pub record Scene (B : Type 0) : Type 0 where
   pub books : B
   pub moments : Option (List ℕ)
@@ -59,8 +61,8 @@ pub record Scene (B : Type 0) : Type 0 where
 abbrev pub scene : {B : Type 0} → B → (moments written : Option (List ℕ)) → Scene B
 scene books moments written = record { books = books; moments = moments; written = written }
 
--- True if `ReportsServing` holds for every history that the store records at the start. No wrong
--- result of the store may be used until the end.
+-- The contract of the command that serves HTTP. It promises `ReportsServing` for any history that
+-- the store records at the start, if the command used no wrong result of the store.
 abbrev pub ServesBooks : {B : Type 0} → (B → Ledger) → Port → ServeEnd → (old new : Scene B)
     → Type 0
 ServesBooks ledger at end old new =

@@ -1,5 +1,5 @@
--- The energies in the statements of a register's meters, compared with the energy in the register's
--- report on the same days.
+-- The theorem on bills: the energies in the statements of a register's meters add up to the energy
+-- in the register's report on the same days.
 use Rattle.std.specs.Prelude.{◌≡◌, ◌<◌, ◌≤◌, ◌^◌, List, map, All, sum_by}
 use Rattle.std.specs.List.{flat_map}
 use Rattle.interval_core.specs.Days.{account_of, AreAccounts}
@@ -12,7 +12,8 @@ use Rattle.interval_core.specs.declared.zone.Zone.{Zone}
 use Rattle.energy_report.specs.Laws.{energy_of_days}
 use Rattle.energy_report.specs.Statements.{energy_within}
 
--- True if the quarter hour does not start after the last timestamp, and therefore has a civil day.
+-- True if the quarter hour starts at or before the largest supported timestamp. Only such a quarter
+-- hour has a civil day.
 abbrev pub HasDay : Share → Type 0
 HasDay row = row.start ≤ LAST_MOMENT
 

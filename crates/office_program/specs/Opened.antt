@@ -1,5 +1,5 @@
--- The result of a command that opens an office over a store, uses the office, and returns the
--- store.
+-- The result of a command that opens an office (the engine that records meters' energy) over a
+-- store, uses the office, and returns the store.
 use Rattle.std.specs.Prelude.{◌≡◌, ℕ, List, ◌∷◌, Option}
 use Rattle.office_rules.specs.History.{History, Opened}
 use Rattle.office_books.specs.Ledgers.{Ledger}
@@ -10,7 +10,7 @@ use Rattle.office_core.specs.declared.office.Office.{Office}
 use Rattle.office_program.specs.Texts.AskedOffice.{OpensToAsk}
 use Rattle.office_program.specs.Texts.OpenedOffice.{Opens}
 
--- True if the office was opened, and the opening printed nothing. Then the command acted on the
+-- True if the office was opened, and opening it printed nothing. Then the command acted on the
 -- opened office, as `Does` describes, and returned the store.
 pub record WithOffice {B : Type 0} (ledger : B → Ledger) (past : History)
     (moments : Option (List ℕ)) (back : B)
@@ -23,7 +23,7 @@ pub record WithOffice {B : Type 0} (ledger : B → Ledger) (past : History)
   pub does : Does (Opened opens.at ∷ past) then opened left
   pub handed : back ≡ books_in left
 
--- True if the office was opened for queries, and the opening printed nothing. Then the command
+-- True if the office was opened for queries, and opening it printed nothing. Then the command
 -- queried the office, as `Does` describes, and returned the store. The clock was read once.
 pub record WithAsked {B : Type 0} (ledger : B → Ledger) (past : History)
     (moments later : Option (List ℕ)) (back : B)
@@ -34,8 +34,8 @@ pub record WithAsked {B : Type 0} (ledger : B → Ledger) (past : History)
   pub does : Does (Opened (asking_moment past opens.reported) ∷ past) opened left
   pub handed : back ≡ books_in left
 
--- True if `Holds` is true of every history that the store records at the start. No wrong result of
--- the store may be used until the end.
+-- True if `Holds` is true of every history that the store records at the start. This assumes that
+-- the command used no wrong result of the store.
 abbrev pub OverStanding : {B : Type 0} → (B → Ledger) → (books back : B)
     → (Holds : (past : History) → Type 0) → Type 0
 OverStanding ledger books back Holds =

@@ -1,5 +1,5 @@
 -- The result of a command that prints the statements of a register's meters, from an office that is
--- opened over a store.
+-- opened over a store. A statement lists what a bill of the meter is checked against.
 use Rattle.std.specs.Prelude.{◌⊎◌, ℕ, List, Option}
 use Rattle.std.specs.declared.io.Write as writers
 use Rattle.socket_link.specs.declared.clock.Clock as clocks
@@ -28,7 +28,7 @@ pub record StatesMeters {B : Type 0} (ledger : B → Ledger) (zone : Zone)
   pub stands : Stands ledger following left
 
 -- True if the office was opened for queries and the statements were printed, in the time zone of
--- the store. If the opening was refused, only the refusal was printed.
+-- the store. If opening the office was refused, only the refusal was printed.
 abbrev pub ReportsStatement : {B : Type 0} → (B → Ledger) → (past : History) → (register : List ℕ)
     → StatementForm → (moments later : Option (List ℕ)) → (books back : B)
     → (had holds : Option (List ℕ)) → ExitStatus → Type 0
@@ -37,8 +37,8 @@ ReportsStatement ledger past register form moments later books back had holds st
     ⊎ WithAsked ledger past moments later back
     (StatesMeters ledger (ledger books).zone (named register) form had holds status)
 
--- True if `ReportsStatement` holds for every history that the store records, with the clock and the
--- writer before and after the command.
+-- The contract of the command that prints statements. It promises `ReportsStatement` for any
+-- history that the store records, and names the clock and the writer before and after.
 abbrev pub StatementOver : {B C W : Type 0} → stores.Ghosts B → clocks.Ghosts C → writers.Ghosts W
     → (register : List ℕ) → StatementForm → (books back : B) → (before after : C) → (had holds : W)
     → ExitStatus → Type 0

@@ -1,4 +1,5 @@
-//! The result of a command that opens an office over a store.
+//! The result of a command that opens an office (the engine that records meters' energy) over a
+//! store.
 
 /// The store that a command returns, and the result of the command.
 #[derive(Drop)]

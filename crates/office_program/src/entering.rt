@@ -1,5 +1,5 @@
-//! Enters the lines of an input into an office. Each input line is a request, and its idempotency
-//! key is the caller's name and a number.
+//! Enters the lines of an input into an office, the engine that records meters' energy. Each input
+//! line is a request. Its idempotency key is the caller's name and a number.
 
 mod asking;
 mod checking;

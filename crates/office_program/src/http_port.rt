@@ -1,4 +1,5 @@
-//! Serves HTTP on a port, for an office that is opened over a store.
+//! Serves HTTP on a port, for an office (the engine that records meters' energy) that is opened
+//! over a store.
 ghost use Rattle.http_request.specs.Hosts.{texts};
 ghost use Rattle.office_core.specs.Standing.{After};
 ghost use Rattle.office_http.specs.Serving as http;
@@ -63,8 +64,8 @@ fn serve_port<R: Net + std::rt::Clock, B: Books, C: Clock>(
 /// Opens an office over a store at the clock's time, and serves requests by HTTP/1.1 on a port.
 ///
 /// The command serves `connections` connections on the port of a host, under the given host names,
-/// as `serve_connections` does. If the opening is refused, the command prints only `refused N` and
-/// does not open the port. Returns the store.
+/// as `serve_connections` does. If opening the office is refused, the command prints only `refused
+/// N` and does not open the port. Returns the store.
 pub fn serve_books<R: Net + std::rt::Clock, B: Books, C: Clock, W: Write>(
     rt: &R,
     alloc: Global,

@@ -1,5 +1,5 @@
-//! The program's commands that open an office over a store, for any store, clock, sockets and
-//! writer.
+//! The program's commands that open an office, the engine that records meters' energy, over a store
+//! of its records. They work with any store, clock, sockets and writer.
 #![tactic(auto)]
 
 mod command_end;

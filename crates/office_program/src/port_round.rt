@@ -1,4 +1,5 @@
-//! Polls a device once over TCP, for an office that is opened over a store.
+//! Polls a device once over TCP, for an office (the engine that records meters' energy) that is
+//! opened over a store.
 ghost use Rattle.office_rounds.specs.Passing as rounds;
 ghost use Rattle.office_program.specs.Texts.Passing.{Lasts};
 ghost use Rattle.office_program.specs.PortRound.{PollsOver, PollsPortOf};
@@ -22,7 +23,7 @@ pub const PATIENCE: u64 = 5;
 /// The ways in which a command that polls a device once ends.
 #[derive(Clone, Copy, Debug, PartialEq, Eq)]
 pub enum PollEnd {
-    /// The polling round ended, or was broken off by a fault.
+    /// The polling round ended, or a fault ended it early.
     Polled(Result<(), RoundFault>),
     /// The office was not opened. The command ends with this exit status.
     Unopened(ExitStatus),
@@ -64,11 +65,12 @@ fn poll_port<R: Net, B: Books, C: Clock, W: Write>(
     PollEnd::Polled(poll_round(alloc, &mut link, office, name, clock, output))
 }
 
-/// Opens an office over a store at the clock's time, and polls the complete plan of a device once.
+/// Opens an office over a store at the clock's time, and polls a device once: one poll for each
+/// Modbus read of the device's plan.
 ///
-/// The device is polled at a port of a host, as `poll_round` does. If the opening is refused, the
-/// command prints only `refused N` and does not connect to the device. If `device` is no valid
-/// name, the office treats it as an unknown device. Returns the store.
+/// The device is polled at a port of a host, as `poll_round` does. If opening the office is
+/// refused, the command prints only `refused N` and does not connect to the device. If `device` is
+/// no valid name, the office treats it as an unknown device. Returns the store.
 pub fn poll_books<R: Net, B: Books, C: Clock, W: Write>(
     net: &R,
     alloc: Global,

@@ -19,8 +19,8 @@ use std::io::Write;
 /// first and a last day, the command reads only the quarter hours of the range's days, and of two
 /// more days before and after them.
 ///
-/// If the opening or the report is refused, the command prints only `refused N`. If `register` is
-/// no valid name, the office treats it as an unknown register. Returns the store.
+/// If opening the office or the report is refused, the command prints only `refused N`. If
+/// `register` is no valid name, the office treats it as an unknown register. Returns the store.
 pub fn report_range_books<B: Books, C: Clock, W: Write>(
     alloc: Global,
     books: B,

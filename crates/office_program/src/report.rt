@@ -17,8 +17,8 @@ use std::io::Write;
 /// the clock's time, or at the latest timestamp in the store if that timestamp is later. So a clock
 /// that was set back hides no energy.
 ///
-/// If the opening or the report is refused, the command prints only `refused N`. If `register` is
-/// no valid name, the office treats it as an unknown register. Returns the store.
+/// If opening the office or the report is refused, the command prints only `refused N`. If
+/// `register` is no valid name, the office treats it as an unknown register. Returns the store.
 pub fn report_books<B: Books, C: Clock, W: Write>(
     alloc: Global,
     books: B,

@@ -16,8 +16,8 @@ use std::io::Write;
 /// Opens an office for queries, as `report_books` does, and prints the statements of a register's
 /// meters on a range of days.
 ///
-/// The days are civil days in the store's time zone. If the opening or a query is refused, the
-/// command prints only `refused N`. If `register` is no valid name, the office treats it as an
+/// The days are civil days in the store's time zone. If opening the office or a query is refused,
+/// the command prints only `refused N`. If `register` is no valid name, the office treats it as an
 /// unknown register. Returns the store.
 pub fn statement_books<B: Books, C: Clock, W: Write>(
     alloc: Global,

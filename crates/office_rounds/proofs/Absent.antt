@@ -1,4 +1,5 @@
--- Proof that a device that is gone has no session, and therefore no pending polls.
+-- Proof that a disconnected device has no session (the polls since its last connection), and
+-- therefore no pending polls.
 use Rattle.std.proofs.Common.{◌≡◌, ◌⊎◌, inl, inr, ℕ, nat_lt, Bool, true, false, ◌||◌, cond, List, [], ◌∷◌, ◌++◌, map, Option, None, Some, Result, Ok, refl, ap, subst}
 use Rattle.std.specs.List.{find}
 use Rattle.poll_core.specs.Settling as session
@@ -19,7 +20,8 @@ use Rattle.office_core.specs.Failing.{FailsOutside}
 use Rattle.office_core.specs.Taking.{IsAnswer}
 use Rattle.office_rounds.specs.Rounds.{NoneWaits}
 
--- True if the slot has no session, provided that the slot belongs to the device `given`.
+-- True if the slot does not belong to the device `given`, or has no session because the device is
+-- disconnected.
 abbrev IsLeft : Option (List ℕ) → Slot → Type 0
 IsLeft given slot = is_named given slot.device.name ≡ true → slot.present ≡ None
 
@@ -40,7 +42,7 @@ first_or_later : (named : Bool) (first slot : Slot) (later : Option Slot) → co
 first_or_later true first slot later h = let same : first ≡ slot = cc in inl (refl, same)
 first_or_later false first slot later h = inr h
 
--- True if no slot of the device `given` has a session.
+-- True if no slot of the device `given` has a session, since the device is disconnected.
 abbrev AreLeft : Option (List ℕ) → List Slot → Type 0
 AreLeft given slots = (slot : Slot) → slot_of slots given ≡ Some slot → slot.present ≡ None
 
@@ -63,7 +65,8 @@ never : {X : Type 0} (p : X → Bool) (xs : List X) → ((x : X) → p x ≡ fal
 never p [] h = refl
 never p (x ∷ xs) h = rw (h x) (never p xs h)
 
--- True if `why` is a reason to refuse the event that a connected device is gone.
+-- True if `why` is a reason to refuse the event `Gone` (the device is disconnected) of a connected
+-- device.
 abbrev GoneRefused : (slots : List Slot) → (latest at : ℕ) → Option (List ℕ) → Closing → Refusal → Bool
 GoneRefused slots latest at given c why = is_mistimed latest at why || comes_wrongly slots (event.Gone given c) why
 
@@ -106,8 +109,8 @@ gone_or_absent history at given c None reply is on_time within reported =
 gone_or_absent history at given c (Some why) reply is on_time within reported =
     rw reported (none_waits given history (λ slot found. absent_by history at given c why slot slot.present refl on_time within found is))
 
--- After a timely event that a device is gone, none of the device's polls is pending, unless the
--- store or memory failed.
+-- If the event `Gone` (the device is disconnected) is not refused for its timestamp, then no poll
+-- of the device is pending after it, or the store or memory failed.
 pub gone : (history : History) (at : ℕ) (given : Option (List ℕ)) (c : Closing) (before after : Failures) (reply : Result Answer Refusal)
     → nat_lt at (latest_of history) ≡ false → nat_lt moment_limit at ≡ false → IsAnswer history at (event.Gone given c) before after reply
     → NoneWaits given (with_answer history at (event.Gone given c) reply) ⊎ FailsOutside (IsAccepted history at (event.Gone given c)) before after reply
@@ -115,7 +118,8 @@ gone history at given c before after reply on_time within (inl reported) =
     inl (gone_or_absent history at given c (refusal_of history at (event.Gone given c)) reply refl on_time within reported.0)
 gone history at given c before after reply on_time within (inr fails) = inr fails
 
--- If the event that a device is gone is accepted, then none of the device's polls is pending.
+-- If the event `Gone` (the device is disconnected) is accepted, then none of the device's polls is
+-- pending.
 pub gone_accepted : (history : History) (at : ℕ) (given : Option (List ℕ)) (c : Closing) (before after : Failures) (reported : Answer)
     → with_answer history at (event.Gone given c) (Ok reported) ≡ Fed at (event.Gone given c) ∷ history
     → NoneWaits given (with_answer history at (event.Gone given c) (Ok reported))

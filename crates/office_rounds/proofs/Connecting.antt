@@ -1,4 +1,4 @@
--- Properties of the first event of a polling round, which is the connection of its device.
+-- Properties of the first event of a polling round, `Connected` for its device.
 use Rattle.std.proofs.Common.{◌≡◌, ℕ, List, [], ◌∷◌, Option, Result, Ok, Err, refl, sym, ap, ◌∙◌, subst}
 use Rattle.std.specs.Io.KnownBytes.{Appends}
 use Rattle.socket_link.specs.Clocks.{ReportsMoment}
@@ -21,7 +21,7 @@ use Rattle.office_rounds.specs.declared.device_rounds.round.Round.{Round}
 use Rattle.office_rounds.specs.declared.progress.Progress.{Progress}
 use Rattle.office_rounds.proofs.Timely.{one_accepted}
 
--- The state of a polling round after the office accepted the connection of its device.
+-- The state of a polling round after the office accepted its first event, `Connected`.
 pub record Connected (device : Option (List ℕ)) (past : History) (at : ℕ) (given : Answer) (new : Progress) : Type 0 where
   pub holds : Holds device past (connection device at (Ok given) ∷ []) new.round
   pub latest : new.latest ≡ latest_of (history_with past (connection device at (Ok given) ∷ []))

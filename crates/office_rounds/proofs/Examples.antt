@@ -1,4 +1,5 @@
--- An example of a polling round: three Modbus reads, on a device with room for two pending polls.
+-- An example of a polling round with three Modbus reads. The device accepts two pending polls at a
+-- time.
 use Rattle.std.proofs.Common.{◌≡◌, [], ◌∷◌, None, Some, Ok, refl}
 use Rattle.poll_core.specs.declared.outcome.Closing.TheVariants as closing
 use Rattle.poll_core.specs.declared.outcome.Outcome.TheVariants as outcome

@@ -1,5 +1,5 @@
--- Proof that after each event a polling round is in its defined state, and its next action is the
--- defined next action.
+-- Proof that after each event the type `Round` is in the state that the definition `Holds`
+-- requires, so its next action is the defined one.
 use Rattle.std.proofs.Common.{◌≡◌, ◌⊎◌, inl, inr, ℕ, zero, suc, ◌+◌, ◌-◌, ◌^◌, min, ◌<◌, ◌≤◌, ◌==◌, nat_le, nat_lt, not, Bool, true, false, cond, List, [], ◌∷◌, ◌++◌, length, map, Option, Some, None, Ok, refl, sym, ap, ◌∙◌, subst, arith}
 use Rattle.std.specs.List.{count_by, filter}
 use Rattle.std.specs.Option.{is_none, option_and_then}
@@ -56,7 +56,8 @@ use Rattle.office_rounds.proofs.Starts.{can_be_started, ends_kept, few_sent, nar
 use Rattle.office_rounds.proofs.Timely.{connected_noted}
 use Rattle.office_rounds.proofs.Reported.{ends_settled, reported, waits_reported}
 
--- The theorems on accepted events and on sessions that the proof on polling rounds uses.
+-- The theorems that the proof on polling rounds uses: on the polls since a connection, on accepted
+-- events, and on the store's records.
 pub record Laws : Type 0 where
   pub session : SessionLaws
   pub once : (history : History) → AreAccepted history → PollsEndOnce history
@@ -73,8 +74,8 @@ round_at device stage polls started planned sum = record {
   sum = sum;
 }
 
--- The stage of a waiting polling round after notifications. The round is still waiting, is starting
--- the remaining Modbus reads, or is leaving.
+-- The stage of a waiting polling round after notifications. The round still waits if no poll ended.
+-- Otherwise it starts the remaining Modbus reads, or ends.
 abbrev stage_by : (none start leave : Bool) → Stage
 stage_by none start leave = cond none Waiting (cond start Starting (cond leave (Leaving closing.Gone) Waiting))
 
@@ -111,7 +112,7 @@ stands_by false true leave device past fed round way = way
 stands_by false false true device past fed round way = refl
 stands_by false false false device past fed round way = way
 
--- The number of pending polls decreases if and only if a poll has ended.
+-- The number of pending polls is smaller than before if and only if a poll has ended.
 fewer : (after before endings : ℕ) → before ≡ after + endings → nat_lt after before ≡ not (endings == 0)
 fewer after before endings is =
     elim (cases_eq endings 0) [
@@ -123,7 +124,7 @@ fewer after before endings is =
           lt-ltb after before more ∙ sym (ap not (ne_eqb endings 0 some))
     ]
 
--- If no Modbus read remains, then no poll is pending if and only if all polls have ended.
+-- If all Modbus reads were started, then no poll is pending if and only if all polls have ended.
 all_ended : (started planned ended left : ℕ) → ended + left ≡ started → started ≤ planned → nat_lt started planned ≡ false
     → (left == 0) ≡ nat_le planned ended
 all_ended started planned ended left sum within none =
@@ -152,8 +153,8 @@ quiet_note first (note.Outcome poll outcome) h = absurd (let no = h poll in let 
 quiet_note first (note.Reading meter raw rolls step) h = refl
 quiet_note first (note.Held meter raw cause) h = refl
 
--- If no outcome is reported past the round's last poll, then the reported outcomes from its first
--- poll on belong to its started polls.
+-- If no outcome is reported for a poll after the round's last one, then each outcome from the
+-- round's first poll on belongs to one of its started polls.
 ends_reported : (first : Option ℕ) (number started : ℕ) (notes : List Note) → IsFirst first number started
     → ((n : ℕ) → number + started ≤ n → reported n notes ≡ 0) → count_by (is_ending first) notes ≡ reported_from number started notes
 ends_reported None number started notes is beyond =
@@ -163,8 +164,8 @@ ends_reported (Some first) number started notes is beyond =
     ∙ ap (λ n. length (filter (is_ending (Some n)) notes)) is
     ∙ counts_from number started (is_ending (Some number)) notes (λ p o. refl) (λ one h. quiet_note number one h) beyond
 
--- The properties of an event that ends polls. The store records the outcomes of the ended polls,
--- and the office reports them in notifications.
+-- True if the event may end polls: the store records the outcomes of the ended polls, and the
+-- office reports them in notifications.
 pub record Settles (history : History) (at : ℕ) (e : Event) : Type 0 where
   pub facts : facts_of (Fed at e ∷ history)
       ≡ with_settled (next_poll (facts_of history)) at e (slots_of history) (facts_of history)
@@ -303,7 +304,7 @@ connected_round device past at polls started planned sum none first left accepte
       };
     }
 
--- If the poll numbers of a start of Modbus reads fit 64 bits, then they do not saturate.
+-- If the poll numbers of a start of Modbus reads fit in 64 bits, then they are consecutive numbers.
 plain_numbers : (first count : ℕ) → first + count ≤ 2 ^ 64 → numbers first count ≡ from_on first count
 plain_numbers first zero h = refl
 plain_numbers first (suc n) h =
@@ -466,7 +467,8 @@ noted_by history at device (event.Gone d cause) before after given taken (inr fa
 noted_by history at device (event.Command c) before after given taken reported = absurd taken
 noted_by history at device (event.Asked asked) before after given taken reported = absurd taken
 
--- The state of a polling round after an event that the office accepted with the answer `given`.
+-- True if the polling round is in its defined state after an event that the office accepted with
+-- the answer `given`.
 abbrev HoldsAfter : (device : Option (List ℕ)) → History → List Answered → (at : ℕ) → Event → Round → Answer → Type 0
 HoldsAfter device past fed at e round given =
     Holds device past (fed_one at e (Ok given) ∷ fed) (round_after e given (notes_after (history_with past fed) at e (Ok given)) round)
@@ -522,7 +524,8 @@ by_stage laws device past fed at e before after given (Leaving cause) polls star
     subst (λ x. HoldsAfter device past fed at x (round_at device (Leaving cause) polls started planned sum) given) (sym does)
     (record { device_is = refl; next = refl; stands = tt })
 
--- If a polling round is in its defined state, then it is in its defined state after one more event.
+-- If a polling round is in its defined state, and the office accepts the round's next event, then
+-- the round is in its defined state after this event.
 pub holds_on : (laws : Laws) (device : Option (List ℕ)) (past : History) (fed : List Answered) (round : Round) (at : ℕ) (e : Event) (before after : Failures)
     (given : Answer) → Holds device past fed round → Does device (next_in past fed) e
     → IsAnswer (history_with past fed) at e before after (Ok given) → IsPast (Fed at e ∷ history_with past fed)

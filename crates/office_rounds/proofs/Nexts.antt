@@ -1,5 +1,5 @@
--- Properties of a polling round's next action after each kind of event, and of the bytes in the
--- event.
+-- Properties of a polling round's next action after each kind of event, and of the received bytes
+-- in the event.
 use Rattle.std.proofs.Common.{◌≡◌, ℕ, ◌==◌, nat_le, nat_lt, Bool, true, false, cond, List, [], ◌∷◌, Option, Result, Ok, Err, refl, sym, ap, subst}
 use Rattle.std.specs.List.{count_by}
 use Rattle.poll_core.specs.declared.outcome.Closing.{Closing}
@@ -39,19 +39,20 @@ start_next past fed one device read is =
     subst P (sym is)
     (takes_on (first_poll fed) (history_with past fed) one.at device read one.result (reads_started (one ∷ fed)) ended (reads_planned (one ∷ fed)))
 
--- After the event that the device is gone, the polling round is over.
+-- After the event `Gone` (the device is disconnected), the polling round is over.
 pub end_next : (past : History) (fed : List Answered) (one : Answered) (given : Option (List ℕ)) (c : Closing) → one.event ≡ event.Gone given c
     → next_in past (one ∷ fed) ≡ Over
 end_next past fed one given c is =
     ap (λ e. next_by e (next_after (endings_of past fed one) (reads_started (one ∷ fed)) (polls_ended past (one ∷ fed)) (reads_planned (one ∷ fed)))) is
 
--- After the connection, the next action is to start the Modbus reads, beginning at index 0.
+-- After the event `Connected`, the next action is to start the Modbus reads, beginning at index 0.
 pub connection_next : (past : History) (fed : List Answered) (one : Answered) (given : Option (List ℕ)) → one.event ≡ event.Connected given
     → next_in past (one ∷ fed) ≡ StartFrom 0
 connection_next past fed one given is =
     ap (λ e. next_by e (next_after (endings_of past fed one) (reads_started (one ∷ fed)) (polls_ended past (one ∷ fed)) (reads_planned (one ∷ fed)))) is
 
--- After an event from the link, the next action of a polling round is not to connect.
+-- If a poll may have ended, then the next action is to start reads, to disconnect or to read from
+-- the link, but never to connect.
 left_not : (start leave : Bool) (n : ℕ) → cond start (StartFrom n) (cond leave Leave Take) ≡ Connect → ⊥
 left_not true leave n h = absurd (cc)
 left_not false true n h = absurd (cc)

@@ -80,8 +80,8 @@ reported_within first (suc n) p o notes low high =
           omega arith
     ]
 
--- If no outcome is reported past the last of `count` polls, then all outcomes from number `first`
--- on belong to these polls.
+-- If no outcome is reported for a poll after the last of `count` polls, then each outcome from
+-- number `first` on belongs to one of these polls.
 counts_more : (first count p : ℕ) (o : Outcome) (notes : List Note) (xs : List Note) → length xs ≡ reported_from first count notes → p < first + count
     → length (cond (nat_le first p) (note.Outcome p o ∷ xs) xs) ≡ reported_from first count (note.Outcome p o ∷ notes)
 counts_more first count p o notes xs so high =
@@ -128,7 +128,8 @@ counts_from first count test (note.Held meter raw cause ∷ notes) ended other b
     ∙ counts_from first count test notes ended other beyond
     ∙ reported_same first count notes (one ∷ notes) (λ n. refl)
 
--- If a poll has no recorded outcome, then it counts as one open poll, otherwise as none.
+-- A poll without a recorded outcome counts as one open poll. A poll with a recorded outcome counts
+-- as none.
 one_open : (x n : ℕ) → length (cond (n == 0) (x ∷ []) []) ≡ 1 - n
 one_open x zero = refl
 one_open x (suc n) = ap length (cond-false (suc n == 0) (x ∷ []) [] (ne_eqb (suc n) 0 (λ e. absurd (omega (arith, e))))) ∙ omega arith

@@ -1,5 +1,5 @@
--- Properties of the polls that were started on the present session of a device. The pending polls
--- fit the session's window.
+-- Properties of the polls that were started since a device connected (its session). The pending
+-- polls fit the device's window, the number of polls it accepts at a time.
 use Rattle.std.proofs.Common.{◌≡◌, ℕ, suc, ◌+◌, ◌≤◌, ◌==◌, Bool, true, false, cond, List, [], ◌∷◌, ◌++◌, length, map, Option, Some, None, refl, sym, ap, ◌∙◌, subst, arith, append_assoc, append-nil}
 use Rattle.std.specs.List.{cons_option, filter}
 use Rattle.std.proofs.lemmas.Bool.{cond-false, eq-eqb, ne_eqb}
@@ -28,7 +28,8 @@ use Rattle.office_rules.proofs.Lookups.{find_passes}
 use Rattle.office_rules.proofs.SessionLaws.{SessionLaws, number_by, numbers-push}
 use Rattle.office_rounds.specs.Polling.{IsOnSession, is_open}
 
--- If a change of the slots keeps their devices, then the slot of a device is still found.
+-- If a change of the slots keeps the names of their devices, then a lookup of a device finds its
+-- changed slot.
 found_step : (b : Bool) (f : Slot → Slot) (one slot : Slot) (later after : Option Slot) → (later ≡ Some slot → after ≡ Some (f slot))
     → cond b (Some one) later ≡ Some slot → cond b (Some (f one)) after ≡ Some (f slot)
 found_step true f one slot later after rest h = let same : one ≡ slot = cc in ap (λ s. Some (f s)) same
@@ -41,8 +42,8 @@ found_after f keeps (one ∷ slots) given slot h =
     ap (λ (d : Device). cond (is_named given d.name) (Some (f one)) (slot_of (map f slots ++ []) given)) (keeps one)
     ∙ found_step (is_named given one.device.name) f one slot (slot_of slots given) (slot_of (map f slots ++ []) given) (found_after f keeps slots given slot) h
 
--- After one more event on a session, the session's polls are the earlier polls and the poll that
--- the event starts.
+-- If a session has one more event, then its polls are the earlier polls and the polls that this
+-- event starts.
 numbers_more : (laws : SessionLaws) (device : Device) (before : List session.Event) (h : session.Event)
     → numbers_in (polls_on device false (before ++ h ∷ [])) ≡ numbers_in (polls_on device false before) ++ number_by h
 numbers_more laws device before h =
@@ -86,7 +87,7 @@ on_piece laws number at given piece slots device numbers on = record {
   are = pieced laws number at given piece on.slot on.slot.present refl ∙ on.are;
 }
 
--- After a connection, the new session has no started polls.
+-- A session that begins with a connection has no started polls.
 connected_step : (number at : ℕ) (slot : Slot) (named : Bool) (other : Slot) → named ≡ true
     → numbers_of_slot (cond named (record { device = slot.device; ended = slot.ended; present = Some [] }) other) ≡ []
 connected_step number at slot true other is = refl
@@ -101,7 +102,7 @@ on_connection number at slots device slot found = record {
       (find_passes (λ (one : Slot). is_named device one.device.name) slots slot found);
 }
 
--- After Modbus reads are started on a session, their polls are added to the session's polls.
+-- If Modbus reads are started on a session, then their polls are added to the session's polls.
 happened : (at : ℕ) (slot : Slot) (before : List session.Event) (sends : List Send)
     → with_happenings slot before (map (start_by at slot.device) sends)
     ≡ record { device = slot.device; ended = slot.ended; present = Some (before ++ map (start_by at slot.device) sends) }
@@ -120,7 +121,7 @@ sent_on laws at device before (send ∷ sends) =
     ∙ ap (λ ns. ns ++ sent_numbers sends) (numbers_more laws device before (start_by at device send))
     ∙ append_assoc (numbers_in (polls_on device false before)) (send.number ∷ []) (sent_numbers sends)
 
--- The slot of a device after Modbus reads were started on its session.
+-- True if `after` is the slot of a device after Modbus reads were started on its session.
 pub record IsAfterStart (at : ℕ) (slot : Slot) (before : List session.Event) (sends : List Send) (after : Slot) : Type 0 where
   pub device : after.device ≡ slot.device
   pub present : after.present ≡ Some (before ++ map (start_by at slot.device) sends)
@@ -159,7 +160,7 @@ started_on laws at slot after before sends numbers present is on =
     ∙ sent_on laws at slot.device before sends
     ∙ ap (λ ns. ns ++ sent_numbers sends) (ap (λ p. numbers_in (polls_on_present slot.device p)) (sym present) ∙ on)
 
--- The number of outcomes of poll `n` in two joined lists equals the sum of the numbers in each
+-- The number of outcomes of poll `n` in two appended lists equals the sum of the numbers in each
 -- list.
 picked_both : (n : ℕ) (xs ys : List (ℕ × Outcome)) → length (pick n (xs ++ ys)) ≡ length (pick n xs) + length (pick n ys)
 picked_both n xs ys = ap length (filter_map-append (is_of n) xs ys) ∙ length-append (pick n xs) (pick n ys)

@@ -1,4 +1,5 @@
--- Proof that none of a device's polls is pending after the device's polling round is over.
+-- Proof that none of a device's polls is pending after the device's polling round (one poll for
+-- each Modbus read of its plan) is over.
 use Rattle.std.proofs.Common.{◌≡◌, inr, ℕ, ◌==◌, nat_lt, nat_le, Bool, true, false, cond, List, [], ◌∷◌, Option, Result, Ok, Err, refl, sym, subst, IsOk}
 use Rattle.poll_core.specs.declared.outcome.Closing.{Closing}
 use Rattle.office_events.specs.declared.answers.Answer.{Answer}
@@ -30,7 +31,7 @@ goes_after : (none : Bool) (started ended planned : ℕ) → cond none Take (nex
 goes_after true started ended planned h = absurd (cc)
 goes_after false started ended planned h = goes_left (nat_lt started planned) (nat_le planned ended) started h
 
--- True if the event reports that a device is gone. After this event a polling round is over.
+-- True if the event is `Gone`: a device is disconnected. After this event a polling round is over.
 pub record IsGone (e : Event) : Type 0 where
   pub given : Option (List ℕ)
   pub cause : Closing
@@ -62,7 +63,7 @@ gone_so device given c past at e (Ok answer) before after is same ok reported =
     subst Q (sym is)
     (subst R same (gone_accepted past at given c before after answer (one_accepted past at (event.Gone given c) before after answer tt mine)))
 
--- After a polling round is over, none of its device's polls is pending.
+-- If a polling round is over after the fed events, then none of its device's polls is pending.
 pub over_settled : (device : Option (List ℕ)) (past : History) (fed : List Answered) (before after : Failures) → next_in past fed ≡ Over
     → AreNext device past fed → AreAnswered past before after fed → NoneWaits device (history_with past fed)
 over_settled device past [] before after over next reported = absurd (cc)
@@ -87,7 +88,8 @@ is_round ledger device past begun now from to office fed round going wired over 
   settled = inr (over_settled device past fed begun.failures now.failures over going.next going.leaves.answered);
 }
 
--- After a polling round was broken off and fed its last event, `IsBrokenOff` holds.
+-- If a fault ended a polling round, and the round fed its last event, then the round's result
+-- satisfies `IsBrokenOff`.
 pub is_broken_off : {B : Type 0} (ledger : B → Ledger) (device : Option (List ℕ)) (past : History) (begun was now : RoundState) (from to : Wire)
     (before office : Office B) (earlier : List Answered) (round : Progress) (cause fault : RoundFault)
     → Broken ledger device past begun was before earlier round cause → IsWired {X = Unit {0}} past from to earlier (Err cause)

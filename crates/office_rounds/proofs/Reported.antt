@@ -73,8 +73,8 @@ words_quiet n at number session.Silent facts = refl
 words_quiet n at number (session.Malformed malformation) facts = refl
 words_quiet n at number (session.Lost cause) facts = refl
 
--- If an outcome is reported, then one more outcome is recorded. If no outcome is reported, then no
--- outcome is recorded.
+-- Adding an outcome to the reported and the recorded outcomes increases both numbers by one. If
+-- nothing is added, both numbers stay equal.
 one_more : {X Y : Type 0} (b : Bool) (x : X) (xs : List X) (y : Y) (ys : List Y) → length ys ≡ 0
     → length (cond b (x ∷ xs) xs) ≡ length (cond b (y ∷ ys) ys) + length xs
 one_more true x xs y ys h = omega (arith, h)
@@ -110,7 +110,7 @@ ends_settled n number at e (slot ∷ slots) facts =
     (reported n (settled_notes number at e slots mid)) (reported n (outcomes_notes at here facts ++ settled_notes number at e slots mid))
     (ends_settled n number at e slots mid) (ends_all n at here facts) (reported_both n (outcomes_notes at here facts) (settled_notes number at e slots mid))
 
--- If no notification reports the outcome of a poll, then the poll is still pending.
+-- A poll is still pending if and only if no notification reports its outcome.
 waits_step : (b : Bool) (any : Bool) (one : Note) (notes : List Note) → not any ≡ (length notes == 0)
     → not (b || any) ≡ (length (cond b (one ∷ notes) notes) == 0)
 waits_step true any one notes h = sym (ne_eqb (suc (length notes)) 0 (λ e. absurd (omega (arith, e))))

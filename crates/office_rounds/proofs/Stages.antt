@@ -33,7 +33,7 @@ use Rattle.office_rounds.proofs.Goings.{part_more}
 use Rattle.office_rounds.proofs.Nexts.{connection_next, end_next, start_next}
 use Rattle.office_rounds.proofs.Wires.{appends_nothing, consumes_nothing, part_of_all}
 
--- If a running polling round has a fault, then the round is broken off.
+-- If a running polling round has a fault, then the round ends early and satisfies `Broken`.
 pub broken : {B : Type 0} (ledger : B → Ledger) (device : Option (List ℕ)) (past : History) (begun now : RoundState) (office : Office B)
     (fed : List Answered) (round : Progress) (cause : RoundFault) → Going ledger device past begun now office fed round
     → BreaksOff device past cause fed → IsPrinted {X = Unit {0}} (Err cause) (text_after past fed) begun.printed now.printed
@@ -55,7 +55,8 @@ given_broken Link h at e result a b frames unsent got = absurd unsent
 given_broken Output h at e result a b frames unsent got = (frames, outgoing_after h at e result, refl, got)
 given_broken TurnsUsed h at e result a b frames unsent got = absurd unsent
 
--- The bytes of the link of a polling round that was broken off while an event was fed.
+-- If no frames were sent for the event that ended a polling round early, then the bytes on the link
+-- are those of `IsWired`.
 pub wired_broken : (past : History) (from to : Wire) (fed : List Answered) (one : Answered) (e : Event) (cause : RoundFault)
     → Consumes from.remaining to.remaining (pieces_after fed ++ piece_in e) → Appends from.given to.given (frames_after past fed)
     → one.event ≡ e → IsUnsent cause one.result → IsWired {X = Unit {0}} past from to (one ∷ fed) (Err cause)
@@ -66,7 +67,8 @@ wired_broken past from to fed one e cause taken given is unsent = record {
   given = given_broken cause (history_with past fed) one.at one.event one.result from.given to.given (frames_after past fed) unsent given;
 }
 
--- The bytes of the link of a polling round that wrote all frames of an event.
+-- If a polling round wrote all frames of an event, then the bytes on the link are those of
+-- `IsWired`.
 pub wired_sent : (past : History) (from mid to : Wire) (fed : List Answered) (one : Answered) (e : Event) (frames : List ℕ)
     → Consumes from.remaining mid.remaining (pieces_after fed ++ piece_in e) → Appends from.given mid.given (frames_after past fed) → one.event ≡ e
     → frames ≡ outgoing_after (history_with past fed) one.at one.event one.result → Keeps mid.remaining to.remaining
@@ -96,8 +98,8 @@ does_take device same next e is equal taken =
     let P : Option (List ℕ) → Type 0 = λ d. IsTaken d e in
     rw is (subst P equal taken)
 
--- The properties of the event that a polling round requests. It is the round's next event, and has
--- no bytes of the link.
+-- The properties of an event that a polling round requests: it is the round's next event, and has
+-- no bytes received from the link.
 pub record Wanted (device : Option (List ℕ)) (past : History) (fed : List Answered) (e : Event) : Type 0 where
   pub does : Does device (next_in past fed) e
   pub piece : piece_in e ≡ []
@@ -139,14 +141,14 @@ rests_at device Starting started wish = absurd (cc)
 rests_at device Waiting started wish = refl
 rests_at device (Leaving cause) started wish = absurd (cc)
 
--- If a polling round requests no event, then its next action is unchanged.
+-- If a polling round requests no event, then settling its next action changes nothing.
 pub rests : (device : Option (List ℕ)) (past : History) (fed : List Answered) (round : Round) (now : Next) → Holds device past fed round
     → wish_of round ≡ None → next_in past fed ≡ now → next_in past fed ≡ settled now
 rests device past fed round now holds wish is =
     holds.next ∙ sym (rests_at round.device round.stage round.started wish) ∙ ap settled (sym holds.next ∙ is)
 
--- If a polling round requests no event after an event from the link, then the round is over or
--- reads from the link again.
+-- If a polling round requests no event after an event from the link, then either the round is over
+-- or its next action is a read of the link.
 over_by : (now : Next) (stage : Stage) (started : ℕ) → (now ≡ Connect → ⊥) → settled now ≡ next_at stage started
     → next_at stage started ≡ over_or_take (is_over stage)
 over_by now Off started anew is = refl
@@ -176,8 +178,8 @@ pub nothing_left : (fed : List Answered) (e : Event) (from to : Wire) → piece_
     → Consumes from.remaining to.remaining (pieces_after fed ++ piece_in e)
 nothing_left fed e from to none taken = consumes_nothing from.remaining to.remaining (pieces_after fed) (piece_in e) taken none
 
--- After a read of the link, the bytes read from the link equal those of all fed events, including
--- the event for this read.
+-- If a read of the link returned the bytes of an event, then the bytes read so far are those of the
+-- earlier events and of this event.
 pub taken_wire : (past : History) (from old new : Wire) (fed : List Answered) (e : Event) → IsWired {X = Unit {0}} past from old fed (Ok tt)
     → Consumes old.remaining new.remaining (piece_in e) → Keeps old.given new.given
     → Consumes from.remaining new.remaining (pieces_after fed ++ piece_in e) × Appends from.given new.given (frames_after past fed)
@@ -199,8 +201,8 @@ kept_wire past from old new fed wired taken kept = (
 pub of_device : (device same : Option (List ℕ)) (e : Event) → same ≡ device → IsTaken same e → IsTaken device e
 of_device device same e equal taken = let P : Option (List ℕ) → Type 0 = λ d. IsTaken d e in subst P equal taken
 
--- If one action of a polling round is followed by a second action, then the state after both is the
--- state after the second action.
+-- If one action of a polling round is followed by a second action, then both together satisfy
+-- `StepsFrom` with the result of the second.
 pub compose : {B X Y : Type 0} (ledger : B → Ledger) (old mid new : Scene B) (now : Next) (x : X) (after : X → Next) (next : Next)
     (result : Result Y RoundFault) (final : Y → Next) → StepsFrom ledger old mid now (Ok x) after → after x ≡ next
     → StepsFrom ledger mid new next result final
@@ -223,8 +225,8 @@ used_up ledger old new now x after final first = λ device past begun from fed g
       ),
     )
 
--- After the frames of an event were written to the link, completely or in part, `Steps` holds for
--- the polling round.
+-- If the frames of an event were written to the link, completely or in part, then the action
+-- satisfies its contract `Steps`.
 pub sent : {B : Type 0} (ledger : B → Ledger) (device : Option (List ℕ)) (past : History) (begun : RoundState) (from mid to : Wire) (now : RoundState)
     (office : Office B) (fed : List Answered) (one : Answered) (progress : Progress) (e : Event)
     (result : Result (Unit {0}) RoundFault) (frames : List ℕ) → Consumes from.remaining mid.remaining (pieces_after fed ++ piece_in e)
@@ -242,14 +244,15 @@ sent ledger device past begun from mid to now office fed one progress e (Err Lin
 sent ledger device past begun from mid to now office fed one progress e (Err Output) frames taken had is going reported are kept given only = absurd only
 sent ledger device past begun from mid to now office fed one progress e (Err TurnsUsed) frames taken had is going reported are kept given only = absurd only
 
--- If `Steps` holds for a next action, then it also holds for an equal next action.
+-- If an action satisfies its contract `Steps` with a next action, then it also does with an equal
+-- next action.
 pub next_as : {B X : Type 0} (ledger : B → Ledger) (device : Option (List ℕ)) (past : History) (begun now : RoundState) (from to : Wire) (office : Office B)
     (fed : List Answered) (progress : Progress) (result : Result X RoundFault) (first second : X → Next) → ((x : X) → first x ≡ second x)
     → Steps ledger device past begun now from to office fed progress result first → Steps ledger device past begun now from to office fed progress result second
 next_as ledger device past begun now from to office fed progress (Ok x) first second same steps = (steps.0, steps.1, steps.2 ∙ same x)
 next_as ledger device past begun now from to office fed progress (Err cause) first second same steps = steps
 
--- If a read of the link returned no event, then the polling round is broken off.
+-- If a read of the link returned no event, then the polling round ends early.
 pub not_taken : {B : Type 0} (ledger : B → Ledger) (device : Option (List ℕ)) (past : History) (begun now : RoundState) (from to : Wire)
     (office : Office B) (fed : List Answered) (round : Progress) (same : Option (List ℕ)) (cause : RoundFault) (before after : ℕ)
     (last : Option LastTake) → Brings same (Err cause) before after last → Going ledger device past begun now office fed round
@@ -266,8 +269,8 @@ not_taken ledger device past begun now from to office fed round same Link before
 not_taken ledger device past begun now from to office fed round same Output before after last brings going taken given = absurd brings
 not_taken ledger device past begun now from to office fed round same TurnsUsed before after last brings going taken given = absurd brings
 
--- The result of a read of the link and its events, if it is known whether the polling round is
--- over.
+-- If a turn's result says whether the polling round is over, then the next action is known: none if
+-- it is over, otherwise a read of the link.
 pub as_turn : {B : Type 0} (ledger : B → Ledger) (old new : Scene B) (now : Next) (over b : Bool)
     → StepsFrom ledger old new now (Ok over) over_or_take → over ≡ b
     → StepsFrom {X = Unit {0}} ledger old new now (Ok tt) (λ done. over_or_take b)
@@ -275,7 +278,7 @@ as_turn ledger old new now over b first same = λ device past begun from fed goi
     let so = first device past begun from fed going wired is clean in
     (so.0, (so.1.0, so.1.1, so.1.2 ∙ ap over_or_take same))
 
--- If a fault breaks a polling round off, then the link was read at most 100,000 times.
+-- If a fault ends a polling round early, then the link was read at most 100,000 times.
 pub at_most : (fault : RoundFault) (turn old mid new : ℕ) → turn < 100000 → AreTakes turn old mid → TurnTakes {X = Bool} (Err fault) mid new
     → AreAtMost 100000 old new
 at_most (Refused why) turn old mid new few takes (inl one) = (turn + 1, omega arith, λ count is. omega (arith, takes count is, one))

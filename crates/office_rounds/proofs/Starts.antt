@@ -1,5 +1,5 @@
--- Properties of an accepted start of Modbus reads. It starts at least one read, with the next poll
--- numbers, and at most as many as the session has room for.
+-- Properties of an accepted start of Modbus reads. It starts at least one read, and at most as many
+-- as the device accepts at a time. Its polls get the next poll numbers.
 use Rattle.std.proofs.Common.{◌≡◌, ◌⊎◌, inl, inr, ℕ, zero, suc, ◌+◌, ◌<◌, ◌≤◌, ◌==◌, nat_le, nat_lt, not, ◌||◌, Bool, true, false, cond, List, [], ◌∷◌, ◌++◌, length, map, reverse, Option, Some, None, refl, sym, ap, ◌∙◌, subst, arith, append_assoc}
 use Rattle.std.specs.List.{filter}
 use Rattle.std.specs.Option.{is_none}
@@ -35,7 +35,8 @@ use Rattle.office_rules.proofs.Lists.{reverse_cons}
 use Rattle.office_rules.proofs.StartedPolls.{command_adds, numbers}
 use Rattle.office_rounds.specs.Polling.{from_on}
 
--- The conditions under which the office accepts a start of Modbus reads.
+-- The conditions under which the office accepts a start of Modbus reads, such as a connected device
+-- and a read that remains.
 pub record CanStart (history : History) (at : ℕ) (c : StartRound) : Type 0 where
   pub slot : Slot
   pub before : List session.Event
@@ -77,8 +78,7 @@ can_be_started history at c h =
     on_slot history at c (slot_of slots c.device) refl (not-false (can_start slots c.device) busy) crowded.1
     (ltb-false poll_limit (length (polls_in facts) + sent_count slots facts at (command.StartRound c)) few)
 
--- If a start of Modbus reads is accepted, then it sends at least one read, and only remaining
--- reads.
+-- If a start of Modbus reads is accepted, then it sends a request for at least one read.
 pub some_sent : (number at : ℕ) (device : Device) (before : List session.Event) (spans : List ReadSpan) → is_startable device (Some before) ≡ true
     → (length spans == 0) ≡ false → 1 ≤ length (sends_on number at device before spans)
 some_sent number at device before [] ready some = absurd (cc)
@@ -100,7 +100,8 @@ few_sent number at device before (span ∷ spans) =
     few_step (is_startable device (Some before)) send (sends_on (number + 1) at device (before ++ start_by at device send ∷ []) spans) (length spans)
     (few_sent (number + 1) at device (before ++ start_by at device send ∷ []) spans)
 
--- The number of Modbus reads of the plan that remain, beginning at index `from`.
+-- The number of Modbus reads from index `from` on is at most the length of the plan minus `from`,
+-- or 0.
 pub reads_left : (from : ℕ) (list : Option Planned) → length (round_spans from list) + from ≤ length (round_spans 0 list)
     ⊎ (length (round_spans from list) ≡ 0)
 reads_left from None = inr refl
@@ -131,7 +132,7 @@ sent_from number at device before (span ∷ spans) =
     numbers_step (is_startable device (Some before)) send (sends_on (number + 1) at device (before ++ start_by at device send ∷ []) spans)
     (sent_from (number + 1) at device (before ++ start_by at device send ∷ []) spans)
 
--- After a start of Modbus reads, the store has records of the started polls, and no new outcome.
+-- After a start of Modbus reads, the store has a record of each started poll.
 pub polls_more : (at : ℕ) (history : History) (c : StartRound) → AreNumbered (polls_in (facts_of history))
     → length (polls_in (reverse (added_by (next_poll (facts_of history)) at (slots_of history) (facts_of history) (command.StartRound c)) ++ facts_of history))
     ≡ length (polls_in (facts_of history)) + sent_count (slots_of history) (facts_of history) at (command.StartRound c)
@@ -155,7 +156,8 @@ pub ends_kept : (at : ℕ) (history : History) (c : StartRound) → AreNumbered 
 ends_kept at history c numbered n =
     ap (λ es. filter (λ e. e.poll == n) es) (command_adds at (slots_of history) (facts_of history) (command.StartRound c) numbered).ended
 
--- If a start of Modbus reads is accepted, then the session has room for its polls.
+-- If a start of Modbus reads is not refused, then the device's window is not full: the device
+-- accepts one more pending poll.
 has_room : (full : Bool) (others : Option StartFault) → is_none (cond full (Some WindowFull) others) ≡ true → full ≡ false
 has_room true others h = absurd (cc)
 has_room false others h = refl
@@ -199,7 +201,7 @@ sends_fit number at device before (span ∷ spans) =
     fit_step (is_startable device (Some before)) at device before send (sends_on (number + 1) at device (before ++ start_by at device send ∷ []) spans) refl
     (sends_fit (number + 1) at device (before ++ start_by at device send ∷ []) spans)
 
--- True if each device has a window of at most 16 polls.
+-- True if each device accepts at most 16 pending polls at a time (its window).
 abbrev AreNarrow : List Device → Type 0
 AreNarrow [] = Unit {0}
 AreNarrow (device ∷ devices) = (device.window ≤ 16) × AreNarrow devices

@@ -24,7 +24,8 @@ opened_within true beyond why late h = absurd (cc)
 opened_within false true why late h = absurd (cc)
 opened_within false false why late h = refl
 
--- If an event is accepted, then its timestamp is not past the last allowed timestamp.
+-- If all events of a history are accepted, then its latest timestamp is not past the largest
+-- supported timestamp.
 pub latest_within : (history : History) → AreAccepted history → nat_lt moment_limit (latest_of history) ≡ false
 latest_within [] h = refl
 latest_within (Opened at ∷ past) h =
@@ -37,8 +38,8 @@ latest_within (Fed at e ∷ past) h =
 not_below_itself : (n : ℕ) → nat_lt n n ≡ false
 not_below_itself n = grind arith
 
--- The timestamp of the event that the device is gone is neither earlier than the latest event nor
--- past the limit.
+-- The timestamp of the event `Gone` is neither earlier than the latest event nor past the largest
+-- supported timestamp.
 gone_by : (back beyond : Bool) (latest moment : ℕ) → nat_lt moment latest ≡ back → nat_lt moment_limit moment ≡ beyond
     → nat_lt moment_limit latest ≡ false
     → (nat_lt (cond (back || beyond) latest moment) latest ≡ false) × (nat_lt moment_limit (cond (back || beyond) latest moment) ≡ false)
@@ -131,7 +132,7 @@ one_accepted history at (event.Gone d c) before after given kind (inr fails) = a
 one_accepted history at (event.Command c) before after given kind reported = started_one history at c before after given kind reported
 one_accepted history at (event.Asked asked) before after given kind reported = absurd kind
 
--- If a connection is accepted, then its answer is `Noted`.
+-- If the event `Connected` is accepted, then its answer is `Noted`.
 pub connected_noted : (history : History) (at : ℕ) (d : Option (List ℕ)) (before after : Failures) (given : Answer)
     → IsAnswer history at (event.Connected d) before after (Ok given) → given ≡ answer.Noted
 connected_noted history at d before after given (inl reported) = given_is (refusal_of history at (event.Connected d)) _ given reported.0

@@ -1,4 +1,5 @@
--- Proof of the theorem on a complete polling round, from its connection to its end.
+-- Proof of the theorem on a complete polling round, from the event `Connected` to the end of the
+-- round.
 use Rattle.std.proofs.Common.{◌≡◌, inl, inr, ℕ, List, [], ◌∷◌, Option, Result, Ok, Err, refl, sym, subst}
 use Rattle.std.proofs.KnownBytes.{Appends-nil, Consumes-nil}
 use Rattle.office_events.specs.declared.answers.Answer.{Answer}
@@ -21,7 +22,7 @@ use Rattle.office_rounds.specs.declared.progress.Progress.{Progress}
 use Rattle.office_rounds.proofs.Overs.{is_broken_off}
 use Rattle.office_rounds.proofs.Wires.{appends_nothing, part_of_all}
 
--- If an event is a connection, then the office sends no frames for the event.
+-- If an event is a connection, then the office sends no Modbus frames for the event.
 no_frames : (h : History) (at : ℕ) (d : Option (List ℕ)) (given : Answer) → outgoing_after h at (event.Connected d) (Ok given) ≡ []
 no_frames h at d answer.Noted = refl
 no_frames h at d (answer.Done kind) = refl
@@ -41,14 +42,16 @@ wired_unprinted past at device given w =
     let wired = wired_connected past at device given w in
     record { taken = wired.taken; given = part_of_all w.given w.given _ wired.given }
 
--- If the office refused the connection of a polling round, then `IsNotConnected` holds.
+-- If the office refused the event `Connected` of a polling round, then the round's result satisfies
+-- `IsNotConnected`.
 pub unconnected : {B : Type 0} (ledger : B → Ledger) (device : Option (List ℕ)) (past : History) (begun now : RoundState) (w : Wire)
     (office : Office B) (round : Progress) (why : Refusal) → Connects ledger device past begun now office round (Err (Refused why))
     → Rounds ledger device past (passage begun now w w) office (Err (Refused why))
 unconnected ledger device past begun now w office round why h =
     inl (record { at = h.0; leaves = h.1; timed = h.2; same = refl; printed = h.3 })
 
--- If the connection of a polling round was fed but not printed, then the round is broken off.
+-- If the event `Connected` of a polling round was fed but not printed, then a fault ended the
+-- round.
 pub unprinted : {B : Type 0} (ledger : B → Ledger) (device : Option (List ℕ)) (past : History) (begun was now : RoundState) (w : Wire)
     (before office : Office B) (round : Progress) (fault : RoundFault) → (h : Connects ledger device past begun was before round (Err Output))
     → Closes ledger device past begun now office (connection device h.0 (Ok h.1.0) ∷ []) Output fault
@@ -81,7 +84,7 @@ connects_same ledger device same past begun now office round result equal h =
 abbrev pub IsUsed : Result (Unit {0}) RoundFault → Type 0
 IsUsed result = result ≡ Err TurnsUsed
 
--- If the fault `TurnsUsed` is reported, then this fault broke the polling round off.
+-- If the fault `TurnsUsed` is reported for a polling round, then this fault ended the round early.
 pub reported_used : (fault reported : RoundFault) → IsReportedOf fault reported → IsUsed (Err reported) → IsUsed (Err fault)
 reported_used fault reported (inl is) h = cc
 reported_used fault reported (inr is) h = absurd (cc)
@@ -97,7 +100,8 @@ failures_by : (fault reported : RoundFault) (before after : ℕ) → reported �
 failures_by fault reported before after is h =
     let P : RoundFault → Type 0 = λ f. CountsFailures {X = Unit {0}} (Err f) before after in subst P (sym is) h
 
--- The count of the link's failures after a polling round was broken off and closed.
+-- If the count of the link's failures fits the fault that ended a polling round, then it also fits
+-- the fault that is reported, as `CountsFailures` requires.
 pub counts_failures : (fault reported : RoundFault) (before after : ℕ) → after ≡ risen (is_link_fault {X = Unit {0}} (Err fault)) before
     → IsReportedOf fault reported → CountsFailures {X = Unit {0}} (Err reported) before after
 counts_failures (Refused why) reported before after h (inl is) = failures_by (Refused why) reported before after is h

@@ -15,7 +15,7 @@ consumes_nothing a b x y got none = subst (Consumes a b) (sym (ap (λ z. x ++ z)
 pub part_given : (a b : Option (List ℕ)) (bytes : List ℕ) → GivesPart a b bytes → GotPart bytes a b
 part_given a b bytes gives = (gives.part, gives.unsent, gives.whole, gives.given)
 
--- If all bytes of a text were written, then the text also counts as written in part.
+-- If all bytes of a text were written, then the contract for a partial write holds too.
 pub part_of_all : (a b : Option (List ℕ)) (x : List ℕ) → Appends a b x → GotPart x a b
 part_of_all a b x got = (x, [], sym (append-nil x), got)
 

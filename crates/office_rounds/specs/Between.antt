@@ -1,5 +1,5 @@
--- The effect of each function of a polling round on the round, its link, the office, the clock and
--- the writer.
+-- Contracts of the functions of a polling round: their effect on the round, its link to the device,
+-- the office (the engine that records energy), the clock and the writer.
 --
 -- The names `old`, `before`, `had`, `from` and `here` denote the state before the call. The state
 -- after the call and the result come last.
@@ -27,20 +27,20 @@ use Rattle.office_rounds.specs.Taking.{over_or_take}
 use Rattle.office_rounds.specs.declared.fault.RoundFault.{RoundFault}
 use Rattle.office_rounds.specs.declared.progress.Progress.{Progress}
 
--- The bytes that a link still has to deliver, and the bytes written to the link, as far as they are
--- known.
+-- The bytes that a link has yet to deliver, and the bytes written to the link, as far as they are
+-- known. Contracts compare them before and after a call.
 abbrev pub wire_of : {L : Type 0} → links.Ghosts L → L → Wire
 wire_of l link = wire (l.remaining link) (l.given link)
 
--- True if the call printed the office's notifications, frames and answer for an accepted event,
--- completely or in part.
+-- True if the call printed the report of an accepted event: the office's notifications, frames and
+-- answer. If the write failed, only a part was printed.
 abbrev pub PrintsReported : {B W : Type 0} → writers.Ghosts W → Office B → Answer → (had holds : W)
     → Result Answer RoundFault → Type 0
 PrintsReported w office given had holds result =
     Prints given (accepted_text given (notes_in office) (outgoing_in office))
     (w.contents had) (w.contents holds) result
 
--- True if the last event of a polling round was fed to the office, but not printed because an
+-- True if the last event of a polling round was processed by the office, but not printed because an
 -- earlier write had failed.
 abbrev pub EndsSilently : {B : Type 0} → stores.Ghosts B → (at : ℕ) → Event → (old new : Office B)
     → Type 0
@@ -50,8 +50,8 @@ EndsSilently b at gone old new = (printed moments later : Option (List ℕ))
     (round_state printed later (failures_of b.ledger new)) old new)
 
 module _ {B W : Type 0} (b : stores.Ghosts B) (w : writers.Ghosts W) where
-  -- True if an event was fed to the office and the office's report of the event was printed. The
-  -- clock may have any time.
+  -- True if an event was fed to the office and the office's report of the event was printed. This
+  -- holds at any time of the clock.
   abbrev pub FeedsAndPrints : (at : ℕ) → Event → (old new : Office B) → (had holds : W)
       → Result Answer RoundFault → Type 0
   FeedsAndPrints at e old new had holds result = (moments later : Option (List ℕ))
@@ -60,7 +60,7 @@ module _ {B W : Type 0} (b : stores.Ghosts B) (w : writers.Ghosts W) where
       (round_state (w.contents holds) later (failures_of b.ledger new)) new result)
 
   -- True if the last event of a polling round was fed to the office and the office's report was
-  -- printed. The clock may have any time.
+  -- printed. This holds at any time of the clock.
   abbrev pub EndsAndPrints : (at : ℕ) → Event → (cause : RoundFault) → (old new : Office B)
       → (had holds : W) → (fault : RoundFault) → Type 0
   EndsAndPrints at gone cause old new had holds fault = (moments later : Option (List ℕ))
@@ -80,15 +80,15 @@ module _ {B C W : Type 0} (b : stores.Ghosts B) (c : clocks.Ghosts C) (w : write
   abbrev pub Leaves : Type 0 → Type 1
   Leaves X = (old new : Office B) → (before after : C) → (had holds : W) → X → Type 0
 
-  -- True if the first event of a new polling round was fed to the office. This event is the
-  -- connection of the round's device.
+  -- True if the first event of a new polling round was fed to the office: the event `Connected` of
+  -- the round's device.
   abbrev pub ReportsConnection : (from to : Progress) → Leaves (Result (Unit {0}) RoundFault)
   ReportsConnection from to old new before after had holds result =
       After b.ledger old new (λ past. Connects b.ledger from.round.device past
       (desk_of old before had) (desk_of new after holds) new to result)
 
-  -- True if `e` was fed to the office, provided that the polling round is new and `e` is the
-  -- connection of its device.
+  -- True if `e` was fed to the office, provided that the polling round is new and `e` is the event
+  -- `Connected` of its device.
   abbrev pub ReportsFirst : Event → (from to : Progress) → Leaves (Result (Unit {0}) RoundFault)
   ReportsFirst e from to old new before after had holds result =
       IsNew from → e ≡ event.Connected from.round.device
@@ -104,8 +104,8 @@ module _ {B C W : Type 0} (b : stores.Ghosts B) (c : clocks.Ghosts C) (w : write
       → (one : Answered) × (one.event ≡ e)
       × Reported b.ledger device past begun (desk_of new after holds) new fed one to result
 
-  -- True if the last event of the polling round was fed to the office, provided that the round was
-  -- broken off for `cause`. The last event is that the device is gone.
+  -- True if the last event of the polling round was fed to the office, provided that a fault ended
+  -- the round for `cause`. The last event is `Gone`: the device is disconnected.
   abbrev pub ClosesBroken : Progress → (cause : RoundFault) → Leaves RoundFault
   ClosesBroken progress cause old new before after had holds fault =
       (device : Option (List ℕ)) (past : History) (begun : RoundState) (fed : List Answered)
@@ -114,7 +114,7 @@ module _ {B C W : Type 0} (b : stores.Ghosts B) (c : clocks.Ghosts C) (w : write
       → Closes b.ledger device past begun (desk_of new after holds) new fed cause fault
 
   -- True if the polling round is over and its link is unchanged, provided that the office refused
-  -- the round's connection.
+  -- the round's event `Connected`.
   abbrev pub EndsUnconnected : Progress → (cause : RoundFault) → Leaves RoundFault
   EndsUnconnected progress cause old new before after had holds fault =
       (device : Option (List ℕ)) (past : History) (begun : RoundState) (wire : Wire)
@@ -138,13 +138,13 @@ module _ {L B C W : Type 0} (l : links.Ghosts L) (b : stores.Ghosts B) (c : cloc
       passage (desk_of b c w old before had) (desk_of b c w new after holds)
       (wire_of l from) (wire_of l to)
 
-  -- The type of a relation between a call's result and the polling round, its link, the office, the
-  -- clock and the writer. The relation is between the states before and after the call.
+  -- The type of the contract of an action of a polling round. It relates the result to the round,
+  -- its link, the office, the clock and the writer before and after the call.
   abbrev pub StepsBetween : Type 0 → Type 1
   StepsBetween X = (here there : Progress) → (from to : L) → Leaves b c w (Result X RoundFault)
 
   -- True if the call performed the action `now`, provided that `now` is the polling round's next
-  -- action. Afterwards `then` gives the next action.
+  -- action. After it the next action is `then` of the result.
   abbrev pub StepsOn : {X : Type 0} → (now : Next) → (then : X → Next) → StepsBetween X
   StepsOn now then here there from to old new before after had holds result =
       StepsFrom b.ledger (scene_of here from old before had) (scene_of there to new after holds)
@@ -165,14 +165,14 @@ module _ {L B C W : Type 0} (l : links.Ghosts L) (b : stores.Ghosts B) (c : cloc
       (wire_of l to) new (one ∷ fed) there result (λ done. next_in past (one ∷ fed))
 
   -- True if the event that the polling round requests was fed to the office. If the round requests
-  -- no event, then no event was fed.
+  -- no event, because it waits for responses or is over, then no event was fed.
   abbrev pub FeedsWanted : StepsBetween (Unit {0})
   FeedsWanted here there from to old new before after had holds result =
       (now : Next) → StepsOn now (λ done. settled now) here there from to old new before after had
       holds result
 
-  -- True if the event that the polling round requests after an event from the link was fed. The
-  -- result is true if the round is over.
+  -- True if the call fed the event that the polling round requests after an event from the link.
+  -- The result is true if the round is over.
   abbrev pub Follows : StepsBetween Bool
   Follows here there from to old new before after had holds result =
       (now : Next) → (now ≡ Connect → ⊥)
@@ -197,12 +197,12 @@ module _ {L B C W : Type 0} (l : links.Ghosts L) (b : stores.Ghosts B) (c : cloc
   abbrev pub TakesTurn : StepsBetween Bool
   TakesTurn = StepsOn Take over_or_take
 
-  -- True if the link was read again and again until the polling round was over.
+  -- True if the link was read until the polling round was over.
   abbrev pub TakesTurns : StepsBetween (Unit {0})
   TakesTurns = StepsOn Take (λ done. Over)
 
-  -- True if the Modbus reads of the plan were started, and the link was read until the polling
-  -- round was over.
+  -- True if the Modbus reads of the device's plan were started, and the link was read until the
+  -- polling round was over.
   abbrev pub PollsOut : StepsBetween (Unit {0})
   PollsOut = StepsOn (StartFrom 0) (λ done. Over)
 

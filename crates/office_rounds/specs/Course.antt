@@ -1,4 +1,6 @@
--- The next event of a polling round, given the events that the round has already fed to the office.
+-- The next event of a polling round, as a function of the events that the round has already fed to
+-- the office. A polling round makes one poll for each Modbus read of a device's plan.
+--
 -- Lists have the latest event first.
 use Rattle.std.specs.Prelude.{◌≡◌, ℕ, ◌+◌, ◌==◌, nat_lt, nat_le, Bool, false, List, [], ◌∷◌, Option, None, Some, Result, Ok, Err, IsOk, if◌then◌else◌}
 use Rattle.std.specs.List.{count_by}
@@ -16,8 +18,8 @@ use Rattle.office_rules.specs.Notes.{notes_after}
 use Rattle.office_core.specs.EventRun.{Answered}
 use Rattle.office_rounds.specs.FedEvents.{history_with}
 
--- The number of the polling round's first poll. If `first` is known, then `first`, otherwise the
--- number that the office's answer reports.
+-- The number of the polling round's first poll: `first` if it is known, otherwise the number that
+-- the office's answer reports.
 abbrev pub first_by : Option ℕ → Answer → Option ℕ
 first_by (Some first) given = Some first
 first_by None answer.Noted = None
@@ -33,27 +35,28 @@ started_by (answer.Done kind) = 0
 started_by (answer.Again kind) = 0
 started_by (answer.Started first count of) = count
 
--- The number of Modbus reads in the plan that the office's answer reports. If the answer reports
--- none, the number `planned` that is known so far.
+-- The number of Modbus reads in the device's plan. If the office's answer does not report it, the
+-- number `planned` that is known so far.
 abbrev pub planned_by : ℕ → Answer → ℕ
 planned_by planned answer.Noted = planned
 planned_by planned (answer.Done kind) = planned
 planned_by planned (answer.Again kind) = planned
 planned_by planned (answer.Started first count of) = of
 
--- The number of the polling round's first poll after one more result of the office. A refusal
+-- The number of the polling round's first poll after the office answered one more event. A refusal
 -- leaves the number unchanged.
 abbrev pub first_after : Option ℕ → Result Answer Refusal → Option ℕ
 first_after first (Ok given) = first_by first given
 first_after first (Err why) = first
 
--- The number of started Modbus reads after one more result of the office. A refusal adds no read.
+-- The number of started Modbus reads after the office answered one more event. A refusal adds no
+-- read.
 abbrev pub started_after : ℕ → Result Answer Refusal → ℕ
 started_after started (Ok given) = started + started_by given
 started_after started (Err why) = started
 
--- The number of Modbus reads in the plan after one more result of the office. A refusal leaves the
--- number unchanged.
+-- The number of Modbus reads in the device's plan after the office answered one more event. A
+-- refusal leaves the number unchanged.
 abbrev pub planned_after : ℕ → Result Answer Refusal → ℕ
 planned_after planned (Ok given) = planned_by planned given
 planned_after planned (Err why) = planned
@@ -74,8 +77,8 @@ abbrev pub reads_planned : List Answered → ℕ
 reads_planned [] = 0
 reads_planned (one ∷ earlier) = planned_after (reads_planned earlier) one.result
 
--- True if the poll belongs to the polling round, because its number is not below that of the
--- round's first poll.
+-- True if the poll belongs to the polling round. Poll numbers increase, so these are the polls from
+-- the round's first poll on.
 abbrev pub is_from : (first : Option ℕ) → ℕ → Bool
 is_from None poll = false
 is_from (Some first) poll = nat_le first poll
@@ -98,9 +101,9 @@ polls_ended past [] = 0
 polls_ended past (one ∷ earlier) = polls_ended past earlier + endings_of past earlier one
 
 -- The next action of a polling round:
--- - `Connect`: feed the connection to the office;
+-- - `Connect`: feed the event `Connected` to the office;
 -- - `StartFrom`: start the Modbus reads of the plan from index `read` on;
--- - `Leave`: feed that the device is gone;
+-- - `Leave`: feed the event `Gone` (the device is disconnected);
 -- - `Take`: read an event from the link;
 -- - `Over`: none, because the round is over.
 pub data Next : Type 0 where
@@ -112,8 +115,8 @@ pub data Next : Type 0 where
 
 -- The next action after a poll ended. If Modbus reads of the plan remain, start these reads.
 --
--- If no read remains and all polls have ended, feed the event that the device is gone. Otherwise
--- read from the link.
+-- If no read remains and all polls have ended, feed the event `Gone`, which ends the round.
+-- Otherwise read from the link.
 abbrev pub next_left : (started ended planned : ℕ) → Next
 next_left started ended planned =
     if nat_lt started planned then StartFrom started
@@ -121,13 +124,13 @@ next_left started ended planned =
     else Take
 
 -- The next action after an event. If the event ended no poll of the polling round, read from the
--- link. Otherwise the result of `next_left`.
+-- link. If it did, the result of `next_left`.
 abbrev pub next_after : (endings started ended planned : ℕ) → Next
 next_after endings started ended planned =
     if endings == 0 then Take else next_left started ended planned
 
--- The next action after an event. After the connection, start the Modbus reads. After the event
--- that the device is gone, no action. Otherwise `next`.
+-- The next action after an event. After `Connected`, start the Modbus reads. After `Gone`, no
+-- action. After any other event, `next`.
 abbrev pub next_by : Event → Next → Next
 next_by (event.Connected given) next = StartFrom 0
 next_by (event.Bytes given piece) next = next

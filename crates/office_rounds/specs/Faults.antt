@@ -1,4 +1,5 @@
--- The faults of a polling round, with the printed text and the sent frames before a fault.
+-- The faults of a polling round, with the text that was printed and the frames that were sent
+-- before a fault.
 use Rattle.std.specs.Prelude.{ℕ, Bool, true, false, List, Option, Result, Ok, Err}
 use Rattle.std.specs.Io.KnownBytes.{Appends}
 use Rattle.sun_points.specs.Writing.{GotPart}
@@ -33,7 +34,7 @@ IsPrinted (Err TurnsUsed) text old new = Appends old new text
 -- True if the frames were written to the link. If the link or the output failed, the frames may be
 -- written in part.
 --
--- After a failed write of the output, the frames of the latest started Modbus reads are missing.
+-- After a failed write of the output, the frames of the latest started Modbus reads were not sent.
 abbrev pub AreGiven : {X : Type 0} → Result X RoundFault → (frames : List ℕ)
     → (old new : Option (List ℕ)) → Type 0
 AreGiven (Ok x) frames old new = Appends old new frames
@@ -58,8 +59,8 @@ OfOffice (Err Link) = ⊥
 OfOffice (Err Output) = Unit {0}
 OfOffice (Err TurnsUsed) = ⊥
 
--- True if the result is not the fault `TurnsUsed`: the polling round used all of its reads of the
--- link.
+-- True if the result is not the fault `TurnsUsed`, which means that the polling round used all of
+-- its 100,000 reads of the link.
 abbrev pub TakesOn : {X : Type 0} → Result X RoundFault → Type 0
 TakesOn (Ok x) = Unit {0}
 TakesOn (Err (Refused why)) = Unit {0}

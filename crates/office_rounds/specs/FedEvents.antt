@@ -1,5 +1,5 @@
--- The events that a polling round fed to an office, with their answers, texts and frames. Lists
--- have the latest event first.
+-- The events that a polling round fed to an office (the engine that records energy), with their
+-- answers, printed texts and frames. Lists have the latest event first.
 use Rattle.std.specs.Prelude.{◌≡◌, ℕ, List, [], ◌∷◌, ◌++◌, Option, Result, Ok, Err}
 use Rattle.socket_link.specs.Clocks.{ReportsMoment}
 use Rattle.script_text.specs.AnswerText.{accepted_text}
@@ -21,16 +21,16 @@ history_with past [] = past
 history_with past (one ∷ earlier) =
     with_answer (history_with past earlier) one.at one.event one.result
 
--- True if each event has the answer that is defined after the earlier events, or was refused for a
--- failure. The store's failure counts change accordingly.
+-- True if each event has the answer that is defined for the state after the earlier events, or was
+-- refused because of a failure. The store's failure counts change accordingly.
 abbrev pub AreAnswered : (past : History) → (before after : Failures) → List Answered → Type 0
 AreAnswered past before after [] = after ≡ before
 AreAnswered past before after (one ∷ earlier) =
     (between : Failures) × AreAnswered past before between earlier
     × IsAnswer (history_with past earlier) one.at one.event between after one.result
 
--- The text printed for an event. If the office accepts the event, the notifications and the answer
--- as in a script. If the office refuses the event, nothing.
+-- The text printed for an event. For an accepted event these are its notifications and the answer,
+-- in the format of a script. For a refused event nothing is printed.
 abbrev pub reported_text : History → (at : ℕ) → Event → Result Answer Refusal → List ℕ
 reported_text past at e (Ok given) =
     accepted_text given (notes_after past at e (Ok given)) (outgoing_after past at e (Ok given))
@@ -65,7 +65,7 @@ pieces_after [] = []
 pieces_after (one ∷ earlier) = pieces_after earlier ++ piece_in one.event
 
 -- True if the timestamp of each event is a time that the clock returned, and the clock advanced
--- from `begun` to `now`.
+-- from `begun` to `now` by these readings.
 abbrev pub AreTimed : (begun now : Option (List ℕ)) → List Answered → Type 0
 AreTimed begun now [] = now ≡ begun
 AreTimed begun now (one ∷ earlier) =

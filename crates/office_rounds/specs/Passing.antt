@@ -1,4 +1,4 @@
--- Properties of a call of a polling round, whatever the store contains.
+-- Properties of a call of a polling round that hold whatever the store contains.
 use Rattle.std.specs.Prelude.{◌≡◌, ◌⊎◌, ◌≤◌, ℕ, ◌+◌, ◌-◌, ◌^◌, min, true, Result, Ok, Err}
 use Rattle.mb_wire.specs.Links.{risen}
 use Rattle.office_books.specs.Ledgers.{Ledger}
@@ -13,7 +13,8 @@ pub record Lasts {B : Type 0} (ledger : B → Ledger) (old new : Office B) : Typ
   pub clean : (ledger (books_in new)).is_clean → (ledger (books_in old)).is_clean
   pub zone : (ledger (books_in new)).zone ≡ (ledger (books_in old)).zone
 
--- True if the count of reads of the link grew by `takes`. The count saturates at 2^64 - 1.
+-- True if the count of reads of the link grew by `takes`. The count stays at 2^64 - 1 when it is
+-- reached.
 abbrev pub AreTakes : (takes before after : ℕ) → Type 0
 AreTakes takes before after = (count : ℕ) → before ≡ min count (2 ^ 64 - 1)
     → after ≡ min (count + takes) (2 ^ 64 - 1)

@@ -1,5 +1,5 @@
--- The state of a polling round after the events that it fed to the office: its pending polls, and
--- its next action.
+-- The state of a polling round (one poll for each Modbus read of a device's plan) after the events
+-- that it fed to the office: its pending polls, and its next action.
 use Rattle.std.specs.Prelude.{◌≡◌, ℕ, zero, suc, ◌+◌, ◌≤◌, ◌==◌, Bool, true, false, List, [], ◌∷◌, ◌++◌, map, length, Option, Some, None, Ok}
 use Rattle.std.specs.List.{filter}
 use Rattle.poll_core.specs.declared.outcome.Closing.TheVariants as closing
@@ -46,7 +46,7 @@ from_on first (suc n) = from_on first n ++ (first + n) ∷ []
 abbrev pub is_open : List Fact → ℕ → Bool
 is_open facts number = length (ends_of facts number) == 0
 
--- True if the polls that were started on the device's present session are exactly those with the
+-- True if the polls that were started since the device last connected are exactly those with the
 -- numbers `numbers`.
 pub record IsOnSession (slots : List Slot) (device : Option (List ℕ)) (numbers : List ℕ) : Type 0
   where
@@ -60,10 +60,10 @@ abbrev pub IsFirst : (first : Option ℕ) → (number started : ℕ) → Type 0
 IsFirst None number started = started ≡ 0
 IsFirst (Some first) number started = first ≡ number
 
--- The state of a polling round that has started polls.
+-- The state of a polling round that has fed its first event.
 --
--- The polls of the round have consecutive numbers, and no other polls were started on the device's
--- session. The pending polls are the polls without a recorded outcome.
+-- The polls of the round have consecutive numbers, and no other polls were started since the device
+-- connected. The pending polls are the polls without a recorded outcome.
 pub record IsUnderWay (device : Option (List ℕ)) (past : History) (fed : List Answered)
     (round : Round) : Type 0 where
   pub number : ℕ
@@ -86,7 +86,8 @@ pub record IsUnfed (fed : List Answered) (round : Round) : Type 0 where
   pub started : round.started ≡ 0
   pub planned : round.planned ≡ 0
 
--- The state of a polling round at each stage, after the events that it fed to the office.
+-- The state of a polling round at each stage, after the events that it fed to the office. It is the
+-- invariant of the type `Round`.
 abbrev pub StandsAt : Stage → (device : Option (List ℕ)) → History → List Answered → Round → Type 0
 StandsAt Off device past fed round = Unit {0}
 StandsAt Joining device past fed round = IsUnfed fed round
@@ -94,16 +95,16 @@ StandsAt Starting device past fed round = IsUnderWay device past fed round
 StandsAt Waiting device past fed round = IsUnderWay device past fed round
 StandsAt (Leaving cause) device past fed round = cause ≡ closing.Gone
 
--- True if the polling round is in the state that follows from its fed events. Its next action is
--- the action that these events require.
+-- True if the polling round is in the state that follows from the events that it fed, and its next
+-- action is the one that the definition `next_in` requires.
 pub record Holds (device : Option (List ℕ)) (past : History) (fed : List Answered)
     (round : Round) : Type 0 where
   pub device_is : round.device ≡ device
   pub next : next_in past fed ≡ next_of round
   pub stands : StandsAt round.stage device past fed round
 
--- The polling round after an event that may end its connection. Any other event leaves the polling
--- round unchanged.
+-- The polling round after an event that may disconnect its device. Any other event leaves the
+-- polling round unchanged.
 abbrev pub ended_by : Event → Round → Round
 ended_by (event.Connected given) round = round
 ended_by (event.Bytes given piece) round = round
@@ -117,8 +118,8 @@ ended_by (event.Asked asked) round = round
 abbrev pub round_after : Event → Answer → List Note → Round → Round
 round_after e given notes round = heard notes (answered (Ok given) (ended_by e round))
 
--- The next action after a polling round has performed an action, if the office's notifications end
--- none of its polls.
+-- The next action after a polling round has performed an action. This assumes that none of its
+-- polls ended by the action.
 abbrev pub settled : Next → Next
 settled Connect = StartFrom 0
 settled (StartFrom read) = Take
@@ -134,7 +135,7 @@ is_over Starting = false
 is_over Waiting = false
 is_over (Leaving cause) = false
 
--- The theorem that a polling round requests exactly the events that are defined as next.
+-- The theorem that a polling round requests exactly the events that the definition `next_in` gives.
 --
 -- If a round in the state after its events feeds the next event, and the office accepts this event,
 -- then the round is in the state after this event too.

@@ -1,5 +1,5 @@
--- The result of a polling round: the state of the office, and the bytes that were read, written and
--- printed during the round.
+-- The result of a polling round (one poll for each Modbus read of a device's plan): the state of
+-- the office, and the bytes that were read, written and printed.
 use Rattle.std.specs.Prelude.{◌≡◌, ◌⊎◌, ℕ, nat_lt, true, ◌||◌, List, [], ◌∷◌, Option, Some, Result, Ok, Err, if◌then◌else◌}
 use Rattle.std.specs.Io.KnownBytes.{Appends, Consumes}
 use Rattle.socket_link.specs.Clocks.{ReportsMoment}
@@ -56,14 +56,14 @@ abbrev pub passage : (begun ended : RoundState) → (from to : Wire) → Passage
 passage begun ended from to = record { begun = begun; ended = ended; from = from; to = to }
 
 -- True if the office is in the state after the fed events. Each event has the defined answer, or
--- was refused for a failure.
+-- was refused because of a failure.
 pub record IsFed {B : Type 0} (ledger : B → Ledger) (past : History) (begun now : RoundState)
     (office : Office B)
     (fed : List Answered) : Type 0 where
   pub stands : Stands ledger (history_with past fed) office
   pub answered : AreAnswered past begun.failures now.failures fed
 
--- True if none of the polls on the device's present session is pending.
+-- True if no poll that was started since the device connected is pending.
 abbrev pub NoneWaits : (device : Option (List ℕ)) → History → Type 0
 NoneWaits device history = (slot : Slot) → slot_of (slots_of history) device ≡ Some slot
     → pending_on slot ≡ []
@@ -73,8 +73,8 @@ NoneWaits device history = (slot : Slot) → slot_of (slots_of history) device �
 abbrev pub IsSettled : {B : Type 0} → (device : Option (List ℕ)) → History → Office B → Type 0
 IsSettled device history office = (is_stopped office ≡ true) ⊎ NoneWaits device history
 
--- True if the polling round ended regularly: it fed each next event, and last the event that
--- the device is gone.
+-- True if the polling round ended without a fault: it fed each next event, and last the event
+-- `Gone` (the device is disconnected).
 --
 -- The bytes read from the link are those in the fed events, the bytes written are the office's
 -- frames, and the office's reports were printed.
@@ -91,8 +91,8 @@ pub record IsRound {B : Type 0} (ledger : B → Ledger) (device : Option (List �
   pub printed : Appends through.begun.printed through.ended.printed (text_after past fed)
   pub settled : IsSettled device (history_with past fed) office
 
--- True if the office refused the connection of a polling round. Then no other event was fed, and
--- nothing was read, written or printed.
+-- True if the office refused the event `Connected` of a polling round. Then no other event was fed,
+-- and nothing was read, written or printed.
 pub record IsNotConnected {B : Type 0} (ledger : B → Ledger) (device : Option (List ℕ))
     (past : History) (through : Passage)
     (office : Office B) (why : Refusal) : Type 0 where
@@ -112,10 +112,11 @@ IsRefused device past why (one ∷ earlier) =
     AreNext device past earlier × Does device (next_in past earlier) one.event
     × (one.result ≡ Err why)
 
--- True if these events were fed before a polling round was broken off. They are each next event
--- and, if the office refused an event, the refused event.
+-- True if these events were fed before a fault ended a polling round. Each of them was the next
+-- event, and the last one is the refused event if the office refused one.
 --
--- If memory for a chunk of bytes ran out, the office refused no event.
+-- If memory for received bytes ran out, the fault is a refusal although the office refused no
+-- event.
 abbrev pub BreaksOff : (device : Option (List ℕ)) → (past : History) → RoundFault → List Answered
     → Type 0
 BreaksOff device past (Refused why) fed =
@@ -124,16 +125,16 @@ BreaksOff device past Link fed = AreNext device past fed
 BreaksOff device past Output fed = AreNext device past fed
 BreaksOff device past TurnsUsed fed = AreNext device past fed
 
--- The timestamp of the event that the device is gone, which is the clock's time `moment`.
+-- The timestamp of the event `Gone` (the device is disconnected): the clock's time `moment`.
 --
--- If the clock was set back or is past the last timestamp, the timestamp `latest` of the latest
--- event.
+-- If the clock was set back or is past the largest supported timestamp, the timestamp `latest` of
+-- the latest event. So the office never refuses `Gone` for its timestamp.
 abbrev pub gone_at : (latest moment : ℕ) → ℕ
 gone_at latest moment =
     if nat_lt moment latest || nat_lt moment_limit moment then latest else moment
 
--- True if `at` is the timestamp of the event that the device is gone, which follows the events in
--- `earlier`.
+-- True if `at` is the timestamp of the event `Gone` (the device is disconnected) after the events
+-- in `earlier`.
 pub record IsGoneAt (past : History) (begun now : Option (List ℕ)) (earlier : List Answered)
     (at : ℕ) : Type 0 where
   pub between : Option (List ℕ)
@@ -142,15 +143,15 @@ pub record IsGoneAt (past : History) (begun now : Option (List ℕ)) (earlier : 
   pub reported : ReportsMoment between now moment
   pub is : at ≡ gone_at (latest_of (history_with past earlier)) moment
 
--- True if `fault` may be reported for a polling round that was broken off for `cause`. It is the
--- cause itself, or a later failed write of the output.
+-- True if `fault` may be reported for a polling round that ended early for `cause`. It is the cause
+-- itself, or a later failed write of the output.
 abbrev pub IsReportedOf : (cause fault : RoundFault) → Type 0
 IsReportedOf cause fault = (fault ≡ cause) ⊎ (fault ≡ Output)
 
--- True if the polling round was broken off after its next events were fed to the office.
+-- True if a fault ended the polling round after the round had fed some of its events to the office.
 --
--- Its last event reports that the device is gone, as after a failed read or write of the link. The
--- reported fault does not depend on the answer to this event.
+-- Its last event reports a failed connection (`Gone` with `Failed`). The reported fault does not
+-- depend on the answer to this event.
 pub record IsBrokenOff {B : Type 0} (ledger : B → Ledger) (device : Option (List ℕ))
     (past : History) (through : Passage)
     (office : Office B) (fault : RoundFault) : Type 0 where
@@ -169,7 +170,7 @@ pub record IsBrokenOff {B : Type 0} (ledger : B → Ledger) (device : Option (Li
       through.begun.printed through.ended.printed
   pub settled : IsSettled device (history_with past (gone ∷ earlier)) office
 
--- True if the fault is that the office refused the connection of the polling round.
+-- True if the fault is that the office refused the polling round's event `Connected`.
 abbrev pub IsNotConnectedBy : {B : Type 0} → (B → Ledger) → (device : Option (List ℕ)) → History
     → Passage → Office B
     → RoundFault → Type 0
@@ -179,8 +180,8 @@ IsNotConnectedBy ledger device past through office Link = ⊥
 IsNotConnectedBy ledger device past through office Output = ⊥
 IsNotConnectedBy ledger device past through office TurnsUsed = ⊥
 
--- True for the result of a polling round. On `Ok` the round ended regularly. On a fault its
--- connection was refused, or the round was broken off.
+-- True for the result of a polling round. On `Ok` the round ended without a fault. Otherwise the
+-- office refused its event `Connected`, or another fault ended the round.
 abbrev pub Rounds : {B : Type 0} → (B → Ledger) → (device : Option (List ℕ)) → (past : History)
     → Passage → Office B
     → Result (Unit {0}) RoundFault → Type 0

@@ -1,4 +1,4 @@
--- The state of a polling round between two of its actions.
+-- The state of a polling round between two of its actions, such as a read of the link.
 use Rattle.std.specs.Prelude.{◌≡◌, ◌⊎◌, ◌||◌, ℕ, Bool, true, false, List, [], ◌∷◌, Option, Result, Ok, Err}
 use Rattle.std.specs.Io.KnownBytes.{Appends, Consumes}
 use Rattle.office_events.specs.declared.events.Event.{Event}
@@ -28,13 +28,13 @@ use Rattle.office_rounds.specs.declared.fault.RoundFault.{RoundFault}
 use Rattle.office_rounds.specs.declared.fault.RoundFault.TheVariants.{Refused, Link, Output, TurnsUsed}
 use Rattle.office_rounds.specs.declared.progress.Progress.{Progress}
 
--- The first event of a polling round, with the office's answer. The event is the connection of the
+-- The first event of a polling round, with the office's answer. The event is `Connected` for the
 -- round's device at timestamp `at`.
 abbrev pub connection : (device : Option (List ℕ)) → (at : ℕ) → Result Answer Refusal → Answered
 connection device at result = record { at = at; event = event.Connected device; result = result }
 
--- True if the office answered the event `e` with `reply`, is in the state after this event, and
--- reports this event.
+-- True if the office answered the event `e` with `reply`, is in the state after this event, and has
+-- the notifications and frames of this event.
 pub record IsTaken {B : Type 0} (ledger : B → Ledger) (past : History) (at : ℕ) (e : Event)
     (reply : Result Answer Refusal)
     (begun now : RoundState) (office : Office B) : Type 0 where
@@ -52,8 +52,8 @@ pub record IsUnprinted {B : Type 0} (ledger : B → Ledger) (past : History) (at
   pub printed : IsPrinted {X = Unit {0}} (Err Output) (reported_text past at e (Ok given)) begun.printed
       now.printed
 
--- True if the event was fed to the office. If the event was accepted, its report was printed. If a
--- write failed, the report was printed in part.
+-- True if the event was fed to the office. If the event was accepted, its report was printed, or a
+-- part of the report if the write failed.
 abbrev pub Feeds : {B : Type 0} → (B → Ledger) → History → (at : ℕ) → Event
     → (begun now : RoundState) → Office B
     → Result Answer RoundFault → Type 0
@@ -66,16 +66,17 @@ Feeds ledger past at e begun now office (Err Output) = IsUnprinted ledger past a
 Feeds ledger past at e begun now office (Err Link) = ⊥
 Feeds ledger past at e begun now office (Err TurnsUsed) = ⊥
 
--- The relation between a refused event and whether the office is stopped.
+-- The rule for when the office stops: it then refuses every event until a restart.
 --
--- The office refuses an event as stopped only if it was stopped before. It stops if an event that
--- may end polls fails.
+-- The office refuses an event as `Stopped` only if it was stopped before. It stops if the store or
+-- memory fails during an event that may end polls.
 pub record Stops (was : Bool) (e : Event) (reply : Result Answer Refusal) (now : Bool) : Type 0
   where
     pub before : reply ≡ Err refusal.Stopped → was ≡ true
     pub after : now ≡ (was || stops e reply)
 
--- True if `Stops` holds, provided that the office refused the event that was fed.
+-- True if the office followed the rule `Stops` when it refused the event. Any other result claims
+-- nothing.
 abbrev pub FeedStops : (was : Bool) → Event → Result Answer RoundFault → (now : Bool) → Type 0
 FeedStops was e (Ok given) now = Unit {0}
 FeedStops was e (Err (Refused why)) now = Stops was e (Err why) now
@@ -83,7 +84,7 @@ FeedStops was e (Err Link) now = Unit {0}
 FeedStops was e (Err Output) now = Unit {0}
 FeedStops was e (Err TurnsUsed) now = Unit {0}
 
--- True if `Stops` holds, provided that the office's answer is a refusal.
+-- True if the office followed the rule `Stops`, provided that its answer is a refusal.
 abbrev pub RefusedStops : (was : Bool) → Event → Result Answer Refusal → (now : Bool) → Type 0
 RefusedStops was e reply now = (why : Refusal) → reply ≡ Err why → Stops was e reply now
 
@@ -107,7 +108,7 @@ pub record EndsUnprinted {B : Type 0} (ledger : B → Ledger) (past : History) (
   pub stops : RefusedStops (is_stopped old) e reply (is_stopped new)
 
 -- The fault to report after the last event of a polling round. If printing the event failed,
--- `Output`. Otherwise the cause for which the round was broken off.
+-- `Output`. Otherwise the cause that ended the round early.
 abbrev pub fault_after : (cause fault : RoundFault) → RoundFault
 fault_after cause (Refused why) = cause
 fault_after cause Link = cause
@@ -139,7 +140,8 @@ latest_after Link at latest = latest
 latest_after Output at latest = at
 latest_after TurnsUsed at latest = latest
 
--- The progress of a polling round that has fed no event yet.
+-- The progress of a polling round that has fed no event yet: its device is connected, and `latest`
+-- is 0.
 abbrev pub unfed : (device : Option (List ℕ)) → Progress
 unfed device = record { round = joined (unconnected device); latest = 0 }
 
@@ -147,8 +149,8 @@ unfed device = record { round = joined (unconnected device); latest = 0 }
 abbrev pub IsNew : Progress → Type 0
 IsNew progress = progress.round ≡ joined (unconnected progress.round.device)
 
--- The state of a running polling round. Each event that it fed was the next event, was accepted by
--- the office, and was printed.
+-- The state of a running polling round. The round fed each event in the defined order, and the
+-- office accepted and printed each of them.
 pub record Going {B : Type 0} (ledger : B → Ledger) (device : Option (List ℕ)) (past : History)
     (begun now : RoundState)
     (office : Office B) (fed : List Answered) (progress : Progress) : Type 0 where
@@ -159,7 +161,8 @@ pub record Going {B : Type 0} (ledger : B → Ledger) (device : Option (List ℕ
   pub holds : Holds device past fed progress.round
   pub latest : progress.latest ≡ latest_of (history_with past fed)
 
--- The state of a polling round that was broken off for `cause`, and has yet to feed its last event.
+-- The state of a polling round that was ended early for `cause`, and has yet to feed its last
+-- event, `Gone`.
 pub record Broken {B : Type 0} (ledger : B → Ledger) (device : Option (List ℕ)) (past : History)
     (begun now : RoundState)
     (office : Office B) (fed : List Answered) (progress : Progress) (cause : RoundFault) : Type 0
@@ -179,8 +182,8 @@ pub record IsWired {X : Type 0} (past : History) (from to : Wire) (fed : List An
   pub taken : Consumes from.remaining to.remaining (pieces_after fed)
   pub given : AreGiven result (frames_after past fed) from.given to.given
 
--- True if the running polling round fed its next event, and the office has frames to send for this
--- event.
+-- True if the running polling round fed its next event, and the frames that the office is about to
+-- send are those of this event.
 pub record RoundGoesOn {B : Type 0} (ledger : B → Ledger) (device : Option (List ℕ))
     (past : History) (begun now : RoundState)
     (office : Office B) (fed : List Answered) (one : Answered) (progress : Progress) : Type 0 where
@@ -197,7 +200,7 @@ IsUnsent Output result = Unit {0}
 IsUnsent TurnsUsed result = ⊥
 
 -- The state after an event of a polling round. On `Ok` the round is running. On a fault the round
--- is broken off, and no frames of the event were sent.
+-- has ended early, and no frames of the event were sent.
 abbrev pub Reported : {B : Type 0} → (B → Ledger) → (device : Option (List ℕ)) → History
     → (begun now : RoundState) → Office B
     → List Answered → Answered → Progress → Result (Unit {0}) RoundFault → Type 0
@@ -208,7 +211,7 @@ Reported ledger device past begun now office fed one progress (Err cause) =
     × IsUnsent cause one.result
 
 -- The state after an action of a running polling round. On `Ok` the round is running, with the next
--- action that `next` gives. On a fault the round is broken off.
+-- action that `next` gives. On a fault the round has ended early.
 abbrev pub Steps : {B X : Type 0} → (B → Ledger) → (device : Option (List ℕ)) → History
     → (begun now : RoundState) → (from to : Wire)
     → Office B → List Answered → Progress → Result X RoundFault → (X → Next) → Type 0
@@ -232,10 +235,10 @@ abbrev pub scene : {B : Type 0} → Office B → RoundState → Wire → Progres
 scene office round_state wire progress =
     record { office = office; round_state = round_state; wire = wire; progress = progress }
 
--- True if `Steps` holds for every running polling round that has this progress and the next action
--- `now`.
+-- The contract of an action `now` of a polling round. It promises `Steps` for any running polling
+-- round with this progress whose next action is `now`.
 --
--- No wrong result of the store was used so far.
+-- This assumes that no wrong result of the store was used so far.
 abbrev pub StepsFrom : {B X : Type 0} → (B → Ledger) → (old new : Scene B) → (now : Next)
     → Result X RoundFault → (X → Next) → Type 0
 StepsFrom ledger old new now result next =
@@ -248,8 +251,8 @@ StepsFrom ledger old new now result next =
     × Steps ledger device past begun new.round_state from new.wire new.office later new.progress
     result next
 
--- The result of feeding the connection of a device to the office. Then the polling round is
--- running, the office refused the connection, or printing failed.
+-- The result of feeding the event `Connected` of a device to the office. Then the polling round is
+-- running, the office refused the event, or printing failed.
 abbrev pub Connects : {B : Type 0} → (B → Ledger) → (device : Option (List ℕ)) → History
     → (begun now : RoundState) → Office B → Progress
     → Result (Unit {0}) RoundFault → Type 0
@@ -267,8 +270,8 @@ Connects ledger device past begun now office progress (Err Output) =
 Connects ledger device past begun now office progress (Err Link) = ⊥
 Connects ledger device past begun now office progress (Err TurnsUsed) = ⊥
 
--- True if a polling round that was broken off has fed its last event. The event reports that the
--- device is gone, as after a failed read or write of the link.
+-- True if a polling round that a fault ended has fed its last event. This event is `Gone` with the
+-- cause `Failed`, as after a failed read or write of the link.
 pub record Closes {B : Type 0} (ledger : B → Ledger) (device : Option (List ℕ)) (past : History)
     (begun now : RoundState)
     (office : Office B) (earlier : List Answered) (cause fault : RoundFault) : Type 0 where

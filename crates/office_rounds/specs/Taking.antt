@@ -1,4 +1,4 @@
--- The event for one read of the link in a polling round, and the count of such reads.
+-- The event that a polling round makes from one read of the link, and the count of such reads.
 use Rattle.std.specs.Prelude.{◌≡◌, ◌⊎◌, ℕ, Bool, true, false, List, [], length, Option, Some, Result, Ok, Err}
 use Rattle.mb_wire.specs.Links.{risen}
 use Rattle.mb_wire.specs.declared.link.LastTake.{LastTake}
@@ -20,8 +20,8 @@ abbrev pub over_or_take : Bool → Next
 over_or_take true = Over
 over_or_take false = Take
 
--- True if the event belongs to the result of a read of the link. It is bytes of the device, the end
--- of the connection, or a timer event if the read timed out.
+-- True if the event is the one for this result of a read of the link: bytes of the device, the end
+-- of the connection (`Gone`), or a timer event (`Tick`) if the read timed out.
 abbrev pub IsEventOf : (device : Option (List ℕ)) → Result Took LinkFailed → Event → Type 0
 IsEventOf device (Ok (Bytes count)) e =
     (piece : List ℕ) × (length piece ≡ count) × (e ≡ event.Bytes device piece)
@@ -33,8 +33,8 @@ IsEventOf device (Err failed) e = ⊥
 abbrev pub IsLast : Option LastTake → Result Took LinkFailed → Type 0
 IsLast last answer = last ≡ Some (record { room = 260; answer = answer })
 
--- True if the link was read once, and the event belongs to the result of the read. If memory for a
--- chunk ran out, the link was not read.
+-- True if the link was read once, and the event is the one for the result of the read. If memory
+-- for the received bytes ran out, the link was not read.
 abbrev pub Brings : (device : Option (List ℕ)) → Result Event RoundFault → (before after : ℕ)
     → Option LastTake → Type 0
 Brings device (Ok e) before after last =
@@ -51,7 +51,7 @@ abbrev pub brought : Result Event RoundFault → List ℕ
 brought (Ok e) = piece_in e
 brought (Err fault) = []
 
--- True if the count of reads of the link grew by one. If memory for a chunk of bytes ran out, the
+-- True if the count of reads of the link grew by one. If memory for received bytes ran out, the
 -- count may be unchanged.
 abbrev pub TurnTakes : {X : Type 0} → Result X RoundFault → (before after : ℕ) → Type 0
 TurnTakes (Ok x) before after = after ≡ risen true before

@@ -1,4 +1,5 @@
-//! The polling rounds of several devices, and the event that each polling round requests next.
+//! The polling rounds of several devices (one poll for each Modbus read of a device's plan), and
+//! the event that each polling round requests next.
 
 mod polls;
 mod round;

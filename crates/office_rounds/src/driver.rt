@@ -1,5 +1,5 @@
-//! Drives an office that polls several devices at once: feeds device events to the office, and then
-//! the events that the polling rounds request.
+//! Drives an office, the engine that records energy, while it polls several devices at once. Feeds
+//! each device event to the office, and then the events that the polling rounds request.
 
 mod device_events;
 mod feed;

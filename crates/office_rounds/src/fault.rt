@@ -1,4 +1,4 @@
-//! The reasons why the polling round of a device is broken off.
+//! The reasons why the polling round of a device ends early.
 ghost use Rattle.std.specs.Prelude.{◌≡◌};
 ghost use Rattle.office_rounds.specs.Faults.{fault_number};
 
@@ -8,7 +8,7 @@ use std::error::Error;
 use std::fmt;
 use std::fmt::{Display, Formatter};
 
-/// The reason why the polling round of a device was broken off.
+/// The reason why the polling round of a device ended early.
 #[derive(Clone, Copy, Debug, PartialEq, Eq)]
 pub enum RoundFault {
     /// The office refused an event that the polling round fed.

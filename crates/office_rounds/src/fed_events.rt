@@ -1,4 +1,5 @@
-//! Feeds events to the office, and prints the office's notifications and answers.
+//! Feeds events to the office (the engine that records energy), and prints the office's
+//! notifications and answers.
 ghost use Rattle.std.specs.Prelude.{◌≡◌};
 ghost use Rattle.office_core.specs.Standing.{is_stopped};
 ghost use Rattle.office_rounds.specs.Between.{FeedsAndPrints, PrintsReported, ReportsFirst, ReportsNext};
@@ -53,8 +54,8 @@ pub(crate) fn feed<B: Books, W: Write>(
     }
 }
 
-/// Returns the timestamp of the latest accepted event. If an event at `at` was accepted but
-/// printing its report failed, this is `at`. Otherwise it is `latest`.
+/// Returns the timestamp of the latest accepted event, after a fault. If the event at `at` was
+/// accepted but printing its report failed, this is `at`. Otherwise it is `latest`.
 pub(crate) fn latest_after(fault: RoundFault, at: u64, latest: u64) -> u64
     ensures { result ≡ stepping.latest_after fault at latest }
 {

@@ -1,5 +1,5 @@
-//! Polling rounds of devices. Each polling round polls the complete plan of a device once over the
-//! link to the device.
+//! Polling rounds of devices. A polling round makes one poll for each Modbus read of a device's
+//! plan, over the link to the device.
 #![tactic(auto)]
 
 mod device_rounds;

@@ -1,4 +1,5 @@
-//! The progress of a device's polling round over a link to the device.
+//! The progress of a device's polling round (one poll for each Modbus read of its plan) over a link
+//! to the device.
 ghost use Rattle.std.specs.Prelude.{◌≡◌};
 ghost use Rattle.office_rounds.specs.Polling as polling;
 ghost use Rattle.office_rounds.specs.Polling.{ended_by, round_after};
@@ -16,7 +17,7 @@ pub(crate) struct Progress {
     pub(crate) latest: u64,
 }
 
-// Marks the polling round as leaving if the event ends the connection to the round's device.
+// Changes the stage of the polling round to `Leaving` if the event disconnects the round's device.
 fn end_by(round: &mut Round, event: &Event)
     ensures { round.new ≡ ended_by event.now round.old }
 {
@@ -40,8 +41,8 @@ impl Progress {
         Progress { round, latest: 0 }
     }
 
-    /// Updates the polling round after the office accepted its event, by the office's answer and
-    /// notifications.
+    /// Updates the polling round after the office accepted its event: by the event, by the office's
+    /// answer and by the notifications.
     pub(crate) fn note(&mut self, at: u64, event: &Event, answer: Answer, notes: &[Note])
         ensures round { self.new.round ≡ round_after event.now answer notes.now self.old.round }
         ensures latest { self.new.latest ≡ at }

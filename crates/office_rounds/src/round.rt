@@ -1,4 +1,5 @@
-//! Polls the plan of one device over the link to the device.
+//! Polls one device once, over the link to the device: one poll for each Modbus read of the
+//! device's plan.
 ghost use Rattle.std.specs.Prelude.{◌≡◌, Err};
 ghost use Rattle.mb_wire.specs.Links.{risen};
 ghost use Rattle.office_rounds.specs.Between.{EndsUnconnected, PollsOut, PollsToEnd, RoundsOver, TakesTurns, ReportsConnection};
@@ -20,10 +21,11 @@ use socket_link::Clock;
 use std::alloc::Global;
 use std::io::Write;
 
-/// The largest number of reads of the link in one polling round.
+/// The largest number of reads of the link in one polling round. The limit ends a round with a
+/// device that sends without end.
 pub const MOST_TAKES: u32 = 100_000;
 
-// Feeds the connection of the polling round's device to the office.
+// Feeds the first event of a polling round to the office: `Connected` for the round's device.
 fn connect<B: Books, C: Clock, W: Write>(
     progress: &mut Progress,
     office: &mut Office<B>,
@@ -90,8 +92,8 @@ fn poll_connected<L: Link, B: Books, C: Clock, W: Write>(
     }
 }
 
-// Polls a connected device until its polling round is over. If the round is broken off, feeds the
-// event that the device is gone to the office.
+// Polls a connected device until its polling round is over. If a fault ends the round early, feeds
+// the event `Gone` (the device is disconnected) to the office.
 fn poll_to_end<L: Link, B: Books, C: Clock, W: Write>(
     alloc: Global,
     progress: &mut Progress,
@@ -114,8 +116,8 @@ fn poll_to_end<L: Link, B: Books, C: Clock, W: Write>(
     }
 }
 
-// Ends a polling round whose first event had a fault. Feeds the event that the device is gone to
-// the office, unless the office refused the connection.
+// Ends a polling round whose first event had a fault. Feeds the event `Gone` (the device is
+// disconnected) to the office, unless the office refused the event `Connected`.
 fn end_unconnected<B: Books, C: Clock, W: Write>(
     progress: &Progress,
     fault: RoundFault,
@@ -136,26 +138,25 @@ fn end_unconnected<B: Books, C: Clock, W: Write>(
     }
 }
 
-/// Polls the complete plan of a device once, over a new link to the device.
+/// Polls a device once over a new link: one poll for each Modbus read of the device's plan.
 ///
-/// The polling round feeds the connection to the office, and starts the Modbus reads of the plan in
-/// order. It feeds the bytes of the link as they arrive, and a timer event if a read of the link
-/// times out. After each event that ends a poll of the round, it starts the next Modbus reads.
+/// The polling round feeds the event `Connected` to the office, and starts the Modbus reads of the
+/// plan in order. It feeds the bytes of the link as they arrive, and a timer event if a read of the
+/// link times out. After each event that ends a poll of the round, it starts the next Modbus reads.
 ///
-/// Once all polls have ended, or the link has ended, the round feeds the event that the device is
-/// gone. The timestamp of each event is the clock's time.
+/// Once all polls have ended, or the link has ended, the round feeds the event `Gone` (the device
+/// is disconnected). The timestamp of each event is the clock's time.
 ///
 /// Accepted events are printed as a script prints them: their notifications, and `ok` or the
 /// started polls. Refusals are not printed.
 ///
 /// If `device` is `None`, the office knows no device with this name. After a fault the round feeds
-/// the event that the device is gone, as after a failed read or write of the link. The round also
-/// prints this last event, unless printing failed. If the office refused the connection, nothing
-/// else is fed.
+/// the event `Gone` with the cause `Failed`. The round also prints this last event, unless printing
+/// failed. If the office refused the event `Connected`, nothing else is fed.
 ///
-/// If the clock was set back, or is past the last timestamp, the last event has the timestamp of
-/// the latest event. At the end none of the device's polls is pending, unless the office has
-/// stopped because the store or memory failed.
+/// If the clock was set back, or is past the largest supported timestamp, the last event has the
+/// timestamp of the latest event. At the end none of the device's polls is pending, unless the
+/// office has stopped because the store or memory failed.
 pub fn round_over<L: Link, B: Books, C: Clock, W: Write>(
     alloc: Global,
     link: &mut L,

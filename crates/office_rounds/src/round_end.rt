@@ -1,5 +1,5 @@
-//! Ends a polling round that was broken off, by feeding the event that its device is gone to the
-//! office.
+//! Ends a polling round after a fault, by feeding the event `Gone` (the device is disconnected) to
+//! the office.
 ghost use Rattle.std.specs.Prelude.{◌≡◌};
 ghost use Rattle.office_rounds.specs.Between.{ClosesBroken, EndsAndPrints, EndsSilently};
 ghost use Rattle.office_rounds.specs.Passing.{Lasts};
@@ -17,9 +17,9 @@ use poll_core::{Closing, LAST_MOMENT};
 use socket_link::Clock;
 use std::io::Write;
 
-// Returns the timestamp of the event that a device is gone, which is the clock's time `moment`. If
-// the clock was set back or is past the last timestamp, returns the timestamp `latest` of the
-// latest event.
+// Returns the timestamp of the event `Gone` (the device is disconnected): the clock's time
+// `moment`. If the clock was set back or is past the largest supported timestamp, returns the
+// timestamp `latest` of the latest event.
 fn gone_at(latest: u64, moment: u64) -> u64
     ensures { result ≡ rounds.gone_at latest moment }
 {
@@ -31,7 +31,7 @@ fn gone_at(latest: u64, moment: u64) -> u64
 }
 
 // Returns the fault to report for a polling round. If printing the last event failed, this is
-// `Output`. Otherwise it is the cause for which the round was broken off.
+// `Output`. Otherwise it is the cause that ended the round early.
 fn fault_after(cause: RoundFault, fault: RoundFault) -> RoundFault
     ensures { result ≡ stepping.fault_after cause fault }
 {
@@ -55,8 +55,8 @@ fn is_output(fault: RoundFault) -> bool
     }
 }
 
-// Feeds the event that the device is gone to the office, and prints the office's report of the
-// event.
+// Feeds the event `gone` (the device is disconnected) to the office, and prints the office's report
+// of the event.
 fn end_printed<B: Books, W: Write>(
     at: u64,
     gone: &Event,
@@ -75,7 +75,8 @@ fn end_printed<B: Books, W: Write>(
     }
 }
 
-// Feeds the event that the device is gone to the office, and prints nothing.
+// Feeds the event `gone` (the device is disconnected) to the office, and prints nothing, because an
+// earlier write of the output failed.
 fn end_unprinted<B: Books>(at: u64, gone: &Event, office: &mut Office<B>)
     ensures ends { EndsSilently B.Books at gone.now office.old office.new }
     ensures lasts { Lasts B.ledger office.old office.new }
@@ -83,10 +84,10 @@ fn end_unprinted<B: Books>(at: u64, gone: &Event, office: &mut Office<B>)
     let _answer = office.feed(at, gone);
 }
 
-/// Feeds the event that the device is gone to the office, as after a failed read or write of the
-/// link. Prints the office's report of the event.
+/// Feeds the event `Gone` (the device is disconnected) to the office, with the cause `Failed`.
+/// Prints the office's report of the event.
 ///
-/// If the polling round was broken off because a write of the output failed, nothing is printed.
+/// If the polling round ended early because a write of the output failed, nothing is printed.
 /// Returns the fault to report: `Output` if printing the last event failed, otherwise the given
 /// fault.
 pub(crate) fn close<B: Books, C: Clock, W: Write>(

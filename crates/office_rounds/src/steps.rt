@@ -1,5 +1,5 @@
-//! The single actions of a polling round. Each action feeds an event to the office and writes the
-//! office's frames to the link.
+//! The single actions of a polling round. Each action feeds events to the office and writes the
+//! office's Modbus frames to the link.
 ghost use Rattle.std.specs.Prelude.{◌≡◌, IfOk};
 ghost use Rattle.std.specs.Io.KnownBytes.{Consumes, Keeps};
 ghost use Rattle.mb_wire.specs.Links.{risen};
@@ -21,7 +21,7 @@ use socket_link::Clock;
 use std::alloc::Global;
 use std::io::Write;
 
-// Writes the frames that the office sends to the link of the device.
+// Writes the Modbus frames that the office sends for an event to the link of the device.
 fn send<L: Link>(link: &mut L, frames: &[u8]) -> Result<(), RoundFault>
     ensures given { AreGiven result frames.now (L.given link.old) (L.given link.new) }
     ensures kind { OnlyLink result }
@@ -106,8 +106,8 @@ pub(crate) fn feed_requested<L: Link, B: Books, C: Clock, W: Write>(
     }
 }
 
-// Feeds the event that the polling round requests after an event from the link, if any. Returns
-// true if the round is over.
+// Feeds the event that the polling round requests after an event from the link, if there is a
+// request. Returns true if the round is over.
 fn follow<L: Link, B: Books, C: Clock, W: Write>(
     progress: &mut Progress,
     link: &mut L,

@@ -1,5 +1,6 @@
 -- Lemmas that the records stay lawful after an accepted command adds a device, a point list, an
--- accounting register or a meter.
+-- accounting register or a meter. Lawful means that the rules accept each record after the earlier
+-- ones.
 use Rattle.std.proofs.Common.{◌≡◌, ℕ, ◌≤◌, nat_lt, nat_le, true, false, ◌||◌, List, ◌++◌, reverse, refl, sym, ◌∙◌, Option, Some, None, arith}
 use Rattle.std.specs.Option.{is_some, is_none, option_map, option_and_then, option_to_list}
 use Rattle.std.proofs.lemmas.Bool.{or_parts, ltb-false}
@@ -43,7 +44,8 @@ not_none : {X : Type 0} (o : Option X) → is_none o ≡ false → is_some o ≡
 not_none None h = absurd (cc)
 not_none (Some x) h = refl
 
--- If a slot has the given device name, then a device record with this name exists.
+-- If a slot (a device with its connections) has the given device name, then a device record with
+-- this name exists.
 known_device : (slots : List Slot) (facts : List Fact) (device : List ℕ) → HaveSameDevices slots facts → is_none (slot_of slots (Some device)) ≡ false
     → is_some (device_of facts device) ≡ true
 known_device slots facts device devices known =

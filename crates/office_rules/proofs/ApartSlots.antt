@@ -1,5 +1,6 @@
--- Lemmas that no two slots of the office have devices with the same name. Therefore the start of a
--- poll concerns one session, and a new connection concerns a device without a session.
+-- Lemmas that no two slots of the office have devices with the same name. A slot is a device with
+-- its sessions, one for each connection. Therefore the start of a poll concerns one session, and a
+-- new connection concerns a device without a session.
 use Rattle.std.proofs.Common.{◌≡◌, ℕ, Bool, true, false, cond, List, [], ◌∷◌, ◌++◌, map, refl, sym, ap, subst, ◌∙◌, Option, Some, None, is_some, inl, inr, if◌then◌else◌}
 use Rattle.std.specs.List.{flat_map, find}
 use Rattle.std.specs.Option.{option_and_then}
@@ -89,7 +90,7 @@ apart-push_by (slot ∷ slots) new h none =
 pub apart-push : (slots : List Slot) (new : Slot) → AreApart slots → slot_of slots (Some new.device.name) ≡ None → AreApart (slots ++ new ∷ [])
 apart-push slots new h none = apart-push_by slots new h (none_found new.device.name slots none)
 
--- If an event that connects a device is accepted, then the device has no session.
+-- If an event connects no device, then it connects no device that is already connected.
 pub free_other : (e : Event) → ((device : Device) → connects e device ≡ false) → (slots : List Slot) → AreFree e slots
 free_other e never [] = tt
 free_other e never (slot ∷ slots) = ((λ h. absurd (both_ways _ (never slot.device) h)), free_other e never slots)

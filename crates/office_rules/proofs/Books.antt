@@ -1,4 +1,4 @@
--- The records after any accepted events satisfy `AreTrue`.
+-- The proof that the records after any accepted events are correct, as `AreTrue` defines.
 use Rattle.office_rules.specs.History.{History, facts_of}
 use Rattle.office_rules.specs.Refusals.{AreAccepted}
 use Rattle.office_rules.specs.Endings.{EachEndsOnce}

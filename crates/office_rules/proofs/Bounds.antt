@@ -1,4 +1,5 @@
--- The timestamps and numbers of lawful records are within their limits.
+-- Lemmas that the timestamps and numbers of lawful records are within their limits. Lawful means
+-- that the rules accept each record after the earlier ones.
 use Rattle.std.proofs.Common.{◌≡◌, ℕ, ◌≤◌, ◌==◌, Bool, true, false, cond, List, [], ◌∷◌, refl, Option, Some, arith}
 use Rattle.std.specs.Option.{is_some}
 use Rattle.std.proofs.lemmas.Bool.Decides.{nat_tests}

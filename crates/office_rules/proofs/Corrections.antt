@@ -1,5 +1,6 @@
 -- Lemmas that the records stay lawful after an accepted command closes a meter, resets its counter
--- or changes its scale factor.
+-- or changes its scale factor. Lawful means that the rules accept each record after the earlier
+-- ones.
 use Rattle.std.proofs.Common.{◌≡◌, ℕ, ℤ, pos, negsuc, ◌≤◌, ◌≤ℤ◌, suc, int_lt, Bool, true, false, cond, ◌||◌, List, [], ◌∷◌, ◌++◌, reverse, refl, sym, subst, Option, Some, None, arith}
 use Rattle.std.specs.Prelude.{Contains}
 use Rattle.std.specs.List.{AllByRecursion, find}

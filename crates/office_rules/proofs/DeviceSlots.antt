@@ -1,4 +1,5 @@
--- Lemmas that the slots of the office have the same devices as the records.
+-- Lemmas that the slots of the office (devices with their Modbus sessions) have the same devices as
+-- the records.
 use Rattle.std.proofs.Common.{◌≡◌, ℕ, Bool, true, false, cond, List, [], ◌∷◌, ◌++◌, ◌||◌, map, reverse, refl, sym, ap, ◌∙◌, Option, Some, None}
 use Rattle.std.specs.Option.{is_some, option_map, option_to_list}
 use Rattle.std.specs.List.{find, list_any}
@@ -20,7 +21,7 @@ use Rattle.office_rules.proofs.EndedFacts.{unseen-with_settled}
 use Rattle.office_rules.proofs.ApartSlots.{device-after, same_refl}
 use Rattle.office_rules.proofs.QuietFacts.{HoldsOfBooks, added_each, reply_each, each_mapped, unseen, later_part_first}
 
--- The devices of a list of slots. A slot is a device with its sessions.
+-- The devices of a list of slots. A slot is a device with its Modbus sessions.
 abbrev pub devices_on : List Slot → List Device
 devices_on slots = map (λ slot. slot.device) slots
 

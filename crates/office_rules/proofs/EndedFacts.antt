@@ -112,7 +112,7 @@ recorded-with_outcomes at (s ∷ later) facts =
     (IsPermutation-trans _ _ _ (same_is _ _ (ap (λ ends. map as_end later ++ ends) (recorded-with_outcome at s facts)))
     (IsPermutation-middle (map as_end later) (as_end s) (recorded facts)))
 
--- The polls that an event ends on all sessions, device by device.
+-- The polls that an event ends on all Modbus sessions, device by device.
 abbrev pub settled_on_all : (number at : ℕ) → Event → List Slot → List (ℕ × session.Settlement)
 settled_on_all number at e slots = flat_map (settled_by number at e) slots
 

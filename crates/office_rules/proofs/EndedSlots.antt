@@ -30,8 +30,8 @@ Results = List (poll.Poll × Option session.Settlement)
 abbrev pub shown : Bool → Results → List Ended
 shown restarted rs = map (λ result. (result.0.number, end_by restarted result.1)) rs
 
--- The numbers of a session's polls do not depend on whether a restart of the office ended the
--- session.
+-- The numbers of a Modbus session's polls do not depend on whether a restart of the office ended
+-- the session.
 pub numbers_shown : (b : Bool) (rs : Results) → numbers_in (shown b rs) ≡ numbers_of rs
 numbers_shown b [] = refl
 numbers_shown b (r ∷ rs) = ap (λ ns. r.0.number ∷ ns) (numbers_shown b rs)
@@ -58,7 +58,7 @@ lost_shown ((p, None) ∷ rs) =
     (IsPermutation-sym _ _ (IsPermutation-middle (ends_in (shown false rs)) (lost_end p.number) (map lost_end (waiting_in (shown false rs)))))
 lost_shown ((p, Some s) ∷ rs) = IsPermutation-cons (as_end (p.number, s)) _ _ (lost_shown rs)
 
--- The pending polls of a session equal the polls of the session without an outcome.
+-- The pending polls of a Modbus session equal the polls of the session without an outcome.
 pub waiting_on : (device : Device) (events : List session.Event) → waiting_in (polls_on device false events) ≡ map (λ p. p.number) (pending device.timeout events)
 unfolding pending
 waiting_on device events = waiting_shown (results device.timeout [] events)
@@ -96,8 +96,8 @@ waiting_both ps qs =
 abbrev pub slot_with : Device → List EndedSession → Option (List session.Event) → Slot
 slot_with device ended present = record { device = device; ended = ended; present = present }
 
--- After a session event, the outcomes of the device are the earlier outcomes and those of the polls
--- that the event ends.
+-- After a Modbus session event, the outcomes of the device are the earlier outcomes and those of
+-- the polls that the event ends.
 ends_more : (laws : SessionLaws) (device : Device) (ended : List EndedSession) (before : List session.Event) (h : session.Event)
     → IsPermutation (ends_in (polls_on device false (before ++ h ∷ []) ++ polls_on_ended device ended))
     (ends_in (polls_of_slot (slot_with device ended (Some before))) ++ map as_end (outcomes_at device.timeout before h))
@@ -147,8 +147,8 @@ numbers_grown laws device ended before later h end p =
     grown end _ (numbers_in (polls_of_slot (slot_with device ended (Some before)))) (number_by h) (numbers_by later) p
     (numbers_more laws device ended before h)
 
--- After several session events, the outcomes of the device are the earlier outcomes and those of
--- the polls that the events end.
+-- After several Modbus session events, the outcomes of the device are the earlier outcomes and
+-- those of the polls that the events end.
 ends_happened : (laws : SessionLaws) (device : Device) (ended : List EndedSession) (p : Option (List session.Event)) (before happenings : List session.Event) → EndLast happenings
     → IsPermutation (ends_in (polls_of_slot (with_happenings (slot_with device ended p) before happenings)))
     (ends_in (polls_of_slot (slot_with device ended (Some before))) ++ map as_end (settled_in device before happenings))
@@ -222,7 +222,8 @@ numbers_if : (laws : SessionLaws) (number at : ℕ) (spans : List ReadSpan) (e :
 numbers_if laws number at spans e slot true free = same_is _ _ (connected_numbers number at spans e slot.device slot.ended slot.present (free refl))
 numbers_if laws number at spans e slot false free = numbers_reached laws number at spans e slot.device slot.ended slot.present
 
--- If an event connects a device, then the device has no present session.
+-- True if the event connects only devices without a present session, which means devices that are
+-- not connected yet.
 abbrev pub AreFree : Event → List Slot → Type 0
 AreFree e [] = Unit {0}
 AreFree e (slot ∷ slots) = (connects e slot.device ≡ true → slot.present ≡ None) × AreFree e slots

@@ -110,7 +110,7 @@ outcome_fits : IsKeptByOutcomes PollsFit
 outcome_fits at settled facts here h =
     words_fit at settled.0 settled.1 _ (record { started = here.started; pending = here.pending }, h)
 
--- The records after the polls of a round are added.
+-- The records after the polls of these sent reads are added.
 abbrev recorded_sends : (at : ℕ) → Device → List Send → List Fact → List Fact
 recorded_sends at device sends facts = reverse (map (poll_by at device) sends) ++ facts
 
@@ -193,7 +193,7 @@ event_fits law past ends at (event.Asked asked) p h =
     (command_fits at (slots_of past) facts asked.command (same_devices past) few h))
 
 -- After all accepted events, the rules accept each poll and each outcome after the earlier records.
--- The premises are that sessions end only pending polls, and that each poll ends once.
+-- The premises are that Modbus sessions end only pending polls, and that each poll ends once.
 pub polls_fit : SettlesPending → ((history : History) → AreAccepted history → PollsEndOnce history) → (history : History) → AreAccepted history
     → PollsFit (facts_of history)
 polls_fit law once [] h = tt

@@ -1,4 +1,4 @@
--- Lemmas about the effect of a void on the installation of the voided entry's meter.
+-- Lemmas about the effect of a void, which cancels an entry, on the state of the entry's meter.
 use Rattle.std.proofs.Common.{◌≡◌, ℕ, ◌+◌, if◌then◌else◌, ◌∷◌, sym, ap, ◌∙◌, Option}
 use Rattle.std.specs.Option.{is_some, option_map, option_and_then}
 use Rattle.energy_core.specs.declared.entries.Last.{Last}
@@ -16,7 +16,8 @@ use Rattle.office_rules.specs.Voids.{VoidedEntriesGiveWay}
 use Rattle.office_rules.proofs.Journals.{installed_fits, well}
 use Rattle.office_rules.proofs.Stepping.{installation_by, named, own_line, installed_so, line_after}
 
--- An installation whose counter state and total energy are replaced by the given values.
+-- The state of a meter with this counter state and this total energy. Its journal determines
+-- whether it is closed.
 abbrev stood : Opening → journal.Journal → Last → ℕ → Installation
 stood o lines last total = record { opening = o; last = last; total = total; ended = journal.is_ended lines }
 

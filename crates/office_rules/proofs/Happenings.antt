@@ -1,5 +1,5 @@
--- The session events that an event of the office causes. They are received bytes, a timer event, a
--- closed connection, or the starts of a round's polls.
+-- The session events that an event of the office causes. A session is a connection of a device. Its
+-- events are received bytes, timer events, the close of the connection, and the starts of polls.
 use Rattle.std.proofs.Common.{◌≡◌, ℕ, Bool, true, false, List, [], ◌∷◌, ◌++◌, map, refl, sym, ap, ◌∙◌, Some, if◌then◌else◌}
 use Rattle.std.specs.List.{flat_map}
 use Rattle.poll_core.specs.Settling as session
@@ -15,16 +15,16 @@ use Rattle.office_rules.specs.Sessions.{Slot, Send, started_on, start_by, sends_
 use Rattle.office_rules.specs.History.{settled_in}
 use Rattle.office_rules.proofs.SessionLaws.{number_by, outcomes_at-start}
 
--- True if no event of the list ends the session, except possibly the last event.
+-- True if no event of the list ends the Modbus session, except possibly the last event.
 abbrev pub EndLast : List session.Event → Type 0
 EndLast [] = Unit {0}
 EndLast (h ∷ later) = (is_close h ≡ true → later ≡ []) × EndLast later
 
--- The numbers of the polls that a list of session events starts.
+-- The numbers of the polls that a list of Modbus session events starts.
 abbrev pub numbers_by : List session.Event → List ℕ
 numbers_by happenings = flat_map number_by happenings
 
--- The numbers of the polls of a round.
+-- The poll numbers of these sent reads.
 abbrev pub sent_numbers : List Send → List ℕ
 sent_numbers sends = map (λ send. send.number) sends
 
@@ -44,7 +44,7 @@ pub starts_number : (at : ℕ) (device : Device) (sends : List Send) → numbers
 starts_number at device [] = refl
 starts_number at device (send ∷ sends) = ap (λ ns. send.number ∷ ns) (starts_number at device sends)
 
--- If a list has at most one session event, then only its last event can end the session.
+-- If a list has at most one Modbus session event, then only its last event can end the session.
 single_ends_last : (b : Bool) (h : session.Event) → EndLast (if b then h ∷ [] else [])
 single_ends_last true h = ((λ e. refl), tt)
 single_ends_last false h = tt
@@ -67,8 +67,8 @@ ends_last number at spans (event.Gone given closing) device before = single_ends
 ends_last number at spans (event.Command c) device before = command_ends_last number at spans c device before
 ends_last number at spans (event.Asked asked) device before = command_ends_last number at spans asked.command device before
 
--- After the starts of a round's polls, no poll has ended. Therefore the polls that an event ends do
--- not depend on the reads that the event requests.
+-- The start of a poll ends no poll. Therefore the polls that an event ends do not depend on the
+-- reads that the event requests.
 round_settles : (b : Bool) (at : ℕ) (device : Device) (before : List session.Event) (sends : List Send)
     → settled_in device before (if b then map (start_by at device) sends else []) ≡ []
 round_settles true at device before sends = starts_settle at device before sends
@@ -90,7 +90,8 @@ same_settled number at spans (event.Command c) device before =
 same_settled number at spans (event.Asked asked) device before =
     command_settles number at spans asked.command device before ∙ sym (command_settles number at [] asked.command device before)
 
--- The session events of a round start exactly the polls of the round.
+-- The Modbus session events of a polling round start exactly the polls of the reads that the round
+-- sends.
 pub round_numbers : (b : Bool) (at : ℕ) (device : Device) (sends : List Send)
     → numbers_by (if b then map (start_by at device) sends else []) ≡ (if b then sent_numbers sends else [])
 round_numbers true at device sends = starts_number at device sends

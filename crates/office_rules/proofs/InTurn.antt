@@ -39,8 +39,8 @@ still_installed (fact.Poll p) facts o h there = there
 still_installed (fact.Outcome e) facts o h there = there
 still_installed (fact.Reply r) facts o h there = there
 
--- If a property holds for a meter's journal unchanged and with a new line, then it holds for the
--- journal after the line's record.
+-- Suppose that a property holds for a meter's journal, and for the journal with one more line. Then
+-- it holds after the line is recorded, whichever meter the line belongs to.
 by_line : (P : journal.Journal → Type 0) (facts : List Fact) (o : Opening) (meter : List ℕ) (line : journal.Line) → LineFits facts meter line
     → IsInstalled facts o
     → (journals.Fits (installed o) (journal_of facts o.meter) line → P (line ∷ journal_of facts o.meter))
@@ -55,8 +55,8 @@ by_line P facts o meter line fits there here elsewhere =
     (here (subst (λ (x : Opening). journals.Fits (installed x) (journal_of facts x.meter) line) is fits.fits)))
     (λ e. subst (λ b. P (cons_option (cond b (Some line) None) (journal_of facts o.meter))) (sym e) elsewhere)
 
--- In lawful records, the timestamp of a meter's last entry is at most the latest timestamp of the
--- records.
+-- If the records follow the rules (`AreLawful`), then the timestamp of a meter's last entry is at
+-- most the latest timestamp of the records.
 pub last_is_recorded : VoidsGoNoFurther → (facts : List Fact) (o : Opening) → AreLawful facts → IsInstalled facts o → last_at facts o ≤ latest_in facts
 last_is_recorded law [] o h there = absurd (cc)
 last_is_recorded law (fact.Device d ∷ facts) o h there = omega (arith, last_is_recorded law facts o h.1 there)
@@ -205,8 +205,8 @@ opened_in_turn law p facts register h turn =
       | inr e ↦ subst (InTurn (f ∷ facts)) (sym (cond-false _ _ _ e)) (still_in_turn law f facts os h turn)
     ]
 
--- In lawful records, each meter of an accounting register was opened after the register's earlier
--- meters were closed.
+-- If the records follow the rules (`AreLawful`), then each meter of an accounting register was
+-- opened after the register's earlier meters were closed.
 pub in_turn : VoidsGoNoFurther → (facts : List Fact) (register : List ℕ) → AreLawful facts → InTurn facts (openings_at facts register)
 in_turn law [] register h = tt
 in_turn law (fact.Device d ∷ facts) register h = still_in_turn law (fact.Device d) facts (openings_at facts register) h (in_turn law facts register h.1)

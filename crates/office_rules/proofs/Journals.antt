@@ -1,4 +1,5 @@
--- Lemmas that the journals of meters in lawful records are lawful.
+-- Lemmas about the journals of meters in lawful records. If the rules accept each record after the
+-- earlier ones, then the rules of each meter's journal accept each of its lines.
 use Rattle.std.proofs.Common.{◌≡◌, ℕ, true, false, cond, List, [], ◌∷◌, refl, sym, ap, subst, ◌∙◌, inl, inr, Option, Some, None}
 use Rattle.std.specs.List.{cons_option}
 use Rattle.std.proofs.lemmas.Bool.{cases_Bool, cond-true, cond-false}

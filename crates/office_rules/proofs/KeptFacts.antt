@@ -89,7 +89,7 @@ pub outcomes-append : (at : ℕ) (xs ys : List (ℕ × session.Settlement)) (fac
 outcomes-append at [] ys facts = refl
 outcomes-append at (x ∷ xs) ys facts = outcomes-append at xs ys (with_outcome at x facts)
 
--- The polls that an event ends on all sessions, each with its result.
+-- The polls that an event ends on all Modbus sessions, each with its result.
 abbrev pub settled_on_all : (number at : ℕ) → Event → List Slot → List (ℕ × session.Settlement)
 settled_on_all number at e slots = flat_map (settled_by number at e) slots
 

@@ -1,4 +1,5 @@
--- Lemmas that the records stay lawful after a void of an entry and after an exchange of meters.
+-- Lemmas that the records stay lawful after a void (cancellation) of an entry and after an exchange
+-- of meters. Lawful means that the rules accept each record after the earlier ones.
 use Rattle.std.proofs.Common.{◌≡◌, ℕ, ℤ, pos, negsuc, ◌<◌, ◌≤◌, ◌≤ℤ◌, max, nat_lt, Bool, true, false, cond, ◌&&◌, List, ◌∷◌, refl, sym, ap, ◌∙◌, Option, Some, None, arith}
 use Rattle.std.specs.List.{cons_option, AllByRecursion}
 use Rattle.std.specs.Option.{is_some, option_map, option_and_then}
@@ -76,8 +77,8 @@ next_fits : (facts : List Fact) (o : Opening) (before : List EntryRow) (row : En
 next_fits facts o before row None h none = tt
 next_fits facts o before row (Some next) h none = next_plausible facts o before row next h none
 
--- If a void is not refused, then the voided entry exists, and the rules of the journal accept the
--- void.
+-- If a void (cancellation) is not refused, then the entry to void exists, and the rules of the
+-- journal accept the void.
 around_fits : (facts : List Fact) (m : List ℕ) (place : ℕ) (o : Opening) (found : Option journal.Around) → opening_of facts m ≡ Some o
     → journal.row_at place (rows_of facts o) ≡ found
     → is_not_voidable (option_map (place_in facts o) found) ≡ false
@@ -126,7 +127,8 @@ void_by past at place (Some m) h taken =
     last.1.0 last.1.1.0 last.1.1.1.0 last.1.1.1.1.0 last.1.1.1.1.1.0 last.1.1.1.1.1.1.0 last.1.1.1.1.1.1.1.0 last.1.1.1.1.1.1.1.1.0 in
     ((void_fits facts m place (opening_of facts m) refl last.0 none, ltb-false moment_limit at limit.0), h)
 
--- If a void is accepted, then the records are still lawful after the void is recorded.
+-- If a void (cancellation) of an entry is accepted, then the records with the void still follow the
+-- rules (`AreLawful`).
 pub void_lawful : (past : History) (at : ℕ) (c : VoidEntry) → AreLawful (facts_of past) → refusal_of past at (event.Command (command.Void c)) ≡ None
     → AreLawful (facts_of (Fed at (event.Command (command.Void c)) ∷ past))
 void_lawful past at c h taken = void_by past at c.place c.meter h taken

@@ -1,4 +1,5 @@
--- The lemma that the records stay lawful after an accepted exchange of meters.
+-- The lemma that the records stay lawful after an accepted exchange of meters. Lawful means that
+-- the rules accept each record after the earlier ones.
 use Rattle.std.proofs.Common.{◌≡◌, ℕ, ℤ, pos, negsuc, ◌<◌, ◌≤◌, ◌≤ℤ◌, nat_lt, nat_le, Bool, true, false, cond, ◌||◌, List, [], ◌∷◌, ◌++◌, reverse, refl, sym, subst, Option, Some, None, arith}
 use Rattle.std.specs.Option.{option_map, option_and_then, option_to_list, is_none, is_some}
 use Rattle.std.proofs.lemmas.Bool.{or_parts, ltb-false}

@@ -1,4 +1,5 @@
--- The records after any accepted events are lawful.
+-- The proof that the records after any accepted events are lawful: the rules accept each record
+-- after the earlier ones.
 use Rattle.std.proofs.Common.{◌≡◌, ℕ, ◌+◌, ◌≤◌, nat_lt, false, List, [], ◌∷◌, ◌++◌, map, reverse, length, refl, sym, ap, subst, Option, Some, None, arith}
 use Rattle.std.specs.List.{flat_map}
 use Rattle.std.specs.Option.{option_and_then}
@@ -36,8 +37,8 @@ use Rattle.office_rules.proofs.Additions.{device_fits, list_fits, register_fits,
 use Rattle.office_rules.proofs.Starts.{polls_fit}
 use Rattle.office_rules.proofs.Replies.{asked_fits}
 
--- True if the pending polls on the sessions have the same numbers as the recorded polls without an
--- outcome.
+-- True if the pending polls on the Modbus sessions have the same numbers as the recorded polls
+-- without an outcome.
 abbrev HaveSamePending : List Slot → List Fact → Type 0
 HaveSamePending slots facts = (n : ℕ) → times n (flat_map pending_on slots) ≡ times n (poll_numbers (pending_in facts))
 
@@ -61,7 +62,7 @@ lost_kept at facts timely h =
     (outcomes_kept at all facts timely h
     (open_once facts (settled_numbers all) h.lawful (λ n. omega (arith, ap (times n) (lost_numbers (pending_in facts))))))
 
--- If a start of the office is accepted, then the records are still lawful after the start.
+-- If a start of the office is accepted, then the records after the start still follow the rules.
 opened_kept : (at : ℕ) (facts : List Fact) → AreLawful facts → opening_refusal_of facts at ≡ None → AreKept at (with_lost at facts)
 opened_kept at facts h taken =
     let back = none_parts (nat_lt at (latest_in facts)) refusal.ClockBack _ taken in
@@ -161,8 +162,8 @@ after_event settles law past at (event.Command c) accepted planned pending h lat
 after_event settles law past at (event.Asked asked) accepted planned pending h latest kept time =
     asked_kept law past at asked h latest planned accepted
 
--- The records after any accepted events are lawful. The premises are that sessions end only pending
--- polls, that each poll ends once, and that the energy of meters balances.
+-- The records after any accepted events follow the rules. The premises are that Modbus sessions end
+-- only pending polls, that each poll ends once, and that the energy of meters balances.
 kept : SettlesPending → ((history : History) → AreAccepted history → PollsEndOnce history) → MetersAreKept → (history : History)
     → AreAccepted history → ListsArePlanned history → AreKept (latest_of history) (facts_of history)
 kept settles once law [] h planned = record { lawful = tt; latest = omega arith }

@@ -34,8 +34,8 @@ use Rattle.office_rules.specs.Refusals.{refuses, reasons, refusal_of, makes_faul
 use Rattle.office_rules.specs.Lawful.{AreLawful}
 use Rattle.office_rules.proofs.Openings.{found_installed}
 
--- True if an installation is open at an accounting register. The installation is the latest at the
--- register, a search for its meter's name finds its opening, and its meter was not closed.
+-- True if `row` is the state of the open meter at an accounting register. The meter is the latest
+-- at the register, a search for its name finds its opening, and it was not closed.
 pub record IsOpen (facts : List Fact) (register : List ℕ) (row : Installation) : Type 0 where
   pub opening : Opening
   pub there : installed_at facts register ≡ Some opening
@@ -72,8 +72,8 @@ by_verdict facts o poll r (verdict.Accepted rolls step) h there unended started 
     subst (λ (sf : ℤ). judgement row (record { at = r.at; raw = r.raw; sf = sf }) ≡ verdict.Accepted rolls step) plain.0.scale e in
     ((record { opening = o; there = there; fits = (unended, record { step = step; accepted = here }) }, timely), h)
 
--- If a poll was started, then the records are still lawful after a reading in the poll's response
--- is recorded.
+-- If a poll was started, then the records with a reading of the poll's response still follow the
+-- rules (`AreLawful`).
 pub reading_fits : (facts : List Fact) (register : List ℕ) (poll : ℕ) (r : Reading) (row : Option Installation) → AreLawful facts
     → is_some (poll_of facts poll) ≡ true → r.at ≤ moment_limit
     → open_at facts register ≡ row → AreLawful (with_reading poll r row facts)
@@ -96,8 +96,8 @@ entered_fits facts o e all =
       entered = ap (entering.answered o.range l e) (find-none (entering.refuses o.range (installation_of facts o).total l e) entering.faults all);
     }
 
--- If an entry by hand has no fault at the open meter, then the records are still lawful after the
--- entry is added. Without an open meter, no entry is added.
+-- If an entry by hand has no fault at the open meter, then the records with the entry still follow
+-- the rules (`AreLawful`). Without an open meter, no entry is added.
 manual_row : (facts : List Fact) (at : ℕ) (c : Manual) (register : List ℕ) (row : Option Installation) → AreLawful facts → open_at facts register ≡ row
     → read_at at c.at ≤ moment_limit
     → makes_fault at fault.NegativeStep (command.Manual c) row ≡ false → makes_fault at fault.NotLater (command.Manual c) row ≡ false
@@ -136,7 +136,8 @@ manual_by past at raw rolls given (Some register) h taken =
     manual_row facts at c register (open_at facts register) h refl (read_in_time at given later.1 (ltb-false moment_limit at limit.0))
     four.0 four.1.0 four.1.1.0 four.1.1.1.0 beyond.1
 
--- If an entry by hand is accepted, then the records are still lawful after the entry is recorded.
+-- If an entry by hand is accepted, then the records with the entry still follow the rules
+-- (`AreLawful`).
 pub manual_lawful : (past : History) (at : ℕ) (c : Manual) → AreLawful (facts_of past) → refusal_of past at (event.Command (command.Manual c)) ≡ None
     → AreLawful (facts_of (Fed at (event.Command (command.Manual c)) ∷ past))
 manual_lawful past at c h taken = manual_by past at c.raw c.rolls c.at c.register h taken

@@ -1,4 +1,5 @@
--- Lemmas about the names in lawful records, and about the open meter at an accounting register.
+-- Lemmas about names, and about the open meter at an accounting register, in lawful records. Lawful
+-- means that the rules accept each record after the earlier ones.
 use Rattle.std.proofs.Common.{◌≡◌, ℕ, true, false, cond, Bool, List, [], ◌∷◌, sym, ap, subst, ◌∙◌, inl, inr, Option, Some, None}
 use Rattle.std.specs.Prelude.{All}
 use Rattle.std.specs.List.{cons_option}

@@ -7,7 +7,7 @@ use Rattle.office_rules.specs.Facts.{same, openings_in, opening_of, installed_at
 use Rattle.office_rules.specs.Lawful.{AreLawful}
 use Rattle.office_rules.proofs.Lookups.{AreApart, found_by_name}
 
--- In lawful records, the names of meters are distinct.
+-- If the records follow the rules (`AreLawful`), then the names of their meters are distinct.
 pub openings_apart : (facts : List Fact) → AreLawful facts → AreApart (λ (o : Opening). o.meter) (openings_in facts)
 openings_apart [] h = tt
 openings_apart (fact.Device d ∷ facts) h = openings_apart facts h.1

@@ -32,7 +32,8 @@ poll_skips = record { readings = record { entry = λ b. refl; hold = λ h. refl 
 ended_skips : SkipsReadings as_ended
 ended_skips = record { entry = λ b. refl; hold = λ h. refl }
 
--- True if the records are lawful, and no timestamp is later than `at`.
+-- True if the records are lawful (the rules accept each after the earlier ones), and no timestamp
+-- is later than `at`.
 pub record AreKept (at : ℕ) (facts : List Fact) : Type 0 where
   pub lawful : AreLawful facts
   pub latest : latest_in facts ≤ at
@@ -51,7 +52,8 @@ latest_read at poll r None facts now h = h
 latest_read at poll r (Some row) facts now h =
     max_least _ (latest_in facts) at (omega (arith, now, moment_read row.opening.meter poll r (judgement row r))) h
 
--- True if the records are lawful, and the poll of a reading was started.
+-- True if the records follow the rules, no timestamp is later than `at`, and the poll of a reading
+-- was started.
 record AreRead (at poll : ℕ) (facts : List Fact) : Type 0 where
   kept : AreKept at facts
   started : IsStarted facts poll
@@ -141,7 +143,7 @@ others_open at number settlement ns facts h n among =
     absurd (omega (arith, times-cons n number ns, all.0, one)))
     (λ other none. (omega (arith, times-cons n number ns, all.0, none), still_open at (number, settlement) facts n other all.1))
 
--- After distinct polls without an outcome get their outcomes, the records are still lawful.
+-- After distinct polls without an outcome get their outcomes, the records still follow the rules.
 pub outcomes_kept : (at : ℕ) (settled : List (ℕ × session.Settlement)) (facts : List Fact) → at ≤ moment_limit → AreKept at facts
     → AreOpenOnce facts (settled_numbers settled) → AreKept at (with_outcomes at settled facts)
 outcomes_kept at [] facts timely h once = h

@@ -27,8 +27,8 @@ sorted_out us vs xs ys zs ws p q =
     (IsPermutation-trans _ _ _ (IsPermutation-append_right xs (ys ++ (zs ++ ws)) (zs ++ (ys ++ ws)) (exchanged ys zs ws))
     (same_is _ _ (sym (append_assoc xs zs (ys ++ ws))))))
 
--- After an element is exchanged with an element of a list, the results of the mapped list and of
--- the outer element are only permuted.
+-- Suppose that an element `y` is exchanged with the element `z` of a list. Then the lists that `f`
+-- yields for all these elements are the same, up to their order.
 exchange_at : {X Y : Type 0} (f : X → List Y) (xs : List X) (j : ℕ) (y z : X) → j < length xs → z ≡ get_or xs j z → IsPermutation (f y ++ flat_map f xs) (f z ++ flat_map f (set xs j y))
 exchange_at f [] j y z l e = absurd (let h : j < 0 = l in omega arith)
 exchange_at f (x ∷ xs) zero y z l e =
@@ -102,7 +102,7 @@ IsPermutation-filter t xs ys p =
     IsPermutation-trans _ _ _ (same_is _ _ (filter-flat_map t xs))
     (IsPermutation-trans _ _ _ (IsPermutation-flat_map (λ x. cond (t x) (x ∷ []) []) xs ys p) (same_is _ _ (sym (filter-flat_map t ys))))
 
--- If a list is a permutation of a list with one element, then the two lists are equal.
+-- In a list with one element, the element at each valid index is this element.
 one_place : {X : Type 0} (x y : X) (k : ℕ) → k < 1 → get_or (y ∷ []) k x ≡ x → y ≡ x
 one_place x y zero l e = e
 one_place x y (suc k) l e = absurd (let h : suc k < 1 = l in omega arith)

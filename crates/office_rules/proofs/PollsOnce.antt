@@ -37,7 +37,7 @@ map_none : {X Y : Type 0} (f : X → Y) (xs : List X) → map f xs ≡ [] → xs
 map_none f [] e = refl
 map_none f (x ∷ xs) e = let none : suc (length (map f xs)) ≡ 0 = ap length e in absurd (omega arith)
 
--- If a poll has no outcome, then the poll is pending on the session of a device.
+-- If a poll has no outcome, then the poll is pending on the Modbus session of a device.
 waiting : (history : History) → PollsEndOnce history → (poll : Poll) → Contains (polls_in (facts_of history)) poll
     → ends_of (facts_of history) poll.number ≡ [] → Contains (flat_map pending_on (slots_of history)) poll.number
 waiting history h poll is none =

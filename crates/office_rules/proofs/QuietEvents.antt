@@ -19,7 +19,7 @@ use Rattle.office_rules.proofs.Happenings.{numbers_by}
 use Rattle.office_rules.proofs.EndedSlots.{new_on, new_by}
 use Rattle.office_rules.proofs.ApartSlots.{not_found_if, of_none}
 
--- If an event is received bytes or the end of a connection, then the event starts no poll.
+-- Received bytes and the end of a connection start no poll.
 piece_starts : (b : Bool) (m : ℕ) (bytes : List ℕ) → numbers_by (if b then Piece m bytes ∷ [] else []) ≡ []
 piece_starts true m bytes = refl
 piece_starts false m bytes = refl
@@ -62,7 +62,7 @@ pub ends_start : (number at : ℕ) (given : Option (List ℕ)) (closing : Closin
 ends_start number at given closing slots =
     of_none (new_by number at [] (event.Gone given closing)) (λ slot. ends_on number at given closing slot.device slot.present) slots
 
--- If an event is a new connection, then the event ends no poll.
+-- A new connection ends no poll.
 unsettled : (number at : ℕ) (given : Option (List ℕ)) (device : Device) (present : Option (List session.Event)) → settled_on number at (event.Connected given) device present ≡ []
 unsettled number at given device None = refl
 unsettled number at given device (Some before) = refl
@@ -71,7 +71,8 @@ pub connects_settle : (number at : ℕ) (given : Option (List ℕ)) (slots : Lis
 connects_settle number at given slots =
     of_none (settled_by number at (event.Connected given)) (λ slot. unsettled number at given slot.device slot.present) slots
 
--- If an event is accepted, then the reasons to refuse such an event do not apply.
+-- True if three reasons to refuse an event do not apply: `Exists`, `Busy`, and that all poll
+-- numbers are used. None of the three applies to an accepted event.
 pub record IsPassed (refuses : Refusal → Bool) : Type 0 where
   pub there : refuses refusal.Exists ≡ false
   pub busy : refuses refusal.Busy ≡ false

@@ -64,8 +64,8 @@ unseen look [] facts h = refl
 unseen look (f ∷ added) facts h =
     ap (filter_map look) (later_first f added facts) ∙ unseen look added (f ∷ facts) h.1 ∙ ap (λ o. cons_option o (filter_map look facts)) h.0
 
--- A property of each list, register, installation, entry and void record. It is a property of all
--- records of a command except devices and polls.
+-- True if the property `P` holds for each point list, register, opening, entry and void record. A
+-- command adds no other records except devices and polls.
 pub record HoldsOfBooks (P : Fact → Type 0) : Type 0 where
   pub list : (put : DeviceList) → P (fact.List put)
   pub register : (register : Register) → P (fact.Register register)
@@ -119,7 +119,8 @@ added_each P h number at slots facts (command.StartPoll c) device send =
 added_each P h number at slots facts (command.StartRound c) device send =
     polls_each P number at (spans_by facts (command.StartRound c)) (slot_of slots c.device) (send refl)
 
--- A property of every stored response is a property of the response to a request.
+-- If the property `P` holds for every stored response, then it holds for the response to the given
+-- request.
 pub reply_each : (P : Fact → Type 0) → ((reply : Reply) → P (fact.Reply reply)) → (at : ℕ) (asked : Asked) → Each P (reply_by at asked)
 reply_each P h at asked =
     each_map P (λ caller. fact.Reply (record { caller = caller; number = asked.number; request = asked.request; kind = kind_of asked.command; at = at }))

@@ -1,5 +1,5 @@
--- Lemmas about the interval rows of an accounting register, which are the interval rows of its
--- meters one after another.
+-- Lemmas about the interval rows of an accounting register: the energy by quarter hour of its
+-- meters, one meter after another.
 use Rattle.std.proofs.Common.{◌≡◌, ℕ, zero, suc, ◌+◌, ◌*◌, ◌^◌, ◌%◌, ◌<◌, ◌≤◌, List, [], ◌∷◌, ◌++◌, reverse, length, refl, sym, ap, subst, ◌∙◌, inl, inr, ◌⊎◌, arith}
 use Rattle.std.specs.Prelude.{All, slice_index_or}
 use Rattle.std.specs.List.{flat_map}
@@ -30,8 +30,7 @@ pub record FromJournals : Type 0 where
   pub within : RowsLieWithin
   pub no_further : VoidsGoNoFurther
 
--- True if all interval rows begin at or after the time `n`, and each row begins after the earlier
--- rows.
+-- True if all interval rows begin at or after the time `n`.
 abbrev From : ℕ → List Share → Type 0
 From n [] = Unit {0}
 From n (row ∷ rows) = (n ≤ row.start) × From n rows
@@ -40,8 +39,8 @@ abbrev NeverFall : List Share → Type 0
 NeverFall [] = Unit {0}
 NeverFall (row ∷ rows) = From row.start rows × NeverFall rows
 
--- Quarter-hour rows that begin before the time `n`, and quarter-hour rows that end after the time
--- `n`.
+-- True if all rows are quarter hours that begin before the time `n`. `RowsAfter` is true if all
+-- rows are quarter hours that end after `n`.
 abbrev Before : ℕ → List Share → Type 0
 Before n [] = Unit {0}
 Before n (row ∷ rows) = (row.start % 900 ≡ 0) × (row.start < n) × Before n rows
@@ -205,7 +204,8 @@ all_energy law facts at (o ∷ os) h turn last =
           )
     ]
 
--- Lemmas about the interval rows of accounting registers in lawful records.
+-- Lemmas about the interval rows of accounting registers, if the records follow the rules
+-- (`AreLawful`).
 
 moments_bounded : (facts : List Fact) → AreLawful facts → latest_in facts ≤ moment_limit
 moments_bounded [] h = omega arith

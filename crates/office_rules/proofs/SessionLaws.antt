@@ -1,4 +1,5 @@
--- Lemmas about how one more event changes the polls of a session.
+-- Lemmas about how one more event changes the polls of a session, which is a connection of a
+-- device.
 use Rattle.std.proofs.Common.{◌≡◌, ℕ, Bool, true, false, cond, not, ◌&&◌, List, [], ◌∷◌, ◌++◌, map, refl, ap, ◌∙◌, Option, Some, None}
 use Rattle.std.specs.List.{filter, find}
 use Rattle.std.specs.List.Sorted.{IsPermutation}
@@ -16,8 +17,8 @@ use Rattle.poll_core.specs.Settling.{Event, Start, Piece, Tick, Close, Settlemen
 use Rattle.poll_core.specs.Laws.{outcomes_by_poll, outcomes_by_event, with_event, new_result}
 use Rattle.office_rules.proofs.Permutations.{same_is}
 
--- The theorems about sessions that the proofs use. Each poll with an outcome ended exactly once,
--- and one more event has a known effect.
+-- The theorems about Modbus sessions that the proofs use. Each poll with an outcome ended exactly
+-- once, and one more event has a known effect.
 pub record SessionLaws : Type 0 where
   pub once : (timeout : ℕ) (events : List Event) → IsPermutation (outcomes_by_poll timeout events) (outcomes_by_event timeout events)
   pub outcomes : (timeout : ℕ) (events : List Event) (event : Event) →
@@ -25,11 +26,11 @@ pub record SessionLaws : Type 0 where
   pub results : (timeout : ℕ) (events : List Event) (event : Event) →
       results timeout [] (events ++ event ∷ []) ≡ map (with_event events event) (results timeout [] events) ++ new_result (started timeout events event)
 
--- The numbers of the polls that a session started.
+-- The numbers of the polls that a Modbus session started.
 abbrev pub numbers_of : List (Poll × Option Settlement) → List ℕ
 numbers_of rs = map (λ r. r.0.number) rs
 
--- The number of the poll that a session event starts.
+-- The number of the poll that a Modbus session event starts.
 abbrev pub number_by : Event → List ℕ
 number_by (Start moment poll unit span) = poll ∷ []
 number_by (Piece moment bytes) = []
@@ -46,8 +47,8 @@ numbers-new_result t es (Piece m b) = refl
 numbers-new_result t es (Tick m) = refl
 numbers-new_result t es (Close m c) = refl
 
--- After a start event, the session has one more poll number. After any other session event, the
--- poll numbers are unchanged.
+-- After a start event, the Modbus session has one more poll number. After any other session event,
+-- the poll numbers are unchanged.
 pub numbers-push : (laws : SessionLaws) (t : ℕ) (es : List Event) (e : Event) → numbers_of (results t [] (es ++ e ∷ [])) ≡ numbers_of (results t [] es) ++ number_by e
 numbers-push laws t es e =
     let new = new_result (started t es e) in
@@ -56,15 +57,15 @@ numbers-push laws t es e =
     ∙ ap (λ ns. ns ++ numbers_of new) (numbers-with_event es e (results t [] es))
     ∙ ap (λ ns. numbers_of (results t [] es) ++ ns) (numbers-new_result t es e)
 
--- After a session event, the outcomes of the session are the earlier outcomes and those of the
--- polls that the event ends.
+-- After a Modbus session event, the outcomes of the session are the earlier outcomes and those of
+-- the polls that the event ends.
 pub outcomes_by_poll-push : (laws : SessionLaws) (t : ℕ) (es : List Event) (e : Event) → IsPermutation (outcomes_by_poll t (es ++ e ∷ [])) (outcomes_by_poll t es ++ outcomes_at t es e)
 outcomes_by_poll-push laws t es e =
     IsPermutation-trans _ _ _ (laws.once t (es ++ e ∷ []))
     (IsPermutation-trans _ _ _ (same_is _ _ (laws.outcomes t es e))
     (IsPermutation-append_left (outcomes_at t es e) (outcomes_by_event t es) (outcomes_by_poll t es) (IsPermutation-sym (outcomes_by_poll t es) (outcomes_by_event t es) (laws.once t es))))
 
--- If a session event starts a poll, then the event ends no poll.
+-- If a Modbus session event starts a poll, then the event ends no poll.
 pub outcomes_at-start : (t : ℕ) (es : List Event) (m n u : ℕ) (s : Span) → outcomes_at t es (Start m n u s) ≡ []
 unfolding outcomes_at
 outcomes_at-start t es m n u s = refl

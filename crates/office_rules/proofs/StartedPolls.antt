@@ -1,4 +1,4 @@
--- Lemmas about the polls that a command starts, in the records and on the sessions.
+-- Lemmas about the polls that a command starts, in the records and on the Modbus sessions.
 use Rattle.std.proofs.Common.{◌≡◌, ℕ, suc, ◌+◌, Bool, true, false, cond, List, [], ◌∷◌, ◌++◌, map, reverse, length, refl, sym, ap, subst, ◌∙◌, arith, Option, Some, None, if◌then◌else◌}
 use Rattle.std.specs.List.{flat_map}
 use Rattle.std.specs.List.Sorted.{IsPermutation}
@@ -41,7 +41,7 @@ sent_ends at device [] facts = refl
 sent_ends at device (send ∷ sends) facts =
     ap ended_in (later_first (poll_by at device send) (map (poll_by at device) sends) facts) ∙ sent_ends at device sends (poll_by at device send ∷ facts)
 
--- The polls of sent reads have consecutive numbers in the records.
+-- True if the recorded polls are numbered consecutively from 1.
 abbrev AreNumberedIn : List Fact → Type 0
 AreNumberedIn facts = AreNumbered (polls_in facts)
 
@@ -65,7 +65,8 @@ sent_numbered number at device before (span ∷ spans) facts h is =
     (sent_numbered (number + 1) at device (before ++ start_by at device send ∷ []) spans (poll_by at device send ∷ facts)
     (is, h) (one_more number (length (polls_in facts)) is))
 
--- The records of a command add polls with consecutive numbers, and end no poll.
+-- True if the added records contain exactly the polls of these sent reads, consecutively numbered,
+-- and no outcome of a poll.
 pub record AddsPolls (facts added : List Fact) (sends : List Send) : Type 0 where
   pub numbered : AreNumbered (polls_in (reverse added ++ facts))
   pub started : IsPermutation (numbers (reverse added ++ facts)) (sent_numbers sends ++ numbers facts)
@@ -114,7 +115,8 @@ command_adds at slots facts c h =
     (added_each IsQuiet books_quiet (next_poll facts) at slots facts c (λ d e. record { poll = refl; ended = refl; hold = refl }) (λ e. absurd (cc)))
     (none_from (next_poll facts) at (slot_of slots None))
 
--- A command ends no polls on the sessions, and starts exactly the polls whose reads it sends.
+-- A command ends no polls on the Modbus sessions, and starts exactly the polls whose reads it
+-- sends.
 settles_none : (number at : ℕ) (c : Command) (device : Device) (present : Option (List session.Event)) → settled_on number at (event.Command c) device present ≡ []
 settles_none number at c device None = refl
 settles_none number at c device (Some before) = command_settles number at [] c device before

@@ -1,4 +1,4 @@
--- Lemmas about the installation of a meter after a new record.
+-- Lemmas about the state of a meter (its installation) after a new record.
 use Rattle.std.proofs.Common.{◌≡◌, ℕ, true, false, cond, List, [], ◌∷◌, sym, ap, subst, ◌∙◌, inl, inr, Some, None}
 use Rattle.std.specs.List.{cons_option}
 use Rattle.std.proofs.lemmas.Bool.{cases_Bool, cond-true, cond-false}
@@ -21,12 +21,12 @@ use Rattle.office_rules.specs.Steps.{Stays, OtherMetersStay, HoldsChangeNothing,
 use Rattle.office_rules.proofs.Lookups.{same_text, same_itself, find_passes}
 use Rattle.office_rules.proofs.Journals.{nothing_before, IsInstalled, installed_fits, well}
 
--- The installation of a meter, computed from its journal.
+-- The state of a meter, computed from its journal.
 abbrev pub installation_by : Opening → journal.Journal → Installation
 installation_by o lines = standing o (journal.entries_of (opened o) lines) (journal.is_ended lines)
 
--- If a record leaves the journal of a meter unchanged, then the record leaves the meter's
--- installation unchanged.
+-- If a record leaves the journal of a meter unchanged, then the record leaves the meter's state
+-- unchanged.
 same_journal : (f : Fact) (facts : List Fact) (o : Opening) → journal_of (f ∷ facts) o.meter ≡ journal_of facts o.meter → Stays f facts o
 same_journal f facts o is =
     record {
@@ -85,7 +85,7 @@ line_after facts meter line o is =
     let e : same meter o.meter ≡ true = ap (same meter) is ∙ same_itself meter in
     ap (λ b. cons_option (cond b (Some line) None) (journal_of facts o.meter)) e
 
--- An installation with its total energy replaced.
+-- The state of a meter after one more entry, with the total energy `n`.
 abbrev with_total : Opening → EntryKind → Entry → journal.Journal → ℕ → Installation
 with_total o k e lines n = record {
   opening = o;

@@ -15,8 +15,8 @@ use Rattle.office_rules.specs.Refusals.{refuses, reasons, refusal_of, is_mistime
 use Rattle.office_rules.proofs.LawfulChanges.{not_refused}
 use Rattle.office_rules.proofs.Lookups.{none_parts}
 
--- If an event is accepted, then its timestamp is not before the latest accepted event, and does not
--- exceed the greatest timestamp.
+-- True if the timestamp is not before the latest accepted event and does not exceed the greatest
+-- timestamp. Every accepted event has such a timestamp.
 pub record IsTimely (past : History) (at : ℕ) : Type 0 where
   pub on_time : latest_of past ≤ at
   pub within : at ≤ moment_limit
@@ -28,7 +28,7 @@ is_timely past at e h =
     let limit = or_parts (nat_lt moment_limit at) _ all.1.1.1.1.1.1.1.1.1.1.0 in
     record { on_time = ltb-false at (latest_of past) back.0; within = ltb-false moment_limit at limit.0 }
 
--- If a command is accepted, then no reason to refuse the command applies.
+-- True if none of the reasons to refuse the command applies, as for every accepted command.
 pub record IsTaken (past : History) (at : ℕ) (c : Command) : Type 0 where
   pub known : asks_unknown (slots_of past) (facts_of past) c ≡ false
   pub new : asks_taken (slots_of past) (facts_of past) c ≡ false
@@ -62,7 +62,8 @@ is_taken past at c h =
       few = limit.1.1.1.1.1.1.1.1.1.1.0;
     }
 
--- If a request with an idempotency key is not refused, then the request's command is not refused.
+-- Suppose that every reason that applies by the test `q` also applies by the test `p`. If no reason
+-- applies by `p`, then none applies by `q`. A request and its command have such tests.
 less_refused : (p q : Refusal → Bool) → ((why : Refusal) → p why ≡ false → q why ≡ false) → (xs : List Refusal) → find p xs ≡ None → find q xs ≡ None
 less_refused p q less [] h = refl
 less_refused p q less (why ∷ xs) h =

@@ -8,12 +8,12 @@ use Rattle.office_rules.specs.History.{History, facts_of, slots_of}
 use Rattle.office_rules.specs.PollEndings.{outcome_in, pending_on}
 
 -- True if exactly one outcome of the poll is recorded, and this outcome follows from the events of
--- the poll's session.
+-- the poll's Modbus session.
 pub record HasEnded (history : History) (number : ℕ) (outcome : Outcome) : Type 0 where
   pub recorded : map (λ ended. ended.outcome) (ends_of (facts_of history) number) ≡ outcome ∷ []
   pub given : outcome_in (slots_of history) number ≡ Some outcome
 
--- True if the poll is pending in the present session of a device. No outcome of the poll is
+-- True if the poll is pending in the present Modbus session of a device. No outcome of the poll is
 -- recorded, and no outcome follows from the events of its session.
 pub record IsPending (history : History) (number : ℕ) : Type 0 where
   pub recorded : ends_of (facts_of history) number ≡ []

@@ -133,8 +133,8 @@ abbrev pub registers_of : List Fact → List ℕ → List Register
 registers_of facts device =
     reverse (filter (λ register. same register.device device) (registers_in facts))
 
--- The opening of the latest meter at the accounting register with the given name, or `None` if no
--- meter was installed there.
+-- The opening (installation record) of the latest meter at the accounting register with the given
+-- name, or `None` if no meter was installed there.
 abbrev pub installed_at : List Fact → List ℕ → Option Opening
 installed_at facts register = find (λ opening. same opening.register register) (openings_in facts)
 

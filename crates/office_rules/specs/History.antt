@@ -86,8 +86,8 @@ abbrev pub with_outcomes : ℕ → List (ℕ × session.Settlement) → List Fac
 with_outcomes at [] facts = facts
 with_outcomes at (settled ∷ later) facts = with_outcomes at later (with_outcome at settled facts)
 
--- The polls that a list of session events ends, in order, each with its result. `before` are the
--- earlier events of the session.
+-- The polls that a list of session events ends, in order, each with its result. A session is a
+-- connection of a device. `before` are the earlier events of the session.
 abbrev pub settled_in : Device → List session.Event → List session.Event
     → List (ℕ × session.Settlement)
 settled_in device before [] = []
@@ -95,16 +95,15 @@ settled_in device before (happening ∷ later) =
     session.outcomes_at device.timeout before happening
     ++ settled_in device (before ++ happening ∷ []) later
 
--- The polls that an event of the office ends on the session of a device, each with its result.
--- Without a session, no poll ends.
+-- The polls that an event of the office ends on the session (connection) of a device, each with its
+-- result. Without a session, no poll ends.
 abbrev pub settled_on : (number at : ℕ) → Event → Device → Option (List session.Event)
     → List (ℕ × session.Settlement)
 settled_on number at e device None = []
 settled_on number at e device (Some before) =
     settled_in device before (reaches number at [] e device before)
 
--- The polls that an event of the office ends on the present session of a slot's device, each with
--- its result.
+-- The polls that an event of the office ends for the device of a slot, each with its result.
 abbrev pub settled_by : (number at : ℕ) → Event → Slot → List (ℕ × session.Settlement)
 settled_by number at e slot = settled_on number at e slot.device slot.present
 
@@ -151,7 +150,8 @@ opening_by at c register meter =
       sf = c.sf;
     })
 
--- The installation of the new meter that an exchange installs after the old meter is closed.
+-- The installation command for the new meter of an exchange, which is installed after the old meter
+-- is closed.
 abbrev pub installed_by : Exchange → Install
 installed_by c =
     record {
@@ -221,8 +221,8 @@ corrected_at (command.Manual c) = c.register
 corrected_at (command.Close c) = c.register
 corrected_at _ = None
 
--- The record of the entry that a command makes for an installation, or `None` if the command makes
--- no entry.
+-- The record of the entry that a command makes for an installed meter, or `None` if the command
+-- makes no entry.
 abbrev pub made_on : (at : ℕ) → Command → Installation → Option Fact
 made_on at c row = option_map
     (λ made. fact.Entry
@@ -236,8 +236,8 @@ entries_by at facts c =
     option_to_list
     (option_and_then (made_on at c) (option_and_then (open_at facts) (corrected_at c)))
 
--- The record of the opening that an installation command makes. The list is empty if one of the
--- names is invalid.
+-- The opening record of the meter that a command installs. The list is empty if one of the names is
+-- invalid.
 abbrev pub openings_by : (at : ℕ) → Install → List Fact
 openings_by at c =
     option_to_list
@@ -248,8 +248,8 @@ openings_by at c =
 abbrev pub reads_of : Planned → List ReadSpan
 reads_of list = map (λ read. read.span) list.reads
 
--- The reads of a round from the index `from` of the plan to its end. Without a point list, there
--- are no reads.
+-- The reads of a polling round: those of the device's plan from the index `from` to the end.
+-- Without a point list, there are no reads.
 abbrev pub round_spans : (from : ℕ) → Option Planned → List ReadSpan
 round_spans from None = []
 round_spans from (Some list) = drop from (reads_of list)
@@ -267,13 +267,13 @@ abbrev pub spans_in : List Fact → Option Command → List ReadSpan
 spans_in facts None = []
 spans_in facts (Some c) = spans_by facts c
 
--- The reads that the session of a slot's device can start, beginning with the first. Without a
--- slot, no read starts.
+-- The reads that a device's Modbus session can start, from the first of `spans` on. Without a slot,
+-- which means without such a device, no read starts.
 abbrev pub sends_from : (number at : ℕ) → List ReadSpan → Option Slot → List Send
 sends_from number at spans None = []
 sends_from number at spans (Some slot) = sends_at number at slot.device slot.present spans
 
--- The reads that a command starts on the session of its device.
+-- The reads that a command starts on the Modbus session of its device.
 abbrev pub sends_by : (number at : ℕ) → List Slot → List Fact → Command → List Send
 sends_by number at slots facts c =
     sends_from number at (spans_by facts c) (slot_of slots (started_on c))
@@ -290,8 +290,8 @@ poll_by at device send =
       span = send.span;
     })
 
--- The records of the polls whose reads a slot's session can start. Without a slot, the list is
--- empty.
+-- The records of the polls that a device's Modbus session can start for the reads `spans`. Without
+-- a slot, which means without such a device, the list is empty.
 abbrev pub polls_from : (number at : ℕ) → List ReadSpan → Option Slot → List Fact
 polls_from number at spans None = []
 polls_from number at spans (Some slot) =
@@ -352,8 +352,8 @@ reply_by at asked = option_to_list (option_map
     }))
     asked.caller)
 
--- The records after an event. `slots` contains the sessions of all devices before the event, and
--- `number` is the number of the next poll.
+-- The records after an event. `slots` contains the devices with their sessions (connections) before
+-- the event, and `number` is the number of the next poll.
 abbrev pub facts_after : (number at : ℕ) → Event → List Slot → List Fact → List Fact
 facts_after number at (event.Connected given) slots facts = facts
 facts_after number at (event.Bytes given piece) slots facts =
@@ -384,7 +384,7 @@ abbrev mutual
       facts_after (next_poll (facts_of past)) at e (slots_of past) (facts_of past)
 
   -- The slots of all devices after a list of accepted starts of the office and accepted events. A
-  -- slot contains a device and the events of its sessions.
+  -- slot contains a device and the events of its sessions (connections).
   pub slots_of : History → List Slot
   slots_of [] = []
   slots_of (Opened at ∷ past) = map slot_restarted (slots_of past)

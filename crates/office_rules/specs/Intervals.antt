@@ -31,8 +31,8 @@ abbrev pub installations_at : List Fact → List ℕ → List Opening
 installations_at facts register =
     reverse (filter (λ opening. same opening.register register) (openings_in facts))
 
--- The interval rows of all meters of an accounting register, one meter after another. In lawful
--- records, the start times of the rows never fall.
+-- The interval rows of all meters of an accounting register, one meter after another. If the
+-- records follow the rules (`AreLawful`), the start times of the rows never fall.
 abbrev pub rows_of_register : List Fact → List ℕ → List Share
 rows_of_register facts register = flat_map (rows_of_opening facts) (installations_at facts register)
 

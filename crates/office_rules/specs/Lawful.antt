@@ -29,8 +29,8 @@ pub record DeviceFits (facts : List Fact) (device : Device) : Type 0 where
   pub timeout : (1 ≤ device.timeout) × (device.timeout ≤ MAX_TIMEOUT)
   pub window : (1 ≤ device.window) × (device.window ≤ MAX_WINDOW)
 
--- True if a point list may be stored. Its device exists, and its reads equal the reads in the plan
--- for its points.
+-- True if a point list may be stored. Its device exists, and the Modbus reads stored with the list
+-- are those of the plan for its points.
 pub record ListFits (facts : List Fact) (put : DeviceList) : Type 0 where
   pub device : is_some (device_of facts put.device) ≡ true
   pub planned : IsPlanned put.list
@@ -54,8 +54,8 @@ pub record OpeningFits (facts : List Fact) (opening : Opening) : Type 0 where
   pub scale : IsScale opening.sf
   pub ceiling : (1 ≤ opening.ceiling) × (opening.ceiling ≤ MAX_CEILING)
 
--- True if a line may be added to a meter's journal. The meter is installed, and the journal's rules
--- accept the line.
+-- True if a line may be added to a meter's journal, the list of its entries, rejected readings and
+-- voids. The meter is installed, and the journal's rules accept the line.
 pub record LineFits (facts : List Fact) (meter : List ℕ) (line : journal.Line) : Type 0 where
   pub opening : Opening
   pub there : opening_of facts meter ≡ Some opening

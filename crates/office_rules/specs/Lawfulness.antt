@@ -37,7 +37,8 @@ pub record IsPast (history : History) : Type 0 where
   pub accepted : AreAccepted history
   pub planned : ListsArePlanned history
 
--- Theorem: the records after any accepted events are lawful.
+-- Theorem: the records after any accepted events are lawful. This means that the rules accept each
+-- record after the earlier ones.
 abbrev pub FactsAreLawful : Type 0
 FactsAreLawful = (history : History) → AreAccepted history → ListsArePlanned history
     → AreLawful (facts_of history)
@@ -59,14 +60,15 @@ pub record AreDistinct (facts : List Fact) : Type 0 where
   pub latest : (opening : Opening) → IsRecorded facts opening → is_ended facts opening ≡ false
       → installed_at facts opening.register ≡ Some opening
 
--- Theorem: the names of devices, accounting registers and meters in lawful records are distinct.
+-- Theorem: if the records follow the rules (`AreLawful`), then the names of devices, accounting
+-- registers and meters are distinct.
 abbrev pub NamesAreDistinct : Type 0
 NamesAreDistinct = (facts : List Fact) → AreLawful facts → AreDistinct facts
 
--- True if the polls and meters of a past satisfy all theorems. Each poll ended once or is pending.
--- The energy and the interval rows of each meter come from its valid entries, and voids leave no
--- trace. If the readings come from an honest meter that is polled often enough, the energy and the
--- interval rows equal the true ones.
+-- True if the polls and meters of a history satisfy all theorems. Each poll ended once or is
+-- pending. The energy and the interval rows of each meter come from its valid entries, and voided
+-- (cancelled) entries leave no trace. If the readings come from an honest meter that is polled
+-- often enough, the energy and the interval rows equal the true ones.
 pub record AreTrue (history : History) : Type 0 where
   pub polls : EachEndsOnce history
   pub lawful : AreLawful (facts_of history)
@@ -80,6 +82,6 @@ pub record AreTrue (history : History) : Type 0 where
       → ShowsTrueRun (installed opening) (journal_of (facts_of history) opening.meter) first items
       → IsKeptTruly (installed opening) (journal_of (facts_of history) opening.meter) first items
 
--- Theorem: the records of each possible past satisfy `AreTrue`.
+-- Theorem: the records of each possible history satisfy `AreTrue`.
 abbrev pub BooksAreTrue : Type 0
 BooksAreTrue = (history : History) → AreAccepted history → ListsArePlanned history → AreTrue history

@@ -1,4 +1,5 @@
--- Theorems about the meters in lawful records.
+-- Theorems about the meters in lawful records, which are records that the rules accept one after
+-- another.
 use Rattle.std.specs.Prelude.{◌≤◌, ℕ, ◌≡◌, ◌+◌, List}
 use Rattle.std.specs.List.{All, Contains}
 use Rattle.energy_core.specs.Value.{value_of}
@@ -20,15 +21,15 @@ use Rattle.office_rules.specs.Lawful.{AreLawful}
 abbrev pub IsRecorded : List Fact → Opening → Type 0
 IsRecorded facts opening = Contains (openings_in facts) opening
 
--- Theorem: in lawful records, the rules of the journal accept each line of a meter's journal after
--- the earlier lines.
+-- Theorem: if the records follow the rules (`AreLawful`), then the rules of each meter's journal
+-- accept each of its lines after the earlier lines.
 abbrev pub JournalsFit : Type 0
 JournalsFit = (facts : List Fact) (opening : Opening) → AreLawful facts → IsRecorded facts opening
     → AreFitting (installed opening) (journal_of facts opening.meter)
 
--- True if the energy of a meter balances. The total energy, the opening value and the values that
--- changes set add up to one sum. The last value, a full range for each rollover, and the values
--- before changes add up to the same sum.
+-- True if the energy of a meter balances. One sum consists of its total energy, its value at the
+-- opening, and the values to which its counter was set. The other sum consists of its last value, a
+-- full range for each rollover, and the values before the counter was set. Both sums are equal.
 --
 -- The account of the valid entries is sound, and the interval rows add up to the total energy.
 pub record IsKept (facts : List Fact) (opening : Opening) : Type 0 where
@@ -40,27 +41,29 @@ pub record IsKept (facts : List Fact) (opening : Opening) : Type 0 where
   pub rows : IsAccount (steps_in facts opening) (rows_of_opening facts opening)
   pub sum : energy_of (rows_of_opening facts opening) ≡ (installation_of facts opening).total
 
--- Theorem: the energy of each meter in lawful records balances, as `IsKept` describes.
+-- Theorem: if the records follow the rules (`AreLawful`), then the energy of each meter balances,
+-- as `IsKept` describes.
 abbrev pub MetersAreKept : Type 0
 MetersAreKept = (facts : List Fact) (opening : Opening) → AreLawful facts → IsRecorded facts opening
     → IsKept facts opening
 
--- Theorem: suppose that an honest meter was polled often enough. Its readings are those that were
--- valid after the last void, and all later readings. Then none of the later readings was rejected.
--- The recorded steps, energy and interval rows equal the true ones.
+-- Theorem about an honest meter that is polled often enough. It covers the readings that were valid
+-- after the last void (cancellation), and all later readings. Then none of the later readings was
+-- rejected, and the recorded steps, energy and interval rows equal the true ones.
 abbrev pub TruthIsRecorded : Type 0
 TruthIsRecorded = (facts : List Fact) (opening : Opening) (first : Item) (items : List Item)
     → AreLawful facts → IsRecorded facts opening
     → truth.ShowsTrueRun (installed opening) (journal_of facts opening.meter) first items
     → truth.IsKeptTruly (installed opening) (journal_of facts opening.meter) first items
 
--- True if the valid entries of a meter are the entries that no void names. These entries lead to
--- the same account as a journal that contains only the valid entries.
+-- True if the valid entries of a meter are the entries that no void (cancellation) names. These
+-- entries lead to the same energy as a journal that contains only the valid entries.
 pub record IsUntraced (facts : List Fact) (opening : Opening) : Type 0 where
   pub rows : journals.HasItsRows (installed opening) (journal_of facts opening.meter)
   pub alone : journals.LeavesNoTrace (installed opening) (journal_of facts opening.meter)
 
--- Theorem: in lawful records, voided entries leave no trace in the account of a meter.
+-- Theorem: if the records follow the rules (`AreLawful`), then voided (cancelled) entries leave no
+-- trace in the energy of a meter.
 abbrev pub VoidsLeaveNoTrace : Type 0
 VoidsLeaveNoTrace = (facts : List Fact) (opening : Opening) → AreLawful facts
     → IsRecorded facts opening → IsUntraced facts opening
@@ -84,7 +87,7 @@ pub record IsBounded (f : Fact) : Type 0 where
   pub poll : poll_in f ≤ poll_limit
   pub request : request_in f ≤ request_limit
 
--- Theorem: in lawful records, the timestamps, poll numbers and request numbers are within their
--- limits.
+-- Theorem: if the records follow the rules (`AreLawful`), then their timestamps, poll numbers and
+-- request numbers are within their limits.
 abbrev pub FactsAreBounded : Type 0
 FactsAreBounded = (facts : List Fact) → AreLawful facts → All IsBounded facts

@@ -58,7 +58,8 @@ entries_of facts opening = journal.entries_of (opened opening) (journal_of facts
 abbrev pub is_ended : List Fact → Opening → Bool
 is_ended facts opening = journal.is_ended (journal_of facts opening.meter)
 
--- The steps between consecutive valid entries of a meter. The latest step comes first.
+-- The steps between consecutive valid entries of a meter, each with its energy. The latest step
+-- comes first.
 abbrev pub steps_in : List Fact → Opening → List Step
 steps_in facts opening = books.steps_in (installed opening) (journal_of facts opening.meter)
 
@@ -85,12 +86,12 @@ meter_of facts meter = option_map (installation_of facts) (opening_of facts mete
 abbrev pub installation_at : List Fact → List ℕ → Option Installation
 installation_at facts register = option_map (installation_of facts) (installed_at facts register)
 
--- The installation, or `None` if its meter was closed.
+-- The state of the meter, or `None` if the meter was closed.
 abbrev pub if_open : Installation → Option Installation
 if_open row = if row.ended then None else Some row
 
--- The open installation at the accounting register with a given name, or `None` if no meter is open
--- there.
+-- The state of the open meter at the accounting register with a given name, or `None` if no meter
+-- is open there.
 abbrev pub open_at : List Fact → List ℕ → Option Installation
 open_at facts register = option_and_then if_open (installation_at facts register)
 

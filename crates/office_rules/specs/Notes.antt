@@ -37,7 +37,7 @@ abbrev pub as_note : (meter : List ℕ) → Reading → Verdict → Note
 as_note meter reading (Accepted rolls step) = note.Reading meter reading.raw rolls step
 as_note meter reading (Held cause) = note.Held meter reading.raw cause
 
--- The notification of a reading of an installation, judged by the installation's present state.
+-- The notification of a reading of an installed meter, judged by the meter's present state.
 abbrev pub reading_note : Reading → Installation → Note
 reading_note reading row = as_note row.opening.meter reading (judgement row reading)
 
@@ -107,8 +107,8 @@ abbrev pub frame_of : Device → Send → List ℕ
 frame_of device send =
     spelling send.id device.unit (request_bytes (request_of (span_view send.span)))
 
--- The bytes of the Modbus frames of all reads that a slot's session can start. Without a slot, the
--- list is empty.
+-- The bytes of the Modbus frames of all reads that a device's session can start. Without a slot,
+-- which means without such a device, the list is empty.
 abbrev pub frames_from : (number at : ℕ) → List ReadSpan → Option Slot → List ℕ
 frames_from number at spans None = []
 frames_from number at spans (Some slot) =

@@ -1,4 +1,5 @@
--- The ranges of counts, scale factors and energies of installations in lawful records.
+-- The ranges of counts, scale factors and energies of meters in lawful records, which are records
+-- that the rules accept one after another.
 use Rattle.std.specs.Prelude.{◌≡◌, ℕ, ◌≤◌, ◌<◌, List, Some}
 use Rattle.energy_core.specs.declared.limits.TheConstants.{MAX_CEILING, MAX_RANGE, MAX_TOTAL, MIN_RANGE}
 use Rattle.energy_core.specs.Account.{IsScale}
@@ -10,7 +11,7 @@ use Rattle.office_rules.specs.Lawful.{AreLawful}
 use Rattle.office_rules.specs.Meters.{installation_of, meter_of, installation_at, open_at, entry_at}
 use Rattle.office_rules.specs.Laws.{IsRecorded}
 
--- True if the counts, the scale factor and the limits of an installation are in range. The next
+-- True if the counts, the scale factor and the limits of a meter's state are in range. The next
 -- entry can then be judged without overflow.
 pub record IsSound (row : Installation) : Type 0 where
   pub range : (MIN_RANGE ≤ row.opening.range) × (row.opening.range ≤ MAX_RANGE)
@@ -19,8 +20,8 @@ pub record IsSound (row : Installation) : Type 0 where
   pub scale : IsScale row.last.sf
   pub total : row.total ≤ MAX_TOTAL
 
--- True if `IsSound` holds for each recorded installation and for the state before each entry. The
--- installation may be looked up by name or by accounting register.
+-- True if `IsSound` holds for each recorded meter's state, now and before each entry. The meter may
+-- be looked up by name or by accounting register.
 pub record AreInRange (facts : List Fact) : Type 0 where
   pub recorded : (opening : Opening) → IsRecorded facts opening
       → IsSound (installation_of facts opening)
@@ -34,6 +35,6 @@ pub record AreInRange (facts : List Fact) : Type 0 where
       → entry_at facts meter place ≡ Some found
       → IsSound found.before
 
--- Theorem: `AreInRange` holds for all lawful records.
+-- Theorem: `AreInRange` holds for all records that follow the rules (`AreLawful`).
 abbrev pub InstallationsAreInRange : Type 0
 InstallationsAreInRange = (facts : List Fact) → AreLawful facts → AreInRange facts

@@ -66,7 +66,7 @@ reading_of at span words register = record {
   sf = scale_of span words register.scale;
 }
 
--- The verdict on a reading, judged by the present state of an installation.
+-- The verdict on a reading, judged by the present state of an installed meter.
 abbrev pub judgement : Installation → Reading → Verdict
 judgement row reading =
     verdict_of row.opening.range (record { ceiling = row.opening.ceiling; total = row.total })
@@ -88,12 +88,12 @@ as_fact meter poll reading (Held cause) =
       cause = cause;
     })
 
--- The record of a reading of an installation, judged by the installation's present state.
+-- The record of a reading of an installed meter, judged by the meter's present state.
 abbrev pub reading_fact : (poll : ℕ) → Reading → Installation → Fact
 reading_fact poll reading row = as_fact row.opening.meter poll reading (judgement row reading)
 
--- The records after a reading of an installation is added. Without an open installation (`None`),
--- nothing is added.
+-- The records after a reading of the open meter is added. Without an open meter (`None`), nothing
+-- is added.
 abbrev pub with_reading : (poll : ℕ) → Reading → Option Installation → List Fact → List Fact
 with_reading poll reading None facts = facts
 with_reading poll reading (Some row) facts = reading_fact poll reading row ∷ facts

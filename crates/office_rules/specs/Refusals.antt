@@ -53,7 +53,7 @@ device_limit = MAX_DEVICES
 abbrev pub register_limit : ℕ
 register_limit = MAX_REGISTERS
 
--- The maximum number of installations of an office, including closed ones.
+-- The maximum number of meters of an office, including closed ones.
 abbrev pub installation_limit : ℕ
 installation_limit = MAX_INSTALLATIONS
 
@@ -123,8 +123,7 @@ abbrev pub has_fault : TermFault → Installation → Option Made → Bool
 has_fault why row None = false
 has_fault why row (Some made) = entering.refuses row.opening.range row.total row.last made.entry why
 
--- True if the command's entry has the fault `why` at an installation. False without an
--- installation.
+-- True if the command's entry has the fault `why` at an installed meter. False without a meter.
 abbrev pub makes_fault : (at : ℕ) → TermFault → Command → Option Installation → Bool
 makes_fault at why c None = false
 makes_fault at why c (Some row) = has_fault why row (made_by at row.last c)
@@ -210,8 +209,8 @@ is_full_of_registers facts None = false
 is_full_of_registers facts (Some device) =
     nat_le register_limit (length (registers_of facts device))
 
--- Refusal `Limit`: the maximum number of devices, accounting registers or installations is reached,
--- or a round starts at an index past the end of the plan.
+-- Refusal `Limit`: the maximum number of devices, accounting registers or meters is reached, or a
+-- polling round starts at an index past the end of the plan.
 abbrev pub is_crowded : List Slot → List Fact → Command → Bool
 is_crowded slots facts (command.AddDevice c) = nat_le device_limit (length slots)
 is_crowded slots facts (command.AddRegister c) = is_full_of_registers facts c.device
@@ -394,8 +393,8 @@ AreAccepted [] = Unit {0}
 AreAccepted (Opened at ∷ past) = (opening_refusal_of (facts_of past) at ≡ None) × AreAccepted past
 AreAccepted (Fed at e ∷ past) = IsAccepted past at e × AreAccepted past
 
--- The total number of reads that a command requests: for a round, the reads of the complete plan,
--- otherwise 1.
+-- The total number of reads that a command requests: for a polling round, the reads of the complete
+-- plan, otherwise 1.
 abbrev pub reads_in_all : List Fact → Command → ℕ
 reads_in_all facts (command.StartRound c) =
     length (round_spans 0 (option_and_then (list_of facts) c.device))

@@ -1,4 +1,5 @@
--- The interval rows of an accounting register in lawful records.
+-- The interval rows (energy by quarter hour) of an accounting register in lawful records, which are
+-- records that the rules accept one after another.
 use Rattle.std.specs.Prelude.{ℕ, ◌≤◌, ◌<◌, ◌^◌, List, All}
 use Rattle.std.specs.List.Sorted.{IsNonDecreasingBy}
 use Rattle.interval_core.specs.declared.shares.Share.{Share}
@@ -15,8 +16,9 @@ pub record CanBeFolded (rows : List Share) : Type 0 where
   pub moments : All (λ row. row.start ≤ moment_limit) rows
   pub energy : energy_of rows < 2 ^ 128
 
--- Theorem: the interval rows of each accounting register in lawful records can be added up by day.
--- They are in order because each meter is closed before the next meter is opened.
+-- Theorem: if the records follow the rules (`AreLawful`), then the interval rows of each accounting
+-- register can be added up by day. The rows are in order because each meter is closed before the
+-- next meter is opened.
 abbrev pub RegistersAreInTurn : Type 0
 RegistersAreInTurn = (facts : List Fact) (register : List ℕ) → AreLawful facts
     → CanBeFolded (rows_of_register facts register)

@@ -1,5 +1,5 @@
 -- The devices of the office in the order in which they were added, each with all events of its
--- sessions.
+-- sessions. A session is a connection of a device.
 use Rattle.std.specs.Prelude.{ℕ, ◌+◌, Bool, true, false, List, [], ◌∷◌, ◌++◌, map, Option, Some, None, if◌then◌else◌}
 use Rattle.std.specs.Option.{option_map, option_and_then, is_none}
 use Rattle.std.specs.List.{find}
@@ -16,8 +16,8 @@ use Rattle.office_events.specs.declared.events.Event.{Event}
 use Rattle.office_events.specs.declared.events.Event.TheVariants as event
 use Rattle.office_rules.specs.Facts.{is_named}
 
--- A session that ended. `restarted` is true if a restart of the office ended the session, instead
--- of the session's last event.
+-- A session that ended: a former connection of a device. `restarted` is true if a restart of the
+-- office ended the session, instead of the session's last event.
 pub record EndedSession : Type 0 where
   pub events : List session.Event
   pub restarted : Bool
@@ -64,7 +64,7 @@ pub record Send : Type 0 where
   pub id : ℕ
   pub span : ReadSpan
 
--- The session event that starts a read at the timestamp `at`.
+-- The Modbus session event that starts a read at the timestamp `at`.
 abbrev pub start_by : (at : ℕ) → Device → Send → session.Event
 start_by at device send = session.Start at send.number device.unit (span_view send.span)
 
@@ -85,8 +85,8 @@ abbrev pub sends_at : (number at : ℕ) → Device → Option (List session.Even
 sends_at number at device None spans = []
 sends_at number at device (Some before) spans = sends_on number at device before spans
 
--- The session events with which a command starts its reads on a device. The list is empty if the
--- command starts no polls on this device.
+-- The Modbus session events with which a command starts its reads on a device. The list is empty if
+-- the command starts no polls on this device.
 abbrev pub starts_by : (number at : ℕ) → List ReadSpan → Option Command → Device
     → List session.Event → List session.Event
 starts_by number at spans None device before = []
@@ -117,12 +117,13 @@ abbrev pub connects : Event → Device → Bool
 connects (event.Connected given) device = is_named given device.name
 connects _ device = false
 
--- True if a session event ends its session.
+-- True if a Modbus session event ends its session.
 abbrev pub is_close : session.Event → Bool
 is_close (session.Close moment closing) = true
 is_close _ = false
 
--- The slot of a device after further events of its present session. A close event ends the session.
+-- The slot of a device after further events of its present Modbus session. A close event ends the
+-- session.
 abbrev pub with_happenings : Slot → List session.Event → List session.Event → Slot
 with_happenings slot before [] =
     record { device = slot.device; ended = slot.ended; present = Some before }
@@ -173,7 +174,7 @@ abbrev pub slots_after : (number at : ℕ) → List ReadSpan → Event → List 
 slots_after number at spans e slots =
     map (slot_after number at spans e) slots ++ slots_added (command_in e)
 
--- The present session of a device as an ended session after the office restarted. Without a
+-- The present Modbus session of a device as an ended session after the office restarted. Without a
 -- session, the list is empty.
 abbrev pub ended_by_restart : Option (List session.Event) → List EndedSession
 ended_by_restart None = []

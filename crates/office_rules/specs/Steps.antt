@@ -1,4 +1,4 @@
--- Theorems about how a new lawful record changes an installation.
+-- Theorems about how a new record that the rules accept changes the stored state of a meter.
 use Rattle.std.specs.Prelude.{◌≡◌, ◌+◌, true, false, List, [], ◌∷◌, Some, None, if◌then◌else◌}
 use Rattle.energy_core.specs.declared.entries.Entry.{Entry}
 use Rattle.energy_core.specs.declared.entries.Step.{Step}
@@ -19,7 +19,8 @@ use Rattle.office_rules.specs.Intervals.{rows_of_opening}
 use Rattle.office_rules.specs.Lawful.{AreLawful}
 use Rattle.office_rules.specs.Meters.{line_of, opened, installed, journal_of, rows_of, installation_of}
 
--- True if the record `f` leaves an installation, its entry rows and its interval rows unchanged.
+-- True if the record `f` leaves the stored state of a meter (its installation), its entry rows and
+-- its interval rows unchanged.
 pub record Stays (f : Fact) (facts : List Fact) (opening : Opening) : Type 0 where
   pub installation : installation_of (f ∷ facts) opening ≡ installation_of facts opening
   pub rows : rows_of (f ∷ facts) opening ≡ rows_of facts opening
@@ -37,7 +38,7 @@ abbrev pub HoldsChangeNothing : Type 0
 HoldsChangeNothing = (held : HeldReading) (facts : List Fact) (opening : Opening)
     → Stays (fact.Hold held) facts opening
 
--- True if an opening begins an installation. The installation is found by its name and at its
+-- True if the opening record installs its meter. The meter is found by its name and at its
 -- accounting register. Its counter has the state of the opening, its energy is 0, and it has no
 -- rows.
 pub record Begins (facts : List Fact) (opening : Opening) : Type 0 where
@@ -48,12 +49,12 @@ pub record Begins (facts : List Fact) (opening : Opening) : Type 0 where
   pub rows : rows_of (fact.Opening opening ∷ facts) opening ≡ []
   pub intervals : rows_of_opening (fact.Opening opening ∷ facts) opening ≡ []
 
--- Theorem: each lawful opening record begins an installation, as `Begins` describes.
+-- Theorem: each opening record that the rules accept installs its meter, as `Begins` describes.
 abbrev pub OpeningsBegin : Type 0
 OpeningsBegin = (opening : Opening) (facts : List Fact) → AreLawful (fact.Opening opening ∷ facts)
     → Begins facts opening
 
--- The state of an installation after a new entry of its meter.
+-- The state of an installed meter after a new entry.
 abbrev pub moved_by : EntryKind → Entry → Installation → Installation
 moved_by k e row = record {
   opening = row.opening;
@@ -62,11 +63,11 @@ moved_by k e row = record {
   ended = if is_closing k then true else row.ended;
 }
 
--- The step of the counter from the last entry of an installation to a new entry.
+-- The step of the counter from the last entry of an installed meter to a new entry.
 abbrev pub step_from : Installation → Entry → Step
 step_from row e = step_to row.opening.range row.last e
 
--- True if a new entry of an open meter advances the installation by the entry's step of the
+-- True if a new entry of an open meter advances the meter's state by the entry's step of the
 -- counter, and adds one entry row.
 --
 -- The quarter-hour shares of the step extend the interval rows. Two equal definitions state the
@@ -87,7 +88,8 @@ pub record MovesOn (booked : BookedEntry) (facts : List Fact) (opening : Opening
       rows_of_opening (fact.Entry booked ∷ facts) opening
       ≡ with_each shares (rows_of_opening facts opening)
 
--- Theorem: each lawful entry record advances the installation of its meter, as `MovesOn` describes.
+-- Theorem: each entry record that the rules accept advances the state of its meter, as `MovesOn`
+-- describes.
 abbrev pub EntriesMoveOn : Type 0
 EntriesMoveOn = (booked : BookedEntry) (facts : List Fact) (opening : Opening)
     → AreLawful (fact.Entry booked ∷ facts)

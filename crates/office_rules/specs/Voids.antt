@@ -1,4 +1,4 @@
--- Theorems about how a lawful void changes the installation of a meter.
+-- Theorems about how a void, which cancels an entry, changes the stored state of a meter.
 use Rattle.std.specs.Prelude.{◌≡◌, ◌+◌, List, ◌∷◌, map, Some, is_some, if◌then◌else◌}
 use Rattle.meter_journal.specs.Intervals.{with_each, without_each, all_shares}
 use Rattle.meter_journal.specs.Journal.{Around}
@@ -12,9 +12,9 @@ use Rattle.office_rules.specs.Intervals.{rows_of_opening}
 use Rattle.office_rules.specs.Lawful.{AreLawful}
 use Rattle.office_rules.specs.Meters.{opened, installed, journal_of, rows_of, installation_of, place_in, entry_at}
 
--- True if a void changes only the rows of the voided entry and of the next valid entry. If no valid
--- entry follows, the counter returns to its state before the voided entry, otherwise it keeps its
--- state.
+-- True if a void (cancellation of an entry) changes only the rows of the voided entry and of the
+-- next valid entry. If no valid entry follows, the counter returns to its state before the voided
+-- entry, otherwise it keeps its state.
 --
 -- The energy of the steps around the voided entry is subtracted from the total energy and the
 -- interval rows. The energy of the step between the entry's neighbours is added.
@@ -38,7 +38,7 @@ pub record GivesWay (voided : VoidedEntry) (facts : List Fact) (opening : Openin
       ≡ rows_until opening.at (installation_of (fact.Void voided ∷ facts) opening).last.at
       (with_each put (without_each out (rows_of_opening facts opening)))
 
--- Theorem: each lawful void changes the installation of its meter, as `GivesWay` describes.
+-- Theorem: each void that the rules accept changes the state of its meter as `GivesWay` describes.
 abbrev pub VoidedEntriesGiveWay : Type 0
 VoidedEntriesGiveWay = (voided : VoidedEntry) (facts : List Fact) (opening : Opening)
     → AreLawful (fact.Void voided ∷ facts) → opening_of facts voided.meter ≡ Some opening

@@ -7,13 +7,13 @@ use meter_journal::{
     places_were_kept, rows_are_kept, truth_is_kept, voids_leave_no_trace as journal_voids,
 };
 
-/// Proves that the rules of the journal accept each line of a meter's journal in lawful records
-/// after the earlier lines.
+/// Proves that the rules of a meter's journal accept each of its lines after the earlier lines. The
+/// premise is that the records are lawful.
 pub fn journals_fit()
     ensures { JournalsFit }
 {}
 
-/// Proves that the energy of each installation in lawful records balances. The energy is the last
+/// Proves that the energy of each meter balances if the records are lawful. The energy is the last
 /// value less the first, plus a full range for each recorded rollover, plus the differences that
 /// resets and rescales record.
 ///
@@ -28,15 +28,15 @@ pub fn meters_are_kept()
 }
 
 /// Proves that the readings of an honest meter are recorded truly if the meter is polled often
-/// enough and has no entries but readings. No reading since the last void is rejected. The recorded
-/// steps, total energy and interval rows equal the true ones.
+/// enough and has no entries but readings. No reading since the last void (cancellation) is
+/// rejected. The recorded steps, total energy and interval rows equal the true ones.
 pub fn truth_is_recorded()
     ensures { TruthIsRecorded }
 {
     truth_is_kept();
 }
 
-/// Proves that voided entries leave no trace in a meter's account and interval rows.
+/// Proves that voided (cancelled) entries leave no trace in a meter's energy and interval rows.
 pub fn voids_leave_no_trace()
     ensures { VoidsLeaveNoTrace }
 {
@@ -49,8 +49,8 @@ pub fn facts_are_bounded()
     ensures { FactsAreBounded }
 {}
 
-/// Proves that the counts, scale factors and energies of each installation in lawful records are in
-/// range, now and before each entry.
+/// Proves that the counts, scale factors and energies of each meter in lawful records are in range,
+/// now and before each entry.
 pub fn installations_are_in_range()
     ensures { InstallationsAreInRange }
 {

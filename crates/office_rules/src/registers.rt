@@ -6,8 +6,8 @@ use meter_journal::{
     voids_go_no_further,
 };
 
-/// Proves that the start times of an accounting register's interval rows in lawful records never
-/// fall, even from one meter to the next. Therefore the rows can be added up by day.
+/// Proves that the start times of an accounting register's interval rows (energy by quarter hour)
+/// never fall, even from one meter to the next. Therefore the rows can be added up by day.
 pub fn registers_are_in_turn()
     ensures { RegistersAreInTurn }
 {

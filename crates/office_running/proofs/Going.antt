@@ -1,4 +1,5 @@
--- Lemmas on the steps of a run at one timestamp, and on the turns of its event loop.
+-- Lemmas on the steps of a run (one execution of `sunreg run`) at one timestamp, and on the turns
+-- of its event loop.
 use Rattle.std.proofs.Common.{◌≡◌, ◌⊎◌, inl, inr, ℕ, true, false, Bool, List, [], ◌∷◌, ◌++◌, Option, Some, None, Result, refl, sym, ap, ◌∙◌, subst, append_assoc}
 use Rattle.std.specs.Prelude.{max, position, slice_get, if◌then◌else◌}
 use Rattle.office_events.specs.declared.answers.Answer.{Answer}
@@ -39,7 +40,8 @@ use Rattle.office_running.specs.Runs.{AreAt, BooksRun, Goes, IsOfRound, ReadsClo
 
 -- ---- Steps of a run at one timestamp
 
--- An unchanged office has made zero steps, which counts as a list of steps at any timestamp.
+-- If the office is unchanged, then it has made zero steps, which counts as a list of steps at any
+-- timestamp.
 pub goes_none : {B : Type 0} (names : List (List ℕ)) (at : ℕ) (ledger : B → Ledger) (office : Office B) → Goes names at ledger office office
 goes_none names at ledger office = record {
   stands = λ past stands clean. record { steps = []; each = tt; stands = stands };
@@ -56,8 +58,8 @@ each_of_both : {names : List (List ℕ)} (at : ℕ) (later earlier : List (Step 
 each_of_both at [] earlier a b = b
 each_of_both at (one ∷ later) earlier a b = (a.0, each_of_both at later earlier a.1 b)
 
--- Steps at a timestamp and further steps at the same timestamp are together steps at this
--- timestamp.
+-- If the office made steps at a timestamp, and then further steps at the same timestamp, then all
+-- of them together are steps at this timestamp.
 pub goes_both : {B : Type 0} (names : List (List ℕ)) (at : ℕ) (ledger : B → Ledger) (a b c : Office B) → Goes names at ledger a b → Goes names at ledger b c
     → Goes names at ledger a c
 goes_both names at ledger a b c first next = record {
@@ -85,7 +87,8 @@ after_events : (names : List (List ℕ)) (past : History) (fed : List Answered) 
 after_events names past [] = refl
 after_events names past (one ∷ earlier) = ap (λ h. with_answer h one.at one.event one.result) (after_events names past earlier)
 
--- An event that a polling round requests, if any, belongs to a polling round.
+-- True if the event that a polling round requests belongs to a polling round. Also true if there is
+-- no event.
 abbrev WishesOfRound : Option Event → Type 0
 WishesOfRound None = Unit {0}
 WishesOfRound (Some e) = IsOfRound e
@@ -172,7 +175,8 @@ goes_turn names ledger sees at old new begun failures turned observer opened tur
   zone = lasts.zone;
 }
 
--- After one event of a polling round is fed, the office has made one step.
+-- If one event of a polling round is fed, then the office has made one step at the event's
+-- timestamp.
 pub goes_fed : {B : Type 0} (names : List (List ℕ)) (ledger : B → Ledger) (at : ℕ) (e : Event) (answer : Result Answer Refusal) (old new : Office B)
     → After ledger old new (λ past. Stands ledger (with_answer past at e answer) new) → Ends ledger old new e answer → IsOfRound e → Goes names at ledger old new
 goes_fed names ledger at e answer old new feeds ends is = record {
@@ -226,8 +230,8 @@ no_turns names ledger first begun office = record {
   zone = refl;
 }
 
--- A reading of the clock, and then steps at the latest time that the clock has returned, are one
--- more turn of the event loop.
+-- If some turns of the event loop are complete, then one more reading of the clock, with steps at
+-- the latest time that the clock has returned, adds one turn.
 one_turn : {B : Type 0} (names : List (List ℕ)) (ledger : B → Ledger) (first before latest : ℕ) (begun between now : Option (List ℕ)) (a b c : Office B)
     → TakesTurns names ledger first before begun between a b → ReadsClock before latest between now → Goes names latest ledger b c
     → TakesTurns names ledger first latest begun now a c
@@ -248,7 +252,8 @@ one_turn names ledger first before latest begun between now a b c turns reads go
   zone = goes.zone ∙ turns.zone;
 }
 
--- True if some turns of the event loop are complete, and the clock was read for the next turn.
+-- True if some turns of the event loop are complete, and the clock was read once more, for the next
+-- turn.
 pub record Begins {B : Type 0} (names : List (List ℕ)) (ledger : B → Ledger) (first latest : ℕ) (begun now : Option (List ℕ)) (old new : Office B) : Type 0 where
   pub before : ℕ
   pub between : Option (List ℕ)
@@ -264,7 +269,8 @@ first_begins names ledger first latest begun now office reads = record {
   reads = reads;
 }
 
--- Steps at the latest time that the clock has returned complete the turn that this reading began.
+-- If the clock was read for the next turn, and the office made steps at the latest time that the
+-- clock has returned, then this turn is complete.
 pub turn_ends : {B : Type 0} (names : List (List ℕ)) (ledger : B → Ledger) (first latest at : ℕ) (begun now : Option (List ℕ)) (a b c : Office B)
     → at ≡ latest → Begins names ledger first latest begun now a b → Goes names at ledger b c → TakesTurns names ledger first latest begun now a c
 turn_ends names ledger first latest at begun now a b c same begins goes =
@@ -281,8 +287,8 @@ next_begins names ledger first latest later at begun now after a b c d same begi
   reads = reads;
 }
 
--- A query of the office before some turns of the event loop changes nothing: the office processed
--- these turns and nothing else.
+-- If the office was only queried before some turns of the event loop, then it processed these turns
+-- and nothing else.
 pub turns_after_asking : {B T : Type 0} (names : List (List ℕ)) (ledger : B → Ledger) (first : ℕ) (begun now : Option (List ℕ)) (a b c : Office B)
     (answer : Result T Refusal) → OnlyAsks ledger a b answer → TurnsFrom names ledger first begun now b c → TurnsFrom names ledger first begun now a c
 turns_after_asking names ledger first begun now a b c answer asks goes = record {
@@ -308,8 +314,8 @@ reads_stand old new past keeps stands = record {
   };
 }
 
--- After a run opened the office, the store has the records of the opening and of the turns of the
--- event loop.
+-- If a run opened the office and processed turns of the event loop, then the store has the records
+-- of the opening and of these turns.
 pub ran_opened : {B : Type 0} (names : List (List ℕ)) (ledger : B → Ledger) (past : History) (begun opened now : Option (List ℕ)) (office new : Office B) (books : B)
     → books ≡ books_in new → ((ledger (books_in office)).is_clean → Opens ledger past begun opened office) → RunsOn names ledger opened now office new
     → (ledger books).is_clean → BooksRun names begun now (ledger books) past

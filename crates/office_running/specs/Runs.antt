@@ -1,5 +1,5 @@
--- The definition of a run of `sunreg run`: which events and requests the office processes, and at
--- which timestamps.
+-- The contract of the command `sunreg run`: which events and requests the office (the engine that
+-- records energy) processes, and at which timestamps.
 use Rattle.std.specs.Prelude.{◌≡◌, ◌⊎◌, ℕ, max, List, [], ◌∷◌, ◌++◌, length, Option}
 use Rattle.socket_link.specs.Clocks.{ReportsMoment}
 use Rattle.office_events.specs.declared.commands.Command.{Command}
@@ -18,24 +18,24 @@ use Rattle.office_http.specs.Serving.{with_asked}
 use Rattle.office_http.specs.Connections.Connections.{Connection}
 use Rattle.office_running.specs.declared.leftovers.Left.{Left}
 
--- ---- Steps of a run at one timestamp
+-- ---- Steps of a run (one execution of `sunreg run`) at one timestamp
 
--- One step of a run: the office processed an event of a device's polling round, or answered the
--- requests on a client's connection.
+-- One step of `sunreg run`: the office processed an event of a device's polling round, or answered
+-- the requests on an HTTP client's connection.
 --
 -- `names` are the host names that the `Host` header of a request may have.
 pub data Step (names : List (List ℕ)) : Type 0 where
   Fed : Answered → Step names
   Asks : Connection names → Step names
 
--- The command starts the Modbus reads of a device. It is the only command that a polling round may
--- request.
+-- True if the command starts the Modbus reads of a device. It is the only command that a polling
+-- round (the polls of one device, one for each read) requests.
 abbrev pub StartsRound : Command → Type 0
 StartsRound (command.StartRound start) = Unit {0}
 StartsRound _ = ⊥
 
--- True if the event belongs to a polling round: the device was connected, sent bytes or is gone, or
--- its reads are started. A timer event also counts.
+-- True if the event belongs to a polling round: the device connected, sent bytes or disconnected,
+-- or its reads are started. A timer event also counts.
 abbrev pub IsOfRound : Event → Type 0
 IsOfRound (event.Connected device) = Unit {0}
 IsOfRound (event.Bytes device piece) = Unit {0}
@@ -44,13 +44,13 @@ IsOfRound (event.Gone device closing) = Unit {0}
 IsOfRound (event.Command given) = StartsRound given
 IsOfRound (event.Asked asked) = ⊥
 
--- The step of a run happened at timestamp `at`. If the step is an event, the event belongs to a
--- polling round.
+-- True if the step of a run happened at timestamp `at`. If the step is an event, the event belongs
+-- to a polling round.
 abbrev pub IsStepAt : {names : List (List ℕ)} → (at : ℕ) → Step names → Type 0
 IsStepAt at (Fed fed) = (fed.at ≡ at) × IsOfRound fed.event
 IsStepAt at (Asks one) = one.at ≡ at
 
--- Each step of the run in the list happened at timestamp `at`.
+-- True if each step of the run in the list happened at timestamp `at`.
 abbrev pub AreAt : {names : List (List ℕ)} → (at : ℕ) → List (Step names) → Type 0
 AreAt at [] = Unit {0}
 AreAt at (one ∷ earlier) = IsStepAt at one × AreAt at earlier
@@ -67,15 +67,15 @@ abbrev pub history_with : {names : List (List ℕ)} → (past : History) → Lis
 history_with past [] = past
 history_with past (one ∷ earlier) = with_step (history_with past earlier) one
 
--- The office is in the state that follows from some steps of a run, all at timestamp `at`.
+-- True if the office is in the state that follows from some steps of a run, all at timestamp `at`.
 pub record StandsAfterSteps {B : Type 0} (names : List (List ℕ)) (at : ℕ) (ledger : B → Ledger)
     (past : History) (office : Office B) : Type 0 where
   pub steps : List (Step names)
   pub each : AreAt at steps
   pub stands : Stands ledger (history_with past steps) office
 
--- Whatever bytes arrive, the office processes only events of polling rounds and requests of
--- clients, all at timestamp `at`.
+-- The promise of each function of the event loop. Whatever bytes arrive, the office processes only
+-- events of polling rounds and requests of clients, all at timestamp `at`.
 --
 -- If a store is clean after the call (no wrong result of it was used), then the store was clean
 -- before the call. The store's time zone is unchanged.
@@ -87,15 +87,15 @@ pub record Goes {B : Type 0} (names : List (List ℕ)) (at : ℕ) (ledger : B �
 
 -- ---- Turns of the event loop, from timestamp to timestamp
 
--- The clock was read once. `latest` is the maximum of the time that the clock returned and the
--- latest timestamp before, `before`.
+-- True if the clock was read once. If the clock was set back, `latest` stays the latest timestamp
+-- before, `before`. Otherwise it is the time that the clock returned.
 pub record ReadsClock (before latest : ℕ) (begun now : Option (List ℕ)) : Type 0 where
   pub reported : ℕ
   pub reports : ReportsMoment begun now reported
   pub is_latest : latest ≡ max before reported
 
--- A turn of the run's event loop: the time that the clock returned, and the steps of the turn, the
--- latest step first.
+-- One turn (pass) of the run's event loop: the time that the clock returned, and the steps of the
+-- turn, the latest step first.
 pub record Turn (names : List (List ℕ)) : Type 0 where
   pub reported : ℕ
   pub steps : List (Step names)
@@ -106,8 +106,8 @@ abbrev pub latest_of : {names : List (List ℕ)} → (first : ℕ) → List (Tur
 latest_of first [] = first
 latest_of first (turn ∷ earlier) = max (latest_of first earlier) turn.reported
 
--- The clock was read once in each turn of the event loop. All steps of a turn happened at the
--- latest time that the clock had returned by this turn.
+-- True if the clock was read once in each turn of the event loop. All steps of a turn happened at
+-- the latest time that the clock had returned by this turn, so timestamps never decrease.
 abbrev pub AreTurns : {names : List (List ℕ)} → (first : ℕ) → (begun now : Option (List ℕ))
     → List (Turn names) → Type 0
 AreTurns first begun now [] = now ≡ begun
@@ -120,8 +120,8 @@ abbrev pub steps_of : {names : List (List ℕ)} → List (Turn names) → List (
 steps_of [] = []
 steps_of (turn ∷ earlier) = turn.steps ++ steps_of earlier
 
--- The office is in the state that follows from some turns of the event loop. `latest` is the latest
--- time that the clock has returned.
+-- True if the office is in the state that follows from some turns of the event loop. `latest` is
+-- the latest time that the clock has returned.
 pub record StandsAfterTurns {B : Type 0} (names : List (List ℕ)) (first latest : ℕ)
     (begun now : Option (List ℕ)) (ledger : B → Ledger) (past : History)
     (office : Office B) : Type 0 where
@@ -130,7 +130,7 @@ pub record StandsAfterTurns {B : Type 0} (names : List (List ℕ)) (first latest
   pub is_latest : latest ≡ latest_of first turns
   pub stands : Stands ledger (history_with past (steps_of turns)) office
 
--- The office processed some turns of the event loop and nothing else.
+-- True if the office processed some turns of the event loop and nothing else.
 --
 -- If a store is clean after the turns (no wrong result of it was used), then the store was clean
 -- before the turns. The store's time zone is unchanged.
@@ -141,14 +141,15 @@ pub record TakesTurns {B : Type 0} (names : List (List ℕ)) (ledger : B → Led
   pub clean : (ledger (books_in new)).is_clean → (ledger (books_in old)).is_clean
   pub zone : (ledger (books_in new)).zone ≡ (ledger (books_in old)).zone
 
--- The office processed some turns of the event loop, beginning at timestamp `first`.
+-- True if the office processed some turns of the event loop and nothing else. No timestamp of these
+-- turns is before `first`.
 pub record TurnsFrom {B : Type 0} (names : List (List ℕ)) (ledger : B → Ledger) (first : ℕ)
     (begun now : Option (List ℕ)) (old new : Office B) : Type 0 where
   pub latest : ℕ
   pub turns : TakesTurns names ledger first latest begun now old new
 
--- The clock was read and returned the timestamp `first`. Then the office processed some turns of
--- the event loop.
+-- True if the clock was read and returned the timestamp `first`, and then the office processed some
+-- turns of the event loop.
 pub record RunsOn {B : Type 0} (names : List (List ℕ)) (ledger : B → Ledger)
     (begun now : Option (List ℕ)) (old new : Office B) : Type 0 where
   pub first : ℕ
@@ -158,8 +159,8 @@ pub record RunsOn {B : Type 0} (names : List (List ℕ)) (ledger : B → Ledger)
 
 -- ---- A complete run, from the opening of the office to the end
 
--- The store has the records of an opening of the office, and of the turns of the event loop after
--- it. The timestamp of the opening is a time that the clock returned.
+-- True if the store has the records of an opening of the office, and of the turns of the event loop
+-- after it. The timestamp of the opening is a time that the clock returned.
 pub record StandAfterOpening (names : List (List ℕ)) (begun now : Option (List ℕ))
     (ledger : Ledger) (past : History) : Type 0 where
   pub at : ℕ
@@ -172,15 +173,16 @@ pub record StandAfterOpening (names : List (List ℕ)) (begun now : Option (List
   pub are : AreTurns first between now turns
   pub stand : BooksStand ledger (history_with (Opened at ∷ past) (steps_of turns))
 
--- The store has the records from before the run, with or without those of the run. The records of
--- the run are those of an opening of the office and of the turns of the event loop after it.
+-- True if the store has the records from before the run, either alone or with those of the run. The
+-- records of the run are those of an opening of the office and of the turns of the event loop after
+-- it.
 abbrev pub BooksRun : (names : List (List ℕ)) → (begun now : Option (List ℕ)) → Ledger
     → (past : History) → Type 0
 BooksRun names begun now ledger past =
     BooksStand ledger past ⊎ StandAfterOpening names begun now ledger past
 
--- `left` has the timestamp of the store's latest record, and the number of the store's pending
--- polls.
+-- True if `left` has the timestamp of the store's latest record, and the number of the store's
+-- polls without an outcome.
 pub record IsLeft (past : History) (left : Left) : Type 0 where
   pub latest : left.latest ≡ latest_in (facts_of past)
   pub waiting : left.waiting ≡ length (pending_in (facts_of past))

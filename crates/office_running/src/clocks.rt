@@ -21,7 +21,8 @@ fn part_of_second<R: std::rt::Clock>(rt: &R) -> u64 {
     }
 }
 
-/// Starts the run's own time, which measures timeouts. `moment` is the present timestamp.
+/// Starts the run's own time, which measures timeouts and follows the monotonic clock. `moment` is
+/// the present timestamp.
 ///
 /// The run's time is one millisecond late, since both clocks return whole milliseconds. Each second
 /// of the run therefore begins after the system clock returns that second's timestamp. Otherwise an

@@ -20,7 +20,7 @@ pub(crate) struct FewClients {
 }
 
 // Counts the file descriptors that the process may still open, up to `most`. It opens that many and
-// closes them again.
+// closes them again, to find out how many are free.
 fn count_descriptors<R: Net>(rt: &R, alloc: Global, most: usize) -> Result<usize, AllocError> {
     let mut opened = Vec::new(alloc);
     for _descriptor in 0..most {

@@ -1,4 +1,5 @@
-//! The devices of a run of `sunreg run`, with their connections and polling rounds.
+//! The devices of a run of `sunreg run`, with their connections and polling rounds. A polling round
+//! makes one poll for each Modbus read of a device.
 ghost use Rattle.std.specs.Prelude.{ℕ, List};
 ghost use Rattle.office_running.specs.Runs.{Goes};
 
@@ -20,7 +21,8 @@ use std::net::Net;
 /// loop. The responses to a device's pending polls always fit in fewer chunks.
 const MOST_PIECES: u32 = 64;
 
-// Passes to the polling rounds the office's answer and notifications after bytes from a device.
+// After bytes from a device, passes the office's answer to the device's polling round, and the
+// office's notifications to all rounds.
 //
 // The device's round gets the answer only while it waits for responses. A round that is about to
 // start reads would mistake this answer for the answer to that start.
@@ -87,7 +89,7 @@ impl Polling {
     }
 
     // Closes the connection to the device in a slot after a failure to connect. Prints that the
-    // device is unreachable, unless it was unreachable before.
+    // device is unreachable, unless this was already its state.
     fn fail(&mut self, place: usize, voice: &mut Voice, now: Now) {
         if place < self.slots.len() {
             let every = self.every;
@@ -146,8 +148,8 @@ impl Polling {
         }
     }
 
-    // Sends the requests that the office has for a device. If the device's polling round is over,
-    // closes the connection instead.
+    // Sends the Modbus requests that the office has for a device. If the device's polling round is
+    // over, closes the connection instead.
     fn settle(&mut self, place: usize, voice: &mut Voice, now: Now) {
         if place < self.slots.len() && place < self.rounds.len() {
             if self.slots[place].timing.phase != Phase::Polling {
@@ -169,7 +171,7 @@ impl Polling {
     }
 
     /// Feeds a device event to the office, and then each event that the polling rounds request
-    /// after it.
+    /// after it. Sends the resulting Modbus requests to the devices.
     pub(crate) fn feed<B: Books>(
         &mut self,
         device_event: DeviceEvent,
@@ -184,9 +186,9 @@ impl Polling {
         self.settle_all(voice, now);
     }
 
-    // Handles what a check of a pending connection found: begins the polling round if the
-    // connection is established, or closes it if it failed. Returns the event for the office, if
-    // any.
+    // Handles the result `seen` of checking a pending connection. Begins the polling round if the
+    // connection is established, or closes the connection if it failed. Returns the event for the
+    // office, if any.
     fn joined(
         &mut self,
         place: usize,
@@ -266,7 +268,7 @@ impl Polling {
     }
 
     /// Marks the connection of a device with pending responses as ready, even if the system has not
-    /// reported that its socket is readable.
+    /// reported that its socket is readable. So a response that has just arrived is read too.
     pub(crate) fn mark_waiting(&mut self, place: usize) {
         if self.waiting_at(place).is_some() {
             self.mark(place);
@@ -284,7 +286,7 @@ impl Polling {
         Some((device, bytes))
     }
 
-    // Feeds the bytes of one device to the office.
+    // Feeds the bytes of one device to the office, at the end of a turn of the event loop.
     //
     // The events that the device's polling round then requests wait for the next turn. A read that
     // started with the timestamp of this turn would have a shorter timeout.
@@ -314,7 +316,7 @@ impl Polling {
         );
     }
 
-    // Feeds at most one chunk from a device with pending responses to the office. Returns whether
+    // Feeds at most one chunk from a device with pending responses to the office. Returns true if
     // there was no chunk.
     #[tactic(auto, using(crate::proofs::Going::goes_none))]
     fn hear_piece<B: Books>(
@@ -337,7 +339,8 @@ impl Polling {
     }
 
     /// Feeds to the office the bytes that a device with pending responses has sent, with the
-    /// timestamp of this turn. The bytes therefore count as received before the next timer event.
+    /// timestamp of the present turn of the event loop. The bytes therefore count as received
+    /// before the next timer event.
     pub(crate) fn hear_device<B: Books>(
         &mut self,
         place: usize,

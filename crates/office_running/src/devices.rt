@@ -12,7 +12,7 @@ use std::alloc::Global;
 use std::io::Read;
 use std::net::Net;
 
-/// What a check of the connection to a device finds.
+/// The result of checking the connection to a device.
 #[derive(Drop)]
 pub(crate) enum Seen {
     /// Nothing has happened on the connection since the previous check.
@@ -39,8 +39,8 @@ pub(crate) struct Slot {
     alloc: Global,
     stream: Option<TcpStream>,
     unsent: Outbox,
-    /// How the connection ended, if `listen` found its end. The next check of the connection
-    /// reports it to the office.
+    /// How the connection ended, if `listen` found its end. The next check of the connection passes
+    /// the end to the office.
     ended: Option<Closing>,
 }
 
@@ -102,8 +102,8 @@ impl Slot {
         true
     }
 
-    /// Begins to connect to the device, and starts the time limit for this at `time`. Returns false
-    /// if the attempt failed at once.
+    /// Begins to connect to the device, and starts the time limit for connecting at `time`. Returns
+    /// false if the attempt failed at once.
     pub(crate) fn begin<R: Net>(
         &mut self,
         rt: &R,
@@ -139,7 +139,7 @@ impl Slot {
         self.timing.fail(spacing(every), bounded(time));
     }
 
-    // Checks whether a new connection is established.
+    // Checks whether a new connection is established, is still pending or has failed.
     fn connection(&self) -> Seen {
         match &self.stream {
             Some(stream) => match is_connected(stream) {
@@ -151,7 +151,7 @@ impl Slot {
         }
     }
 
-    // Returns a finding with a copy of the bytes that arrived from the device. Without memory for a
+    // Returns the bytes that arrived from the device as the result of a check. Without memory for a
     // copy, the connection counts as failed.
     fn piece(&self, bytes: &[u8]) -> Seen {
         match bytes.to_vec(self.alloc) {

@@ -35,7 +35,8 @@ use std::time::Duration;
 /// other devices have the next numbers.
 const FIRST_DEVICE: usize = PORT_TOKEN + 1;
 
-/// The maximum number of milliseconds to wait while a new connection may be waiting to be accepted.
+/// The maximum number of milliseconds to wait for sockets while a client's connection may be
+/// waiting to be accepted.
 const RETRY: u64 = 100;
 
 // When a run ends: at `time` of the run's own time, or at `moment` of the system clock, whichever
@@ -59,11 +60,12 @@ struct Running {
     polling: Polling,
     port: HttpPort,
     voice: Voice,
-    /// The queued output: `lines` for standard output, and `sayings` for standard error.
+    /// The queued output: `lines` for standard output, and `sayings` (messages) for standard error.
     lines: Outlet,
     sayings: Outlet,
     files: FileWatch,
-    /// The time of the turn that found a file of the office to be lost; `None` if no file is lost.
+    /// The time of the turn in which a file of the office was found removed, replaced or cut short;
+    /// `None` if no file is lost.
     lost_at: Option<u64>,
     /// The run's own time in the present turn of the event loop, in seconds since 1970-01-01 UTC.
     time: u64,
@@ -72,8 +74,8 @@ struct Running {
     ticks: bool,
 }
 
-// Creates the observer of the office's events for the devices in `sites`, and reports what the
-// devices lack, such as a point list.
+// Creates the observer that reports the office's events, for the devices in `sites`. Reports what
+// the devices lack, such as a point list.
 fn voice_of(
     alloc: Global,
     sites: &[Site],
@@ -89,7 +91,7 @@ fn voice_of(
     Ok(voice)
 }
 
-// Returns the file descriptors of standard output and standard error.
+// Returns the file descriptors of standard output and standard error, if the settings have them.
 fn descriptors_of(settings: &Settings<'_>) -> (Option<RawFd>, Option<RawFd>) {
     match settings.descriptors {
         Some(descriptors) => (Some(descriptors.output), Some(descriptors.errors)),
@@ -180,8 +182,8 @@ impl Running {
         }
     }
 
-    // Checks whether a file of the office was removed, replaced or cut short, and reports such a
-    // loss. After a loss, the run executes no command.
+    // Checks whether an open file of the store was removed, replaced or cut short, and reports such
+    // a loss. After a loss, the run executes no command, because its records might be lost.
     fn find_loss<R: Files>(&mut self, rt: &R) {
         if let Some(lost) = self.files.look(rt) {
             self.voice.say_lost(self.files.path(lost.index), lost.loss);
@@ -194,7 +196,7 @@ impl Running {
         }
     }
 
-    // Checks that no file of the office was removed, replaced or cut short.
+    // Checks that no open file of the store was removed, replaced or cut short.
     //
     // After such a loss, the run ends a second or two later, so that clients that have just
     // connected still get a response.
@@ -216,8 +218,8 @@ impl Running {
         self.polling.begin_all(rt, self.poll.registry(), FIRST_DEVICE, &mut self.voice, now);
     }
 
-    // If this turn has a timer event, feeds the event to the office, and does the work that is done
-    // once a second.
+    // If this turn of the event loop has a timer event, feeds the event to the office, and does the
+    // work that is done once a second.
     #[tactic(auto, using(crate::proofs::Going::goes_none, crate::proofs::Going::goes_both))]
     fn tick<R: Net, B: Books>(&mut self, rt: &R, office: &mut Office<B>, now: Now)
         ensures { (names : List (List ℕ))
@@ -259,14 +261,14 @@ impl Running {
     }
 
     // Discards cached HTTP responses after a device event, because the event may have changed the
-    // store.
+    // data in them.
     fn note_fed(&mut self, has_fed: bool) {
         if has_fed {
             self.port.forget_replies();
         }
     }
 
-    // Processes the next event of the device in a slot, if any.
+    // Processes the next event of the device in a slot, if there is one.
     //
     // After an event, the function also serves the clients. A client therefore waits for at most
     // one event of a device.
@@ -289,7 +291,7 @@ impl Running {
         }
     }
 
-    // Processes the next event of each device, if any. Serves the clients after each event.
+    // Processes the next event of each device that has one. Serves the clients after each event.
     fn attend_devices<R: std::rt::Clock + Files, B: Books>(
         &mut self,
         rt: &R,
@@ -325,6 +327,7 @@ impl Running {
     }
 
     // Ends the polling rounds that are in progress, as if the devices had closed their connections.
+    // The office then records an outcome of each pending poll.
     fn end_rounds<B: Books>(&mut self, office: &mut Office<B>, now: Now)
         ensures { (names : List (List ℕ))
             → Goes names now.moment B.ledger office.old office.new }
@@ -434,8 +437,8 @@ impl Running {
         self.wait(rt, time, events)
     }
 
-    // Feeds to the office the bytes that devices have sent. Only devices with pending responses are
-    // read.
+    // Feeds to the office the bytes that devices have sent. Reads only devices with pending
+    // responses.
     fn hear_devices<B: Books>(&mut self, office: &mut Office<B>, now: Now)
         ensures { (names : List (List ℕ))
             → Goes names now.moment B.ledger office.old office.new }
@@ -447,7 +450,8 @@ impl Running {
         }
     }
 
-    // Performs one turn of the event loop. Returns whether the run's time is up.
+    // Performs one turn of the event loop: processes device events, serves clients, prints, and
+    // waits for sockets. Returns whether the run's time is up.
     fn turn<R: Net + std::rt::Clock + Files, B: Books, W: Write, E: Write>(
         &mut self,
         rt: &R,
@@ -536,7 +540,7 @@ impl Running {
     }
 }
 
-// Returns when a run ends that begins when its own time is `now`.
+// Returns the end of a run that begins when its own time is `now`.
 fn end_of(settings: &Settings<'_>, now: u64) -> End {
     End {
         time: match settings.lasts {
@@ -547,8 +551,8 @@ fn end_of(settings: &Settings<'_>, now: u64) -> End {
     }
 }
 
-// Opens the HTTP port for an open office. Prints the latest record and the pending polls that the
-// store had before the run, and the port.
+// Opens the HTTP port for an open office. Prints the timestamp of the store's latest record and the
+// number of its pending polls from before the run, and the port.
 fn open<R: Net + Files, W: Write>(
     rt: &R,
     alloc: Global,
@@ -617,10 +621,11 @@ fn run_from<R: Net + std::rt::Clock + Files, B: Books, C: Clock, W: Write, E: Wr
 }
 
 /// Polls the devices of an open office and serves HTTP, until the run's time is up. First prints
-/// the latest record and the pending polls that the store had before the run.
+/// the timestamp of the store's latest record and the number of its pending polls from before the
+/// run.
 ///
 /// The first query of the web page is made once at the beginning. A store that caches lookups can
-/// later answer this query from its cache, so no device waits for the query.
+/// later answer this query from its cache, so polling does not wait for the query.
 pub(crate) fn run_open<R: Net + std::rt::Clock + Files, B: Books, C: Clock, W: Write, E: Write>(
     rt: &R,
     alloc: Global,

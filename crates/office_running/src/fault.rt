@@ -17,7 +17,7 @@ pub enum RunFault {
     Sockets,
     /// Writing to standard output failed.
     Output,
-    /// The run stopped because a file of the office was lost. Or the office stopped because its
+    /// A file of the store was removed, replaced or cut short. Or the office stopped, because its
     /// store failed or memory ran out while it processed an event of a device.
     Stopped,
     /// Memory ran out.

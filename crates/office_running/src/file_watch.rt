@@ -1,5 +1,5 @@
-//! Watches the office's open files, to detect when one was removed, replaced or cut short. Records
-//! that are written to it afterwards would be lost.
+//! Watches the store's open files, to detect when one was removed, replaced or cut short. Records
+//! that are written to such a file would be lost.
 use http_peers::RunSystem;
 use run_schedule::{FileLoss, FileMark, file_loss};
 use std::alloc::{AllocError, Global};
@@ -9,14 +9,14 @@ use std::os::unix::fs::MetadataExt;
 use std::rt::Files;
 use std::time::Duration;
 
-/// A file that the office has open: its path, and its device, inode and size at the last check.
+/// An open file of the store: its path, and its device, inode and size at the last check.
 #[derive(Drop)]
 struct WatchedFile {
     path: String,
     mark: FileMark,
 }
 
-/// The files that the office has open.
+/// The open files of the store, which a run checks for removal, replacement and truncation.
 #[derive(Drop)]
 pub(crate) struct FileWatch {
     files: Vec<WatchedFile>,
@@ -48,7 +48,7 @@ fn mark_at<R: Files>(rt: &R, path: &str) -> io::Result<Option<FileMark>> {
 }
 
 // Returns the device, inode and size of an open file. If the path has no file or cannot be checked,
-// the result matches no file. Any file that is found at the path later then counts as a
+// the result matches no file. Any file that a later check finds at the path then counts as a
 // replacement.
 fn first_mark<R: Files>(rt: &R, path: &str) -> FileMark {
     match mark_at(rt, path) {
@@ -78,8 +78,8 @@ impl WatchedFile {
         }
     }
 
-    // Returns how the file at the path was lost, as `loss` does. Otherwise records the file's
-    // present size, so that a file that later becomes shorter counts as cut short.
+    // Returns how the file at the path was lost, as `loss` does. If the file is not lost, records
+    // its present size. If it is shorter at a later check, it counts as cut short.
     fn look<R: Files>(&mut self, rt: &R) -> Option<FileLoss> {
         let found = match mark_at(rt, self.path.as_str()) {
             Ok(found) => found,
@@ -94,7 +94,7 @@ impl WatchedFile {
 }
 
 impl FileWatch {
-    /// Begins to watch the office's open files, whose paths are `paths`.
+    /// Begins to watch the store's open files, whose paths are `paths`.
     pub(crate) fn open<R: Files>(
         rt: &R,
         alloc: Global,
@@ -133,8 +133,8 @@ impl FileWatch {
     }
 }
 
-/// What the HTTP port asks of the system: its clocks, and whether the office's files were there at
-/// the last check.
+/// The HTTP port's view of the system: its clocks, and whether the store's files existed at the
+/// last check.
 #[derive(Drop)]
 pub(crate) struct Watching<'r, R: std::rt::Clock> {
     rt: &'r R,

@@ -1,5 +1,5 @@
-//! What earlier runs left in a store: the latest record, and pending polls. A run reads them before
-//! it opens the office, because the opening records each pending poll as lost.
+//! What earlier runs left in a store: the latest record, and polls without an outcome. A run reads
+//! them before it opens the office, because opening records each pending poll as lost.
 ghost use Rattle.std.specs.Prelude.{◌≡◌, false, nat_lt, IfSome};
 ghost use Rattle.office_core.specs.Leaving.{BooksStand};
 ghost use Rattle.office_rules.specs.History.{History};
@@ -41,8 +41,8 @@ pub(crate) fn left_in<B: Books>(books: &mut B) -> Option<Left>
     }
 }
 
-/// Prints the line `books to TIME lost COUNT`, with the timestamp of the latest record and the
-/// number of polls that the opening records as lost. Prints nothing for `None`.
+/// Prints the line `books to TIME lost COUNT`. It has the timestamp of the latest record and the
+/// number of polls that opening the office records as lost. Prints nothing for `None`.
 pub(crate) fn print_left<W: Write>(left: Option<Left>, output: &mut W) -> Result<(), RunFault> {
     let Some(left) = left else {
         return Ok(());
@@ -55,7 +55,7 @@ pub(crate) fn print_left<W: Write>(left: Option<Left>, output: &mut W) -> Result
 }
 
 /// Reports on `errors` that an office cannot be opened, if its latest record is later than the
-/// clock. The report has both times, and says what a person can do.
+/// clock. The report has both times, and says what to do.
 ///
 /// Returns whether the latest record is later than the clock.
 pub fn say_ahead<E: Write>(latest: u64, now: u64, errors: &mut E) -> bool

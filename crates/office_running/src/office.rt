@@ -29,9 +29,9 @@ pub struct Ran<B> {
 /// run ends after its duration or at its end time, whichever is first.
 ///
 /// Prints the timestamp of the latest record and the number of lost polls, and `listening PORT`
-/// when the port is open. Then prints a line for each event. Lines that the reader does not accept
-/// in time are dropped and counted. Reports on `errors`, once each, what a device lacks, and the
-/// meaning of each refusal and each rejected reading.
+/// when the port is open. Then prints a line for each event. If a slow reader lets the queue of
+/// lines fill, further lines are dropped and counted. Reports on `errors`, once each, what a device
+/// lacks, and the meaning of each refusal and each rejected reading.
 ///
 /// While the clock shows an earlier time than the latest timestamp, events get the latest
 /// timestamp. The run reports that once. All timestamps are in seconds since 1970-01-01 UTC.

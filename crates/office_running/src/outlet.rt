@@ -13,10 +13,11 @@ use std::time::Duration;
 /// ready for output accepts this number of bytes without blocking.
 const PIECE: usize = 512;
 
-/// The maximum number of writes to an output in one turn of the event loop.
+/// The maximum number of writes to an output in one turn of the event loop. So a long queue does
+/// not delay the devices.
 const MOST_PIECES: u32 = 128;
 
-// A file descriptor, with what is needed to ask the system whether a write to it would block.
+// A file descriptor, with the event queue that asks the system whether a write to it would block.
 #[derive(Drop)]
 struct Gauge {
     poll: Poll,
@@ -49,7 +50,7 @@ impl Gauge {
     }
 
     // Returns whether a write to the file descriptor would not block. Registering the descriptor
-    // again makes the system check it now. If that fails, the function returns true.
+    // again makes the system check it now. If registering fails, the function returns true.
     fn is_writable(&mut self) -> bool {
         let registered = self.poll.registry().reregister(
             &mut SourceFd(&self.descriptor),
@@ -129,8 +130,8 @@ impl Outlet {
         Ok(())
     }
 
-    /// Writes as many queued lines as the reader accepts now. If the reader has closed the pipe,
-    /// the lines stay queued, as they do while a pipe is full.
+    /// Writes as many queued lines as the reader of the output accepts now. If the reader has
+    /// closed the pipe, the lines stay queued, as they do while a pipe is full.
     pub(crate) fn write<W: Write>(&mut self, output: &mut W) -> io::Result<()> {
         for _piece in 0..MOST_PIECES {
             let count = self.room();
@@ -147,7 +148,8 @@ impl Outlet {
     }
 }
 
-/// Writes lines to a file descriptor without blocking. Drops what its reader does not accept now.
+/// Writes lines to a file descriptor without blocking. Drops the bytes that its reader does not
+/// accept now.
 pub fn write_without_waiting<R: Net, W: Write>(
     rt: &R,
     alloc: Global,

@@ -1,5 +1,5 @@
 //! Reports the events of a run of `sunreg run` as lines on standard output and messages on standard
-//! error. It remembers which messages were printed, so that each is printed once.
+//! error. It remembers the printed messages, to print each message once.
 use crate::descriptors::FewClients;
 use crate::leftovers::Left;
 use office_events::{Answer, Event, Name, Note, Observer, Refusal};
@@ -26,15 +26,15 @@ pub(crate) enum Standing {
     Unreachable,
 }
 
-/// The observer of an office's events. It collects the figures of `/status`, the lines for standard
-/// output, and the messages for standard error.
+/// The observer of an office's events. It collects the figures of the HTTP page `/status`, the
+/// lines for standard output, and the messages for standard error.
 ///
 /// If memory runs out, a line or a message is omitted or cut off.
 #[derive(Drop)]
 pub(crate) struct Voice {
     pub(crate) monitor: RunMonitor,
     /// Whether the run must end early, because the office refuses everything until a restart, or
-    /// because a file of the office is lost.
+    /// because an open file of the store is lost.
     pub(crate) stopped: bool,
     /// What the devices lacked when the run began, such as a point list.
     pub(crate) lacks: Vec<DeviceLack>,
@@ -70,8 +70,8 @@ fn word_of(standing: Standing) -> &'static [u8] {
     }
 }
 
-// Returns the part of a message that says how a file of the office was lost. It follows the file's
-// path.
+// Returns the part of a message that says how an open file of the store was lost. It follows the
+// file's path.
 fn how_lost(loss: FileLoss) -> &'static [u8] {
     match loss {
         FileLoss::Missing => b"removed or renamed while in use",
@@ -90,8 +90,8 @@ fn is_usual(event: &Event, answer: Result<Answer, Refusal>) -> bool {
     }
 }
 
-// Appends a line for a notification of the outcome of a poll or an accepted reading. Appends
-// nothing for a rejected reading, which is printed in any case.
+// Appends a line for a notification: the outcome of a poll, or an accepted reading. Appends nothing
+// for a rejected reading, which is printed even without `--verbose`.
 fn append_poll(text: &mut Vec<u8>, at: u64, name: &Option<Name>, note: &Note) -> io::Result<()> {
     if matches!(note, Note::Held { .. }) {
         return Ok(());
@@ -168,8 +168,8 @@ impl Voice {
         mem::replace(&mut self.said, Vec::new(self.alloc))
     }
 
-    /// Prints the timestamp of the latest record before the run, the number of polls that the
-    /// opening recorded as lost, and the HTTP port.
+    /// Prints the timestamp of the latest record before the run, the number of polls that opening
+    /// the office recorded as lost, and the HTTP port.
     pub(crate) fn report_opened(&mut self, left: Option<Left>, port: u16) {
         if let Some(left) = left {
             let _done = write_number(&mut self.lines, b"books to ", left.latest);
@@ -196,7 +196,7 @@ impl Voice {
     }
 
     /// Reports that the clock jumped ahead, from timestamp `before` to the much later timestamp
-    /// `moment`.
+    /// `moment`. Such a jump may be an error of the clock.
     pub(crate) fn report_ahead(&mut self, before: u64, moment: u64) {
         let _done = write_number(&mut self.said, b"sunreg: the clock jumped from ", before);
         let _done = write_number(&mut self.said, b" to ", moment);
@@ -234,8 +234,8 @@ impl Voice {
         let _done = append_bytes(&mut self.said, b"\n");
     }
 
-    /// Reports that a file of the office was removed, replaced or cut short. Control bytes in its
-    /// path are printed as `?`, so that the report is one line.
+    /// Reports that an open file of the store was removed, replaced or cut short. Control bytes in
+    /// its path are printed as `?`, so that the report is one line.
     pub(crate) fn say_lost(&mut self, path: &str, loss: FileLoss) {
         let _done = append_bytes(&mut self.said, b"sunreg: ");
         for byte in path.as_bytes() {
@@ -254,8 +254,8 @@ impl Voice {
         );
     }
 
-    /// Reports that a file of the office was missing when a command was committed, and that the run
-    /// stops.
+    /// Reports that an open file of the store was missing when a command was committed, and that
+    /// the run stops.
     pub(crate) fn say_gone(&mut self) {
         let _done = append_bytes(
             &mut self.said,
@@ -278,7 +278,7 @@ impl Voice {
     }
 
     /// Prints how many polls of a round were answered, timed out or failed. Returns the state of
-    /// the device after the round. A round without a completed poll changes nothing.
+    /// the device after the round. A round without a completed poll does not change the state.
     pub(crate) fn report_round(
         &mut self,
         at: u64,

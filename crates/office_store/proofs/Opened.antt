@@ -19,7 +19,8 @@ use Rattle.office_store.specs.Database.{HasFile, HoldsAlone, KeepsFile}
 abbrev pub Settles : {S : Type 0} → Ghosts S → Held S → Type 0
 Settles g h = (trees : Trees) → IsTrue (state g h).is_open → (state g h).may_leave trees → trees ≡ (state g h).committed.trees
 
--- If a connection is open, its database encodes exactly one list of records, up to order.
+-- If the committed tables of an open connection encode the records, and a crash leaves the last
+-- commit, then the database has these records before and after a crash.
 alone : {S : Type 0} (g : Ghosts S) (zone : List ℕ) (h : Held S) (facts : List Fact) → Settles g h
     → (HasCleanDisk (state g h) → IsTrue (state g h).is_open × HasFacts zone facts (state g h).committed) → HoldsAlone g zone h facts
 unfolding HoldsFacts LeavesFacts
@@ -44,7 +45,7 @@ holds_none none g zone old new x settles blank does =
 
 module _ {S X E : Type 0} (theirs : OpenedFilesKeepTheirs) (g : Ghosts S) (zone : List ℕ) (old new : Held S)
     (first : HasCleanDisk (state g new) → HasCleanDisk (state g old)) where
-  -- The contract of opening a store, for a file of any layout.
+  -- The contract of opening a store, for a file of any version.
   abbrev pub Opens : Result X E → Type 0
   Opens result = HasCleanDisk (state g new) → (layout : Layout) (content : Content)
       → (IsTrue (state g old).is_open → IsFile layout zone (state g old).committed content) → OpensFile layout zone content (state g old) (state g new) result

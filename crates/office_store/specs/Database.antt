@@ -16,8 +16,8 @@ module _ {S : Type 0} (g : Ghosts S) (zone : List ℕ) where
   HasFile h facts = HasCleanDisk (state g h)
       → (layout : Layout) × HasFactsIn layout zone facts (state g h).committed
 
-  -- True if the database of a connection encodes the records, and a crash leaves exactly the same
-  -- records.
+  -- True if the database of a connection encodes the records, and a crash leaves tables that encode
+  -- the same records.
   pub record HoldsAlone (h : Held S) (facts : List Fact) : Type 0 where
     pub holds : HoldsFacts g zone h facts
     pub leaves : LeavesFacts g zone h (facts ∷ [])

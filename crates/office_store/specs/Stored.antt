@@ -16,7 +16,7 @@ module _ {S : Type 0} (g : Ghosts S) where
     pub holds : HoldsFacts g zone h facts
 
   -- True if the tables of a database encode some records, and a crash leaves tables that encode one
-  -- of the lists in `left`. The time zone is the same.
+  -- of the lists in `left`. All these lists have the same time zone.
   pub record MayBeLeft (h : Held S) (left : List (List Fact)) : Type 0 where
     pub zone : List ℕ
     pub facts : List Fact

@@ -18,7 +18,7 @@ pub struct SqlBooks<S: Alter> {
     ghost idle: { connection.in_transaction ≡ false },
 }
 
-/// A database that was not opened as a store, with its connection and the fault.
+/// The connection to a database that could not be opened as a store, and the reason.
 #[derive(Drop)]
 pub struct Unopened<S: Alter> {
     pub connection: Connection<S>,
@@ -26,7 +26,7 @@ pub struct Unopened<S: Alter> {
 }
 
 impl<S: Alter> SqlBooks<S> {
-    /// Returns the connection to the database. The tables remain.
+    /// Ends the use of the store, and returns its connection. The database keeps the tables.
     pub fn into_connection(self) -> Connection<S>
         ensures { result ≡ self.connection }
     {

@@ -24,7 +24,8 @@ use store_files::OpenFault;
 
 impl<S: Alter> SqlBooks<S> {
     /// Creates the tables of a new store in a database without tables. `zone` determines the civil
-    /// days of the store. Runs one transaction, whose commit is the last call of the database.
+    /// days of the store. The tables are created in one transaction, whose commit is the last
+    /// database call.
     ///
     /// Faults: `NotOurs` if the database has any table, index or view, or a transaction is open.
     /// `Zone` if `zone` is not a valid time zone.
@@ -60,9 +61,9 @@ impl<S: Alter> SqlBooks<S> {
         }
     }
 
-    /// Opens the store of a database. Upgrades a file of version 1 or 2 to version 3 in one
-    /// transaction, whose commit is the last call of the database. Each meter of version 1 gets a
-    /// counter that rolls over at 2^32.
+    /// Opens the store of a database. A file of version 1 or 2 is upgraded to version 3 in one
+    /// transaction, whose commit is the last database call. Version 1 has no counter ranges, so the
+    /// upgrade inserts the range 2^32 for each meter.
     ///
     /// Faults: `NotOurs` if a transaction is open, or if `meta` has another version than the
     /// tables. Also `NotOurs` if the tables don't have the names of version 1, 2 or 3 in their

@@ -1,4 +1,5 @@
-//! Converts faults of the tables to faults of the store, and counts failures of the database.
+//! Converts faults of table queries to faults of the store's interface, and counts failures of the
+//! database.
 ghost use Rattle.std.specs.Prelude.{◌≡◌};
 ghost use Rattle.office_books.specs.Faults.{faults_after};
 ghost use Rattle.office_store.specs.Answers.{answer_of, fault_of};
@@ -7,7 +8,7 @@ use office_books::{BooksFault, Failures, StoreFault};
 use sqlite::{Error, ErrorCode};
 use store_tables::RowFault;
 
-/// Converts a fault of the tables to a fault of the store.
+/// Converts a fault of a table query to the fault that the store's interface reports.
 fn fault_of(fault: RowFault) -> BooksFault
     ensures { result ≡ fault_of fault }
 {
@@ -18,8 +19,8 @@ fn fault_of(fault: RowFault) -> BooksFault
     }
 }
 
-/// Converts the result of a table query to a result of the store, and counts a failure of the
-/// database.
+/// Converts the result of a table query to a result of the store's interface, and counts a failure
+/// of the database.
 pub(crate) fn answered<T: Drop>(
     failures: &mut Failures,
     found: Result<T, RowFault>,

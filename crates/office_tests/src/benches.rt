@@ -1,5 +1,5 @@
-//! A test setup: an office that polls two devices at the same time, and an observer that sees every
-//! event.
+//! A test setup: two devices that the office (the core of `sunreg`) polls at the same time, and an
+//! observer that sees every event.
 use crate::links::{SECOND_REPLY, first_reply};
 use crate::offices::{assert_list_accepted, inv, office_after};
 use office_books::Books;
@@ -9,18 +9,17 @@ use poll_core::Closing;
 use std::alloc::Global;
 use std::process::Abort;
 
-/// An event of a device, or of the timer. The number is the index of the device's slot in the
-/// setup.
+/// An event of a device, or of the timer. The number is the index of the device in the test setup.
 #[derive(Clone, Copy)]
 pub(crate) enum Step {
     Stands(usize),
-    /// The device in this slot sends its response to the first read: 125 Modbus registers with the
-    /// value 0.
+    /// The device with this index sends its response to the first read: 125 Modbus registers with
+    /// the value 0.
     First(usize),
-    /// The device in this slot sends its response to the second read: one Modbus register with the
-    /// value 7.
+    /// The device with this index sends its response to the second read: one Modbus register with
+    /// the value 7.
     Second(usize),
-    /// The device in this slot sends these bytes.
+    /// The device with this index sends these bytes.
     Came(usize, &'static [u8]),
     Ended(usize, Closing),
     /// A timer event, which has no input from a device.
@@ -63,8 +62,8 @@ fn device_event(rt: &impl Abort, alloc: Global, step: Step) -> DeviceEvent {
     }
 }
 
-/// Processes these events in an office with both devices. Each device has a reading plan with two
-/// reads.
+/// Processes these events, and returns the observer and the polling rounds of both devices. Each
+/// device has a reading plan with two reads.
 pub(crate) fn play<B: Books, W: Observer + Drop>(
     rt: &impl Abort,
     alloc: Global,

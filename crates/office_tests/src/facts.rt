@@ -1,5 +1,4 @@
-//! Builds records for an office's store from a short form, so that tests can list them in few
-//! lines.
+//! Short forms of stored records, with which tests list the content of a store in few lines.
 use crate::offices::name_of;
 use energy_core::{Cause, Entry};
 use mb_wire::{ReadFunction, ReadSpan};
@@ -12,21 +11,21 @@ use poll_core::Outcome;
 use std::alloc::Global;
 use std::process::Abort;
 
-/// A short form of a record in the office's store.
+/// A short form of a record in a test store.
 #[derive(Clone, Copy)]
 pub(crate) enum Booked {
     /// A device with this name.
     Device(&'static [u8]),
-    /// An accounting register, by its name, its device's name, and the Modbus function, the Modbus
-    /// address and the scale of its counter.
+    /// An accounting register (a named counter), by its name, its device's name, and the Modbus
+    /// function, the Modbus address and the scale of its counter.
     Register(&'static [u8], &'static [u8], ReadFunction, u16, ScaleSource),
-    /// The installation of the named meter at the accounting register `main` at this time. Its
-    /// counter starts at 0, and one count is 1 Wh.
+    /// The installation of the named meter at the accounting register `main` (a named counter) at
+    /// this time. The meter starts at 0, and one count is 1 Wh.
     Opening(&'static [u8], u64),
     /// An entry of a meter, by the meter's name, the kind of entry, its time, and the count.
     Entry(&'static [u8], EntryKind, u64, u32),
-    /// A void of a meter's entry, by the meter's name, the sequence number of the entry, and the
-    /// time of the void.
+    /// A void (cancellation) of a meter's entry, by the meter's name, the sequence number of the
+    /// entry, and the time of the void.
     Void(&'static [u8], u64, u64),
     /// The start of a poll of the device `inv`. The poll has this number.
     Poll(u64),

@@ -1,4 +1,4 @@
-//! Tests each kind of event and query in an office whose store fails at a chosen call.
+//! Tests each kind of event and query over a store that fails at a chosen call.
 use crate::offices::{inv, opened, request_of};
 use crate::scripts::{print_event, print_line};
 use crate::tried::{Trial, try_failing};
@@ -14,8 +14,7 @@ enum Kind {
     Asks,
     /// A command in a request whose idempotency key has this number.
     Requests(u64),
-    /// A device event. If the store fails, the office must have these rows after it is opened
-    /// again.
+    /// A device event. If the store fails during the event, these rows must exist after a restart.
     Happens(&'static str),
 }
 
@@ -146,16 +145,15 @@ meter m2 last 1 sf 1 at 3600 total 0 open
     ),
 ];
 
-// A query that is sent after the office was opened again. The poll that was pending is recorded as
-// lost.
+// A query that is sent after a restart. The restart records the pending poll as lost.
 static END: Line = asks!("poll 5", "poll 5 lost 4\n");
 
 static ROWS: [&str; 6] = [
     "poll 1", "poll 2", "poll 3", "poll 4", "meter m1", "meter m2",
 ];
 
-// Script lines that a stopped office refuses. An office stops if its store fails during a device
-// event.
+// Script lines that must be refused after a failure. If the store fails during a device event,
+// `sunreg` refuses everything until a restart.
 static ASKED: [&str; 7] = [
     "9000 tick",
     "9000 connect inv",
@@ -170,8 +168,8 @@ fn is_stopped<T: Drop>(answer: Result<T, Refusal>) -> bool {
     matches!(answer, Err(Refusal::Stopped))
 }
 
-// Returns true if the office refuses, because it has stopped, the queries that no script line can
-// send.
+// Returns true if a stopped office (the core of `sunreg`) also refuses the queries that no script
+// line can send.
 fn has_stopped<B: Books>(office: &mut Office<B>) -> bool {
     is_stopped(office.device(&inv()))
         && is_stopped(office.register(&inv()))
@@ -180,7 +178,8 @@ fn has_stopped<B: Books>(office: &mut Office<B>) -> bool {
         && is_stopped(office.repeat(&inv(), 1, b""))
 }
 
-/// Asserts that a stopped office refuses all events and queries.
+/// Asserts that an office (the core of `sunreg`) that a failure has stopped refuses all events and
+/// queries.
 pub(crate) fn assert_stopped<B: Books>(rt: &impl Abort, alloc: Global, office: &mut Office<B>) {
     for line in ASKED {
         let printed = print_line(rt, alloc, office, line);
@@ -204,8 +203,8 @@ fn print_kind<B: Books>(
     }
 }
 
-// Runs a script line. If a failure during its event stops the office, returns the rows that the
-// office must have after a restart.
+// Runs a script line. If a failure of the store stops the office (the core of `sunreg`), returns
+// the rows that must exist after a restart.
 fn play_line<B: Books>(
     rt: &impl Abort,
     alloc: Global,
@@ -227,8 +226,8 @@ fn play_line<B: Books>(
     None
 }
 
-// Opens a stopped office again, and asserts that it has these rows and no pending poll. Returns the
-// number of failures of the store.
+// Restarts an office (the core of `sunreg`) that a failure has stopped. Asserts that it has these
+// rows and no pending poll. Returns the number of failures of the store.
 fn open_again<B: Books>(rt: &impl Abort, alloc: Global, mut office: Office<B>, rows: &str) -> u64 {
     assert_stopped(rt, alloc, &mut office);
     let mut again = opened(rt, alloc, office.into_books(), 9000);
@@ -254,8 +253,8 @@ pub(crate) fn play<B: Books>(rt: &impl Abort, alloc: Global, books: B) -> u64 {
     last.into_books().faults()
 }
 
-/// If one call of the store fails, a command can be repeated and then succeeds, but a device event
-/// stops the office. After the office is opened again, it has its earlier rows.
+/// If one call of the store fails, a command can be repeated and then succeeds. A failure during a
+/// device event stops the office (the core of `sunreg`) until a restart, and earlier rows remain.
 #[test]
 fn each_call_of_the_books_may_fail(rt: HostRuntime) {
     for failing in 1..1000 {

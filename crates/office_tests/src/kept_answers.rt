@@ -97,13 +97,13 @@ static STEPS: [Step; 49] = [
     Step::Held(b"old", Span::All, &[]),
 ];
 
-// The expected number of calls of the store below the cache. A test step whose result is not cached
-// makes one call. A lookup of a missing entry makes two calls, and a lookup with `entry_near` makes
-// three.
+// The number of calls of the store that the test steps must make through the cache. Cached results
+// make no call, and most others make one. A lookup of a missing entry makes two, and a lookup with
+// `entry_near` makes three.
 const CALLS: u64 = 41;
 
-// Writes the accounting registers of `inv`. The device `pv` has a register at an address that `inv`
-// also uses.
+// Writes the accounting registers (named counters) of `inv`. The device `pv` has a register at an
+// address that `inv` also uses.
 const REGISTERS: Step = Step::Books(&[
     Booked::Device(b"inv"),
     Booked::Device(b"pv"),
@@ -114,8 +114,9 @@ const REGISTERS: Step = Step::Books(&[
     Booked::Register(b"last", b"inv", HOLDING, 65_534, FIXED),
 ]);
 
-// Modbus reads of the device `inv`, each with the accounting registers that the read covers. The
-// golden test `scripts/polls/registers_of_a_read` of `golden_cases` has the same reads.
+// Modbus reads of the device `inv`, each with the accounting registers (named counters) that the
+// read covers. The golden test `scripts/polls/registers_of_a_read` of `golden_cases` has the same
+// reads.
 static READS: [Step; 12] = [
     Step::Read(3, 100, 2, &["fixed"]),
     Step::Read(3, 100, 1, &[]),
@@ -166,8 +167,8 @@ pub(crate) fn play_all<B: Books>(rt: &impl Abort, alloc: Global, beneath: B) -> 
     play(rt, alloc, beneath, &STEPS)
 }
 
-/// Looks up twice which accounting registers a Modbus read covers: before and after they are
-/// cached. `place` is the index of the read in `READS`.
+/// Looks up twice which accounting registers (named counters) a Modbus read covers: before and
+/// after they are cached. `place` is the index of the read in `READS`.
 pub(crate) fn read_twice<B: Books>(
     rt: &impl Abort,
     alloc: Global,
@@ -197,8 +198,8 @@ fn kept_answers_outlive_failures(rt: HostRuntime) {
     assert_calls(&rt, rt.alloc(), Trial::Kept, CALLS);
 }
 
-/// The accounting registers that a Modbus read covers are looked up only once in the store below
-/// the cache.
+/// The store below the cache is queried only once for the accounting registers (named counters)
+/// that a Modbus read covers.
 #[test]
 fn a_read_is_asked_of_the_store_once(rt: HostRuntime) {
     for place in 0..READS.len() {

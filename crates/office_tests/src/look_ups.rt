@@ -1,5 +1,4 @@
-//! Tests how many calls of the store the office makes before it refuses an event or answers a
-//! retry.
+//! Tests how many calls of the store are made before an event is refused or a retry is answered.
 use crate::offices::{READ, event_of, new_books, office_after, opened, request_of};
 use failing_books::FailingBooks;
 use memory_books::ListBooks;
@@ -8,8 +7,8 @@ use office_events::{Answer, CommandKind, Event, Refusal, StoreCause};
 use std::alloc::Global;
 use std::process::Abort;
 
-// A script line, the expected number of calls of the store before the office answers, and the
-// expected refusal.
+// Script lines, each with the number of calls of the store before the answer, and the expected
+// refusal.
 static CASES: [(&str, u64, Refusal); 25] = [
     ("2000 device inv 1 5 1", 0, Refusal::Exists),
     ("1000 device two 1 5 1", 0, Refusal::ClockBack),
@@ -38,7 +37,7 @@ static CASES: [(&str, u64, Refusal); 25] = [
     ("2000 round inv 0", 1, Refusal::NotFound),
 ];
 
-// The number of calls of the store that opening an office takes if no poll is pending.
+// The number of calls of the store at a start without a pending poll.
 const OPENING: u64 = 3;
 
 const REFUSED: Result<Answer, Refusal> = Err(Refusal::Store(StoreCause::Refused));
@@ -46,8 +45,8 @@ const REFUSED: Result<Answer, Refusal> = Err(Refusal::Store(StoreCause::Refused)
 // The script line of a manual reading that is accepted at time 2000.
 const KEPT: &str = "1900 manual main 5300 0";
 
-// Adds the devices and readings of the script `READ` to a store, and a manual reading by a request
-// with an idempotency key.
+// Adds the devices and readings of the script `READ` to a store. Also adds a manual reading by a
+// request with an idempotency key.
 fn book_read<B: Books>(rt: &impl Abort, alloc: Global, books: B) -> B {
     let mut office = office_after(rt, alloc, books, &READ);
     let (_, event) = request_of(rt, alloc, b"desk", 1, KEPT);
@@ -69,8 +68,8 @@ fn feed<B: Books>(
     opened(rt, alloc, books, 2000).feed(at, event)
 }
 
-// Returns the answer of an opened office to an event, if the store fails after `calls` successful
-// calls for this event.
+// Opens an `Office` (the core of `sunreg`) and returns its answer to an event. The store fails
+// after `calls` successful calls for this event.
 fn feed_after(
     rt: &impl Abort,
     alloc: Global,
@@ -83,7 +82,7 @@ fn feed_after(
     feed(rt, alloc, books, at, event)
 }
 
-/// Once the office knows why it refuses an event, it makes no further call of the store.
+/// A refused event makes no further call of the store once the reason for the refusal is known.
 #[test]
 fn books_are_asked_no_more_than_it_takes(rt: HostRuntime) {
     for (line, calls, answer) in &CASES {
@@ -97,7 +96,7 @@ fn books_are_asked_no_more_than_it_takes(rt: HostRuntime) {
     }
 }
 
-/// The office recognizes a retried request with one call of the store.
+/// A retried request is recognized with one call of the store.
 #[test]
 fn a_retry_is_looked_up_once(rt: HostRuntime) {
     let (at, event) = request_of(&rt, rt.alloc(), b"desk", 1, KEPT);

@@ -1,5 +1,5 @@
-//! Tests when names are equal, that timeouts and windows keep their numbers, and that copies equal
-//! their originals.
+//! Tests that names are equal if their texts are, that timeouts and windows (limits on pending
+//! polls) keep their numbers, and that copies equal their originals.
 use crate::offices::{LIST, name_of, planned};
 use office_events::{Piece, Timeout, Window};
 use read_plan::lists_are_planned_once;
@@ -13,7 +13,8 @@ fn a_name_is_its_text(rt: HostRuntime) {
     assert!(rt; !name.is(&name_of(&rt, b"m2")));
 }
 
-/// A timeout and a window return the numbers from which the test created them.
+/// A timeout and a window (a limit on pending polls) return the numbers from which they were
+/// created.
 #[test]
 fn a_timeout_and_a_window_are_their_numbers(rt: HostRuntime) {
     let (timeout, window) = (Timeout::new(60), Window::new(16));

@@ -1,14 +1,14 @@
-//! An observer that records the events of an office as letters, for tests.
+//! An observer that records the events of an office (the core of `sunreg`) as letters, for tests.
 use office_events::{Answer, Command, Event, Note, Observer, Refusal};
 use poll_core::{Closing, Outcome};
 use std::alloc::Global;
 
 /// An observer that records what it observes as letters.
 ///
-/// For each event, the observer writes the slot of the event's polling round, if any, and a letter.
-/// The letters are C (connected), S (start), B (bytes), T (timer event), G (gone) and F (failed).
-/// `!` follows if the event was refused. A letter for each ended poll follows: a (answered), s
-/// (timed out) or l (lost).
+/// For each event, the observer writes the index of the polled device, if any, and a letter. The
+/// letters are C (connected), S (start), B (bytes), T (timer event), G (gone) and F (failed). `!`
+/// follows if the event was refused. A letter for each ended poll follows: a (answered), s (timed
+/// out) or l (lost).
 #[derive(Drop)]
 pub(crate) struct Seen {
     pub(crate) text: String,

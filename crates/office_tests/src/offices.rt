@@ -1,4 +1,5 @@
-//! Helpers that create offices over stores in memory, and the events that tests send to them.
+//! Helpers that open an `Office` (the core of `sunreg`) over a store in memory, and the events that
+//! tests send to it.
 use failing_books::FailingBooks;
 use interval_core::Zone;
 use memory_books::ListBooks;
@@ -20,8 +21,8 @@ b,3,0,124,uint16,
 c,3,0,125,uint16,
 ";
 
-/// Script lines that add a device, its accounting register and its meter, and then poll the device.
-/// The response has the count 5200 at the scale factor 0.
+/// Script lines that add a device, its accounting register (a named counter) and its meter, and
+/// then poll the device. The response has the count 5200 at the scale factor 0.
 pub(crate) static READ: [&str; 6] = [
     "1000 device inv 1 5 1",
     "1000 register main inv 3 40094 @40096",
@@ -51,8 +52,8 @@ pub(crate) fn books_failing_at(rt: &impl Abort, alloc: Global, call: u64) -> Fai
     FailingBooks::new(new_books(rt, alloc), call)
 }
 
-/// Opens an office over a store. If a call of the store fails, the function opens the office again
-/// over the returned store.
+/// Opens an `Office` (the core of `sunreg`) over a store. If a call of the store fails, opens it
+/// again over the returned store.
 pub(crate) fn opened<B: Books>(rt: &impl Abort, alloc: Global, books: B, moment: u64) -> Office<B> {
     let (books, why) = match Office::open(alloc, books, moment) {
         Ok(office) => return office,
@@ -124,7 +125,7 @@ pub(crate) fn assert_accepted<B: Books>(
     }
 }
 
-/// Opens an office and processes the events of these script lines.
+/// Opens an `Office` (the core of `sunreg`) and processes the events of these script lines.
 pub(crate) fn office_after<B: Books>(
     rt: &impl Abort,
     alloc: Global,
@@ -139,7 +140,7 @@ pub(crate) fn office_after<B: Books>(
     office
 }
 
-/// Sets the point list `LIST` of a device, and asserts that the office accepts it.
+/// Stores the point list `LIST` for a device, and asserts that the command is accepted.
 pub(crate) fn assert_list_accepted<B: Books>(
     rt: &impl Abort,
     alloc: Global,

@@ -56,7 +56,7 @@ const RESCALED: MeterEntry = later!(
 );
 
 // Test cases: a sequence number, a maximum number of entries, and the entries of m1 that a query
-// for at most so many entries from the sequence number on must return.
+// with these two limits must return.
 type Asked = (u64, u32, &'static [MeterEntry]);
 
 static ENTRIES: [Asked; 7] = [

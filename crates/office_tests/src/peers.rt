@@ -17,7 +17,7 @@ fn full() -> Peers {
     peers
 }
 
-/// A new client connection gets the first free slot.
+/// A new client connection gets the first free one of the 64 slots.
 #[test]
 fn places_are_given_in_order(rt: HostRuntime) {
     let mut peers = Peers::new();
@@ -28,8 +28,8 @@ fn places_are_given_in_order(rt: HostRuntime) {
     assert!(rt; peers.admit(101, 10) == at(7));
 }
 
-/// If no slot is free, a new client connection replaces the oldest connection that has not sent a
-/// request.
+/// If all 64 slots are occupied, a new client connection replaces the oldest connection that has
+/// not sent a request.
 #[test]
 fn the_oldest_that_has_not_asked_makes_room(rt: HostRuntime) {
     let mut peers = full();
@@ -40,8 +40,8 @@ fn the_oldest_that_has_not_asked_makes_room(rt: HostRuntime) {
     }
 }
 
-/// If no slot is free and each connection has sent a request, then a new client connection is
-/// rejected.
+/// If all 64 slots are occupied and each connection has sent a request, then a new client
+/// connection is rejected.
 #[test]
 fn none_makes_room_where_all_have_asked(rt: HostRuntime) {
     let mut peers = full();

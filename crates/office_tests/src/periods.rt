@@ -150,7 +150,7 @@ fn files_have_their_period_before_the_end(rt: HostRuntime) {
     }
 }
 
-/// File names that do not belong to a monthly file, if the office's own file is `office.db`.
+/// File names that do not belong to a monthly file of the database `office.db`.
 static NO_MONTHS: [&str; 18] = [
     "office.db",
     "office-2026.db",
@@ -172,7 +172,7 @@ static NO_MONTHS: [&str; 18] = [
     "",
 ];
 
-/// A file belongs to no month unless its name is that of the office file with a month.
+/// A file belongs to a month only if its name is the database's name with that month.
 #[test]
 fn other_files_are_of_no_month(rt: HostRuntime) {
     for name in &NO_MONTHS {

@@ -1,4 +1,4 @@
-//! Tests polling rounds of an office over a store that fails at a chosen call.
+//! Tests polling rounds over a store that fails at a chosen call.
 use crate::failures::assert_stopped;
 use crate::links::replies;
 use crate::offices::opened;
@@ -50,8 +50,8 @@ fn place_of(left: Ends) -> u64 {
 /// fails, it is processed again.
 ///
 /// If the start of a poll fails, no poll is pending, and a restart adds no outcome. If the call for
-/// a response fails, the office stops, and a restart loses the poll. Returns the index in `LEFT` of
-/// the outcomes after the restart.
+/// a response fails, everything is refused until a restart, which loses the poll. Returns the index
+/// in `LEFT` of the outcomes after the restart.
 pub(crate) fn refuse_call<B: Books>(rt: &impl Abort, alloc: Global, books: B) -> u64 {
     let mut office = listed(rt, alloc, books, ONE_BY_ONE);
     let mut given = [0; 24];

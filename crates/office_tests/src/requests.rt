@@ -11,8 +11,8 @@ use std::process::Abort;
 const START: &str = "3700 start inv 3 40094 3";
 
 // Test cases: the caller and the number of a request's idempotency key, its command, the expected
-// answer, and the number of bytes that the office then sends to the device. The retry of a command
-// that starts a poll sends no bytes.
+// answer, and the number of bytes that are then sent to the device. The retry of a command that
+// starts a poll sends no bytes.
 static REQUESTS: [(&[u8], u64, &str, Result<Answer, Refusal>, usize); 4] = [
     (
         b"desk",
@@ -59,8 +59,8 @@ fn assert_repeats<B: Books>(rt: &impl Abort, office: &mut Office<B>) {
     }
 }
 
-/// Sends the requests to an office whose meter was read, and compares each request with the stored
-/// request of its idempotency key.
+/// Sends the requests after a meter was read, and compares each request with the stored request of
+/// its idempotency key.
 pub(crate) fn play<B: Books>(rt: &impl Abort, alloc: Global, books: B) {
     let mut office = office_after(rt, alloc, books, &READ);
     assert_requests(rt, alloc, &mut office);

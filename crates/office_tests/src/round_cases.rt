@@ -115,7 +115,7 @@ static CASES: [Case; 11] = [
     ),
     // The device closes the connection before it responds.
     (Does::Ends, &[1000], Ok(()), GONE, [WENT, None, None]),
-    // The device does not respond, and the office still sends each Modbus read of the plan.
+    // The device does not respond, and each Modbus read of the plan is still sent.
     (
         Does::IsSilent,
         &[1000, 1000, 1004, 1005, 1005, 1009, 1010],
@@ -123,8 +123,8 @@ static CASES: [Case; 11] = [
         SILENT,
         [WAS_SILENT, WAS_SILENT, None],
     ),
-    // The office refuses a time, so the pending poll is lost. The clock was set back, or shows a
-    // time after the latest time that the office accepts.
+    // The time is refused, so the pending poll is lost. The clock was set back, or shows a time
+    // after the latest supported one.
     (
         Does::IsSilent,
         &[1000, 1002, 1001],

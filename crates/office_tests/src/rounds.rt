@@ -16,8 +16,8 @@ pub(crate) const ONE_BY_ONE: &str = "1000 device inv 1 5 1";
 /// The script line of a device that may have two pending polls.
 pub(crate) const BOTH_AT_ONCE: &str = "1000 device inv 1 5 2";
 
-/// Returns an office with the device of the script line `device`, and with the point list `LIST`
-/// for it.
+/// Opens an `Office` (the core of `sunreg`), and adds the device of the script line `device` with
+/// the point list `LIST`.
 pub(crate) fn listed<B: Books>(
     rt: &impl Abort,
     alloc: Global,
@@ -49,8 +49,8 @@ pub(crate) fn round<B: Books, L: Link>(
     Done { done, printed }
 }
 
-/// The outcomes of the first three polls. `None` means that the poll does not exist. `Some(None)`
-/// means that the poll is pending.
+/// The outcomes of the first three polls. `None` means that the poll does not exist, and
+/// `Some(None)` that it is pending.
 pub(crate) type Ends = [Option<Option<Outcome>>; 3];
 
 pub(crate) const ANSWERED: Option<Option<Outcome>> = Some(Some(Outcome::Answered));
@@ -58,7 +58,7 @@ pub(crate) const ANSWERED: Option<Option<Outcome>> = Some(Some(Outcome::Answered
 /// The outcome of a poll that was pending when the link failed.
 pub(crate) const LOST: Option<Option<Outcome>> = Some(Some(Outcome::Lost(LostCause::Failed)));
 
-/// The outcome of a poll that was pending when the office was opened again.
+/// The outcome of a poll that was pending at a restart.
 pub(crate) const RESTARTED: Option<Option<Outcome>> = Some(Some(Outcome::Lost(LostCause::Restart)));
 
 fn end_of<B: Books>(office: &mut Office<B>, number: u64) -> Option<Option<Outcome>> {

@@ -17,7 +17,7 @@ fn polled(rt: &impl Abort, alloc: Global, moments: &[Moment]) -> Bench<RunMonito
 
 const STANDS: Moment = (1001, Step::Stands(0));
 
-// Device slots in the order in which the test queries them, each with the Modbus frame that the
+// Device indexes in the order in which the test queries them, each with the Modbus frame that the
 // monitor returns.
 static FRAMES: [(usize, &[u8]); 4] = [
     (0, b"\x00\x00\x00\x00\x00\x06\x01\x03\x00\x00\x00\x7d"),
@@ -26,7 +26,7 @@ static FRAMES: [(usize, &[u8]); 4] = [
     (2, b""),
 ];
 
-// Returns true if the device in this slot is connected, or `None` if the slot is empty.
+// Returns true if the device with this index is connected, or `None` if there is no such device.
 fn is_connected(polled: &Bench<RunMonitor>, place: usize) -> Option<bool> {
     let state = polled.observer.states.get(place)?;
     Some(state.connected)

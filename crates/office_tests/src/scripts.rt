@@ -1,4 +1,4 @@
-//! Prints an office's answers to script lines, for tests.
+//! Prints an office (the core of `sunreg`)'s answers to script lines, for tests.
 use crate::offices::start_of;
 use energy_report::RowLines;
 use office_books::Books;
@@ -10,7 +10,7 @@ use std::alloc::Global;
 use std::io;
 use std::process::Abort;
 
-// Processes an event, and prints the office's notifications and its answer.
+// Processes an event, and prints the resulting notifications and the answer.
 fn feed<B: Books>(
     office: &mut Office<B>,
     at: u64,
@@ -26,7 +26,7 @@ fn feed<B: Books>(
     }
 }
 
-// Prints how many rows a query returned, or the reason why the office refuses the query.
+// Prints how many rows a query returned, or the reason why the query was refused.
 fn write_count(answer: Result<(), Refusal>, count: u64, output: &mut Vec<u8>) -> io::Result<()> {
     match answer {
         Ok(()) => write_end(count, output),
@@ -34,7 +34,7 @@ fn write_count(answer: Result<(), Refusal>, count: u64, output: &mut Vec<u8>) ->
     }
 }
 
-// Prints the office's answer to a query.
+// Prints the office (the core of `sunreg`)'s answer to a query.
 fn ask<B: Books>(
     office: &mut Office<B>,
     said: &ScriptLine,

@@ -1,5 +1,5 @@
-//! Tests queries for the accounting registers and meters of all devices (the site), also over a
-//! store that fails at a chosen call.
+//! Tests queries for the accounting registers (named counters) and meters of all devices, also over
+//! a store that fails at a chosen call.
 use crate::offices::office_after;
 use crate::tried::{Trial, try_failing, try_in_memory};
 use office_books::Books;
@@ -10,8 +10,9 @@ use std::alloc::Global;
 use std::process::Abort;
 use std::str;
 
-/// Script lines with two devices, not in the order of their names, and three accounting registers.
-/// The register `main` has its second meter, `export` has no meter, and `solo` has a closed meter.
+/// Script lines with two devices, not in the order of their names, and three accounting registers
+/// (named counters). The register `main` has its second meter, `export` has no meter, and `solo`
+/// has a closed meter.
 pub(crate) static LINES: [&str; 9] = [
     "1000 device roof 1 5 1",
     "1000 device inv 2 5 1",
@@ -24,8 +25,9 @@ pub(crate) static LINES: [&str; 9] = [
     "1900 close solo 9 0",
 ];
 
-// Each accounting register with its device and its latest meter. The counter at `solo` advanced
-// from 7 to 9 at the scale factor 2, which is 200 Wh. The meter `m2` was just installed.
+// Each accounting register (a named counter) with its device and its latest meter. The counter at
+// `solo` advanced from 7 to 9 at the scale factor 2, which is 200 Wh. The meter `m2` was just
+// installed.
 const SITE: &str = "roof main meter m2 last 10 sf -1 at 1900 total 0 open
 roof export refused 1
 inv solo meter m3 last 9 sf 2 at 1900 total 200000 ended
@@ -54,8 +56,8 @@ fn assert_rows(rt: &impl Abort, alloc: Global, rows: &[SiteRow]) {
     assert!(rt; str::from_utf8(&text) == Ok(SITE));
 }
 
-/// Queries the accounting registers of all devices, and repeats the query if the store fails.
-/// Returns the number of failures, 0 or 1.
+/// Queries the accounting registers (named counters) of all devices, and repeats the query if the
+/// store fails. Returns the number of failures, 0 or 1.
 pub(crate) fn ask<B: Books>(rt: &impl Abort, alloc: Global, books: B) -> u64 {
     let mut office = office_after(rt, alloc, books, &LINES);
     match office.site() {
@@ -72,8 +74,8 @@ pub(crate) fn ask<B: Books>(rt: &impl Abort, alloc: Global, books: B) -> u64 {
     }
 }
 
-/// A query for the accounting registers of all devices makes six calls of the store. If one of the
-/// calls fails, a repeated query succeeds.
+/// A query for the accounting registers (named counters) of all devices makes six calls of the
+/// store. If one of the calls fails, a repeated query succeeds.
 #[test]
 fn a_site_is_reported_while_the_store_refuses_a_call(rt: HostRuntime) {
     let mut refused = 0u64;
@@ -81,12 +83,12 @@ fn a_site_is_reported_while_the_store_refuses_a_call(rt: HostRuntime) {
         let asked = try_failing(&rt, rt.alloc(), failing, Trial::Site);
         refused = refused.saturating_add(asked);
     }
-    // One call of the store is for the devices, two are for the accounting registers of the two
-    // devices, and three are for the meters.
+    // One call of the store is for the devices, two are for the accounting registers (named
+    // counters) of the two devices, and three are for the meters.
     assert!(rt; refused == 6);
 }
 
-// Names of accounting registers, each with the expected latest meter.
+// Names of accounting registers (named counters), each with the expected latest meter.
 static METERS: [(&[u8], &str); 5] = [
     (b"main", "meter m2 last 10 sf -1 at 1900 total 0 open\n"),
     (b"export", "refused 1\n"),
@@ -118,10 +120,11 @@ fn has_unit<B: Books>(office: &mut Office<B>, device: &Option<Name>, unit: Optio
     }
 }
 
-// The Modbus address and the scale factor of an accounting register.
+// The Modbus address and the scale factor of an accounting register (a named counter).
 type Place = (u16, ScaleSource);
 
-// Names of accounting registers, each with the expected Modbus address and scale factor.
+// Names of accounting registers (named counters), each with the expected Modbus address and scale
+// factor.
 static PLACES: [(&[u8], Option<Place>); 5] = [
     (b"main", Some((40094, ScaleSource::Register(40096)))),
     (b"export", Some((40098, ScaleSource::Fixed(-3)))),
@@ -148,7 +151,7 @@ fn has_place<B: Books>(
     }
 }
 
-/// Looks up devices, accounting registers and meters by their names.
+/// Looks up devices, accounting registers (named counters) and meters by their names.
 pub(crate) fn look_up<B: Books>(rt: &impl Abort, alloc: Global, books: B) {
     let mut office = office_after(rt, alloc, books, &LINES);
     for _time in 0..2 {
@@ -164,8 +167,8 @@ pub(crate) fn look_up<B: Books>(rt: &impl Abort, alloc: Global, books: B) {
     }
 }
 
-/// A lookup by name finds the device, accounting register or meter with this name. If nothing has
-/// the name, the lookup finds nothing.
+/// A lookup by name finds the device, accounting register (a named counter) or meter with this
+/// name. If nothing has the name, the lookup finds nothing.
 #[test]
 fn devices_registers_and_meters_are_found_by_their_names(rt: HostRuntime) {
     try_in_memory(&rt, rt.alloc(), Trial::Names);

@@ -1,4 +1,4 @@
-//! Tests the status and the metrics of an office after a known history.
+//! Tests the status and the metrics that `sunreg run` reports after a known history.
 use energy_core::{Cause, Last};
 use mb_wire::ReadFunction;
 use office_core::SiteRow;
@@ -138,8 +138,8 @@ fn site_row(meter: &[u8], total: u64, ended: bool) -> Option<SiteRow> {
     })
 }
 
-// The accounting registers of the known history: one without a meter, and three with a meter.
-// One of these meters is closed.
+// The accounting registers (named counters) of the known history: one without a meter, and three
+// with a meter. One of these meters is closed.
 fn site() -> Option<[SiteRow; 4]> {
     Some([
         SiteRow {
@@ -162,8 +162,8 @@ fn the_metrics_are_in_text_format(rt: HostRuntime) {
     assert!(rt; str::from_utf8(&text) == Ok(METRICS));
 }
 
-// Returns the accounting register `import` of the device `grid`. A reading of its counter needs the
-// Modbus registers 40117 to 40125, read by function 3.
+// Returns the accounting register (named counter) `import` of the device `grid`. A reading of its
+// counter needs the Modbus registers 40117 to 40125, read by function 3.
 fn import() -> Option<Register> {
     Some(Register {
         name: Name::new(b"import")?,
@@ -189,8 +189,8 @@ fn no_meter(import: &Register) -> DeviceLack {
     lack(b"grid", Lack::NoMeter(*import))
 }
 
-// Returns one example of each thing that a device can lack in the store, so that none of its energy
-// is recorded.
+// Returns one example of each thing that a device can lack in the store. Without that thing, its
+// energy is not recorded.
 fn lacks(import: &Register) -> [DeviceLack; 5] {
     [
         lack(b"none", Lack::NoDevice),
@@ -204,7 +204,7 @@ fn lacks(import: &Register) -> [DeviceLack; 5] {
 const LACKS: &str =
     "\"refusals\":0,\"lacks\":[{\"device\":\"none\",\"lack\":\"no_device\"},{\"device\":\"inv\",\"lack\":\"no_list\"},{\"device\":\"inv\",\"lack\":\"no_register\"},{\"device\":\"grid\",\"lack\":\"not_in_list\",\"register\":\"import\"},{\"device\":\"grid\",\"lack\":\"no_meter\",\"register\":\"import\"}]}\n";
 
-/// The status reports what each device lacks in the store.
+/// The status reports what is missing in the store for each device, such as its point list.
 #[test]
 fn what_devices_lack_is_in_the_status(rt: HostRuntime) {
     let mut text = Vec::new(rt.alloc());
@@ -222,7 +222,8 @@ sunreg: register import: missing from the point list of grid; add function 3, re
 sunreg: register import: no open meter; install one with POST /registers/import/install
 ";
 
-/// Each thing that a device can lack in the store has its expected message.
+/// Each thing that can be missing in the store for a device, such as its point list, has its
+/// expected message.
 #[test]
 fn what_devices_lack_is_said(rt: HostRuntime) {
     let mut text = Vec::new(rt.alloc());

@@ -20,13 +20,13 @@ pub(crate) enum Step {
     Lists(&'static [u8]),
     /// The plan of the device's point list has this number of Modbus reads.
     Reads(usize),
-    /// The device has this number of accounting registers.
+    /// The device has this number of accounting registers (named counters).
     Registers(usize),
     /// A Modbus read of the device, by function, address and count, covers these accounting
-    /// registers.
+    /// registers (named counters).
     Read(u8, u16, u16, &'static [&'static str]),
-    /// The latest meter at the accounting register `main` has this name and this energy in mWh. The
-    /// last value is true if the meter is closed.
+    /// The latest meter at the accounting register `main` (a named counter) has this name and this
+    /// energy in mWh. The last value is true if the meter is closed.
     Installed(&'static [u8], u64, bool),
     /// The meter with this name has this energy in mWh. The last value is true if the meter is
     /// closed.
@@ -34,7 +34,7 @@ pub(crate) enum Step {
     /// The store has this number of installed meters.
     Meters(usize),
     /// The meter has an entry with this sequence number, and this energy before the entry in mWh.
-    /// The last value is true if the entry is voided.
+    /// The last value is true if the entry is voided (cancelled).
     Entry(&'static [u8], u64, u64, bool),
     /// A lookup with `entry_near` finds the entry with this sequence number. Before the entry, the
     /// meter has this count. Its total energy, in mWh, comes last.
@@ -52,7 +52,7 @@ pub(crate) enum Step {
     Latest(u64),
 }
 
-/// A sink that collects the times and causes of rejected readings.
+/// A visitor of rows that collects the times and causes of rejected readings.
 #[derive(Drop)]
 struct HeldRows {
     rows: Vec<(u64, Cause)>,

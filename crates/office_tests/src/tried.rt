@@ -14,7 +14,7 @@ use std::process::Abort;
 pub(crate) enum Trial {
     /// A script over a store that may fail.
     Script,
-    /// A polling round of an office over a store that fails at a chosen call.
+    /// A polling round over a store that fails at a chosen call.
     RefusedRound,
     /// A polling round in which the call of the link with this number fails.
     Link(u64),
@@ -27,11 +27,12 @@ pub(crate) enum Trial {
     /// A polling round whose output writer accepts this number of bytes, and the expected outcomes
     /// of its polls.
     Narrow(usize, Ends),
-    /// A polling round that ends only at its maximum number of reads from the link.
+    /// A polling round that ends only at the maximum number of reads from the link.
     Takes,
     /// Test steps over a store with a cache.
     Kept,
-    /// A Modbus read of accounting registers, by its index in a list of test cases.
+    /// A Modbus read of accounting registers (named counters), by its index in a list of test
+    /// cases.
     Read(usize),
     Site,
     Names,

@@ -72,7 +72,8 @@ static TURNS: [(&[Moment], &str, usize); 7] = [
         "0C 0S 0Fl 0C 0S ",
         24,
     ),
-    // Events from devices that are not being polled, and from an empty slot, are ignored.
+    // Events from devices that are not being polled, and from a device index that does not exist,
+    // are ignored.
     (
         &[
             (1001, Step::First(0)),
@@ -101,7 +102,7 @@ fn turns_feed_what_rounds_wish(rt: HostRuntime) {
     }
 }
 
-// Returns the stage of the polling round of the device in this slot.
+// Returns the stage of the polling round of the device with this index.
 fn stage(bench: &Bench<Seen>, place: usize) -> Option<Stage> {
     let round = bench.rounds.get(place)?;
     Some(round.stage)

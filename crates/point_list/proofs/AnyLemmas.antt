@@ -1,4 +1,5 @@
--- Lemmas about a test of the fields of a point list's rows.
+-- Proves that testing the elements of a mapped list equals mapping each element before its test.
+-- The elements are rows of a point list, which are mapped to their fields.
 use Rattle.std.proofs.Common.{◌≡◌, Bool, List, [], ◌∷◌, map, refl}
 use Rattle.std.specs.List.{list_any}
 

@@ -34,7 +34,7 @@ and-two : (a b : Bool) → (a && b) ≡ true → (a ≡ true) × (b ≡ true)
 and-two true b h = (refl, h)
 and-two false b h = absurd (cc h)
 
--- Lemmas about the names of a chain's points.
+-- Lemmas about the names that the points of a SunSpec chain have in a point list, such as `m2.W`.
 
 digit-of-name : (byte : ℕ) → is_ascii_digit byte ≡ true → is_name_byte byte ≡ true
 digit-of-name byte h = rw h refl
@@ -103,7 +103,7 @@ both-all p q (x ∷ xs) hp hq =
     let kq = and-two (q x) (list_all q xs) hq in
     rw (kp.0, kq.0) (both-all p q xs kp.1 kq.1)
 
--- The properties of a valid row of a model table.
+-- The properties of a valid row of a model table. Each row describes one point of a SunSpec model.
 record GoodRow (rows : List Row) (row : Row) : Type 0 where
   short : is_short row.name ≡ true
   some : 1 ≤ registers_of row.ty
@@ -275,7 +275,7 @@ points-keep all distinct word place (model ∷ models) few inside sub =
     (points-keep all distinct word (place + 1) models (omega (arith, few, size)) (λ k d below. inside (suc k) d (omega (arith, below)))
     (λ s a. sub s (among-right s (model_points word place model) (points_from word (place + 1) models) a)))
 
--- The points of a chain have distinct names in the point list.
+-- Lemmas about distinct names: the points of a chain have distinct names in the point list.
 
 pairs-map : (f : ModelPoint → ListedPoint) (points : List ModelPoint) → AllPairs (λ a b. (f a).name ≢ (f b).name) points → AllPairs (λ a b. a.name ≢ b.name) (map f points)
 pairs-map f [] pairs = λ i j d before below. absurd (omega (arith, below))

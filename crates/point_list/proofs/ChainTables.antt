@@ -1,4 +1,5 @@
--- The properties of the model tables on which point lists of chains depend.
+-- Properties of the SunSpec model tables, each row of which describes one point. The point list of
+-- a chain of models is valid because its tables have them.
 use Rattle.std.proofs.Common.{◌≡◌, ℕ, Bool, true, false, List, [], ◌∷◌, length, refl}
 use Rattle.std.specs.Prelude.{◌==◌, ◌&&◌, ◌||◌, nat_le, not, if◌then◌else◌}
 use Rattle.std.specs.List.{list_all}

@@ -1,4 +1,4 @@
--- The definitions evaluated at each limit: the last valid value and the first invalid value.
+-- Checks the definitions at each limit: the last valid value and the first invalid value.
 use Rattle.std.proofs.Common.{◌≡◌, ℕ, pos, negsuc, true, false, List, [], ◌∷◌, replicate, Some, None, refl}
 use Rattle.std.specs.Prelude.{codes}
 use Rattle.mb_wire.specs.declared.span.ReadFunction.TheVariants.{HoldingRegisters}
@@ -32,7 +32,7 @@ name_too_long = refl
 digit_first : is_name (codes "1A") ≡ false
 digit_first = refl
 
--- Values of the fields of a row.
+-- The limits of the numbers in the fields of a row.
 
 last_address : number_within 0 65535 (codes "65535") ≡ Some 65535
 last_address = refl

@@ -37,7 +37,7 @@ one-none row (Some fault) h = absurd (cc h)
 last-or-below : (k n : ℕ) → k < suc n → (k ≡ n) ⊎ (k < n)
 last-or-below k n h = elim (cases_Bool (k == n)) [ inl same ↦ inl (grind (arith, same)) | inr other ↦ inr (grind (arith, other, h)) ]
 
--- If no row is reported as faulty, no row has a fault.
+-- If the list of faulty rows among the first `n` rows is empty, none of these rows has a fault.
 pub none-reported : (rows : List (List (List ℕ))) (n : ℕ) → faulty_rows 2 (row_faults rows n) ≡ [] → (k : ℕ) → k < n → row_fault rows k ≡ None
 none-reported rows zero h k below = absurd (omega (arith, below))
 none-reported rows (suc n) h k below =

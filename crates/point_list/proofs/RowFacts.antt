@@ -87,7 +87,8 @@ next-shrinks s fields field (c ∷ rest) p h = elim (cases_Bool (is_end (step de
       (omega (arith, r.0), r.1, (λ no. omega (arith, r.0)))
 ]
 
--- The records of a text are those read until now, followed by those of the remaining bytes.
+-- If the CSV reader has read the records `rows` of a text, the text's records are `rows` followed
+-- by the records of the remaining bytes.
 pub reached-records : (s s2 : State) (xs ys : List ℕ) (rows : List (List (List ℕ))) (k : ℕ) → Reached default_config s xs rows s2 ys
     → records_from default_config (length rows + k) s xs ≡ rows ++ records_from default_config k s2 ys
 unfolding Reached records_from

@@ -25,7 +25,7 @@ six-of-fields (x0 ∷ x1 ∷ x2 ∷ x3 ∷ x4 ∷ x5 ∷ []) a b c d e f size ha
     rw (same_Some _ _ ha, same_Some _ _ hb, same_Some _ _ hc, same_Some _ _ hd, same_Some _ _ he, same_Some _ _ hf) refl
 six-of-fields (x0 ∷ x1 ∷ x2 ∷ x3 ∷ x4 ∷ x5 ∷ x6 ∷ xs) a b c d e f size ha hb hc hd he hf = absurd (omega (arith, size))
 
--- A row whose number of fields is not six has no `RowText`.
+-- If the number of fields of a row is not six, `six_fields` returns `None`.
 pub not-six : (fields : List (List ℕ)) → (length fields ≡ 6 → ⊥) → six_fields fields ≡ None
 not-six [] h = refl
 not-six (x0 ∷ []) h = refl

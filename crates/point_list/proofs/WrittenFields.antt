@@ -79,7 +79,8 @@ type-read kind.Acc32 some few = refl
 type-read kind.Sunssf some few = refl
 type-read (kind.Text registers) some few = rw (within-read 1 125 registers (omega (arith, few)) some few) refl
 
--- Reading the text of the scale gives the scale, for each type that may have a scale.
+-- True if reading the text of the scale gives the same scale, and the text is valid for each type
+-- that may have a scale.
 pub record ScaleRead (scale : PointScale) : Type 0 where
   pub spelled : scale_spelled (scale_text scale) ≡ Some scale
   pub good : (kind : PointType) → takes_scale kind ≡ true → is_bad_scale (scale_text scale) (Some kind) ≡ false

@@ -1,4 +1,5 @@
--- Defines the point list of a chain of SunSpec models.
+-- Defines the point list (the registers to poll) that follows from a device's chain of SunSpec
+-- models.
 use Rattle.std.specs.Prelude.{ℕ, ◌+◌, nat_le, if◌then◌else◌, List, [], ◌∷◌, ◌++◌, length, map, codes, Some, None, IfSome, IsTrue}
 use Rattle.std.specs.declared.option.Option.{Option}
 use Rattle.std.specs.Fmt.{decimal}
@@ -35,7 +36,7 @@ chain_scale place others (Some name) =
     else Unscaled
 
 -- The point list's entry for a point of model number `place`, read from holding registers with area
--- number 0. `others` are all points of the model.
+-- number 0. `others` are all points of the model, among them the scale point, if it was read.
 abbrev pub listed : ℕ → ℕ → List ModelPoint → ModelPoint → ListedPoint
 listed place id others point = record {
   name = chain_name place point.name;

@@ -1,4 +1,4 @@
--- Defines the faults of a row of a point list.
+-- Defines the faults of a row of a point list, the CSV text with one row for each point to poll.
 use Rattle.std.specs.Prelude.{ℕ, ◌+◌, Bool, false, nat_le, nat_lt, not, ◌||◌, if◌then◌else◌, List, [], ◌∷◌, Some, None, is_none, is_some}
 use Rattle.std.specs.declared.option.Option.{Option}
 use Rattle.std.specs.List.{list_any}

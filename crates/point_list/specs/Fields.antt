@@ -1,4 +1,4 @@
--- Defines the values that the fields of a row encode.
+-- Defines the values that the fields of a point list's row encode.
 use Rattle.std.specs.Prelude.{ℕ, zero, suc, ℤ, pos, negsuc, ◌==◌, nat_le, ◌&&◌, if◌then◌else◌, List, [], ◌∷◌, drop, codes, Some, None}
 use Rattle.std.specs.declared.option.Option.{Option}
 use Rattle.std.specs.List.{starts_with}

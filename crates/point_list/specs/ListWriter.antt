@@ -1,4 +1,4 @@
--- Defines the effect of writing a point list on a sink, and the faults of writing.
+-- Defines the effect of writing a point list to a sink (an output), and the faults of writing.
 use Rattle.std.specs.Prelude.{ℕ, ◌≡◌, List, Ok, Err}
 use Rattle.std.specs.declared.io.Error.{Error}
 use Rattle.std.specs.declared.result.Result.{Result}

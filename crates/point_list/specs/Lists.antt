@@ -153,7 +153,7 @@ list_faults (header ∷ rows) = if is_header header then faults_below rows else 
 abbrev pub rows_read : List ℕ → List (List (List ℕ))
 rows_read text = take ROW_LIMIT (csv_rows text)
 
--- True if each row encodes the point with the same index.
+-- True if there are as many rows as points, and each row encodes the point with the same index.
 abbrev pub SpellEach : List (List (List ℕ)) → List ListedPoint → Type 0
 SpellEach rows points = map point_of_row rows ≡ map (λ point. Some point) points
 

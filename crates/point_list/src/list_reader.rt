@@ -50,8 +50,8 @@ fn scale_fault(points: &[ListedPoint], point: &ListedPoint) -> Option<RowFault>
     }
 }
 
-// Adds the fault of a row to `faulty`, if the row has one. `place` is the row's index below the
-// header, from 0. The header is the text's first line, so index 0 is its second line.
+// Adds the fault of a row to `faults`, if the row has one. `place` is the row's index below the
+// header, from 0. The header is row 1, so index 0 is row 2.
 fn add_fault(
     place: usize,
     fault: Option<RowFault>,

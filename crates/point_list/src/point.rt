@@ -19,7 +19,7 @@ pub enum PointScale {
 }
 
 /// A point of a point list: its registers from `address`, the function that reads them, and their
-/// area number.
+/// area number. No Modbus read includes points with different area numbers.
 #[derive(Debug, Drop)]
 pub struct ListedPoint {
     pub name: PointName,

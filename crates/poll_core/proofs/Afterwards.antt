@@ -1,4 +1,4 @@
--- Lemmas about one more event, and about a session that is over.
+-- Lemmas about one more event of a polling session, and about a session that is over.
 use Rattle.std.proofs.Common.{map, ◌≡◌, ℕ, Bool, true, false, not, ◌&&◌, ◌||◌, cond, List, [], ◌∷◌, ◌++◌, refl, sym, ap, ◌∙◌, subst, inl, inr, Option, Some, None, append_assoc}
 use Rattle.std.specs.List.{filter}
 use Rattle.std.specs.Prelude.{IsSome}
@@ -55,7 +55,8 @@ and_fresh : (g b : Bool) → b ≡ false → (g && not b) ≡ g
 and_fresh true b h = ap not h
 and_fresh false b h = refl
 
--- An event after which the session is over, and before which it was not, ended the session.
+-- If the session is over after an event, and was not over before it, the event has a cause by which
+-- it ended the session.
 ending_at-over : (es : List Event) (e : Event) → is_over es ≡ false → is_over (es ++ e ∷ []) ≡ true → is_some (ending_at es e) ≡ true
 unfolding is_over ending_at
 ending_at-over es e going over =

@@ -28,13 +28,14 @@ cons_named p o xs = cons_option (named p o) xs
 pub same_is : {X : Type 0} (xs ys : List X) → xs ≡ ys → IsPermutation xs ys
 same_is xs ys e = let P : List _ → Type 0 = λ zs. IsPermutation xs zs in subst P e (IsPermutation-refl xs)
 
--- Adding one element to a list and between two parts keeps the list a permutation of the parts.
+-- If `xs` is a permutation of `ys` followed by `zs`, then `xs` with a new first element is a
+-- permutation of `ys`, that element and `zs`.
 pub middle : {X : Type 0} (x : X) (xs ys zs : List X) → IsPermutation xs (ys ++ zs) → IsPermutation (x ∷ xs) (ys ++ x ∷ zs)
 middle x xs ys zs h =
     IsPermutation-trans _ _ _ (IsPermutation-cons x xs (ys ++ zs) h) (IsPermutation-sym _ _ (IsPermutation-middle ys x zs))
 
--- If a test splits the outcomes of polls into two lists, both lists together are a permutation of
--- the outcomes, also after one more poll.
+-- One step of an induction over polls. If a test splits the outcomes of some polls into two lists,
+-- both lists together are a permutation of the outcomes, also with one more poll.
 parted_step : (t : Bool) (f g h : Poll → Option Settlement) (p : Poll) (o : Settlement) (r : Option Settlement) (xs ys : List Poll) (us : List (ℕ × Settlement)) → f p ≡ cond t (Some o) r → g p ≡ Some o → h p ≡ r → IsPermutation us (give g xs ++ give h ys) → IsPermutation (filter_map (λ (q : Poll). named q (f q)) (p ∷ []) ++ us) (give g (cond t (p ∷ xs) xs) ++ give h (cond (not t) (p ∷ ys) ys))
 parted_step true f g h p o r xs ys us fe ge he rest =
     let P : Option Settlement → Option Settlement → Type 0 = λ a b. IsPermutation (cons_named p a [] ++ us) (cons_named p b (give g xs) ++ give h ys) in
@@ -70,7 +71,8 @@ give_lost : (x : Option LostCause) (ps : List Poll) → give (λ p. option_map L
 give_lost None ps = give_none ps
 give_lost (Some c) ps = give_all (λ _. Lost c) ps
 
--- The outcome of a poll by these frames and the end of the session.
+-- The outcome of a poll by the first frame with its transaction identifier, or otherwise by the end
+-- of the session, if it ended.
 abbrev framed : List (List ℕ) → Option LostCause → Poll → Option Settlement
 framed fs x p = option_or (option_map (answer p) (find (is_for p) fs)) (option_map Lost x)
 

@@ -1,4 +1,4 @@
--- The definitions evaluated for a few short sessions.
+-- Checks the definitions by examples: a few short polling sessions.
 use Rattle.std.proofs.Common.{◌≡◌, ℕ, zero, suc, ◌+◌, ◌*◌, List, [], ◌∷◌, ◌++◌, Some, None, refl}
 use Rattle.mb_wire.specs.Frames.{frames, frames_in, rest, rest_in, is_garbled}
 use Rattle.mb_wire.specs.Spans.{Span}

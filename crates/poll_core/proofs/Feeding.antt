@@ -60,7 +60,8 @@ FindsBy-own f ps qs (Some p) own apart h =
       left_one f ps ∙ filter_agree _ _ (λ q. ap not (own_id f own q)) ps ∙ sym h.1 ∙ none_passes t qs none,
     )
 
--- Two consecutive feeds complete the frames of the first, followed by the frames of the second.
+-- If one chunk completes the frames `gs` and the next chunk the frames `hs`, both chunks together
+-- complete `gs` followed by `hs`.
 pub FeedsOn-then : (a p b q c : List ℕ) (gs hs : List (List ℕ)) → FeedsOn a p gs b → FeedsOn b q hs c → FeedsOn a (p ++ q) (gs ++ hs) c
 FeedsOn-then a p b q c gs hs first second = λ bytes before h.
     let P : List ℕ → Type 0 = λ y. Reads y (before ++ (gs ++ hs)) c in
@@ -80,7 +81,8 @@ Finds-nothing a buffered ps e =
       others_are = unmatched-nil ps;
     }
 
--- A feed whose frames complete no poll, followed by another feed, equals one feed of both chunks.
+-- If the frames of a first chunk complete no poll, reading two chunks one after the other has the
+-- effect of reading both at once.
 pub Finds-then : (a p q : List ℕ) (mid buffered : Buffered) (ps qs : List Poll) (o : Option Poll) → Finds a p ps None mid ps → Finds mid.rest q ps o buffered qs → Finds a (p ++ q) ps o buffered qs
 Finds-then a p q mid buffered ps qs o first second =
     record {
@@ -116,7 +118,7 @@ piece-more at n piece = take-add at n piece ∙ ap (λ x. take at piece ++ take 
 abbrev slice_at : ℕ → List ℕ → List ℕ
 slice_at at piece = take (length piece - at) (drop at piece)
 
--- After one more feed, the loop invariant is true again, or the feed completed a poll.
+-- After one more call of `feed`, the loop invariant is true again, or the call completed a poll.
 goes_on : (old piece : List ℕ) (at n : ℕ) (ps qs : List Poll) (o : Option Poll) (mid buffered : Buffered) → Strays old piece at ps mid → Finds mid.rest (take n (slice_at at piece)) ps o buffered qs → Finds old (take (at + n) piece) ps o buffered qs
 goes_on old piece at n ps qs o mid buffered strays more =
     let P : List ℕ → Type 0 = λ y. Finds old y ps o buffered qs in

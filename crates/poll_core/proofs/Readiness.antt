@@ -142,7 +142,7 @@ fits_after t w m es starts h few fits late =
     ∙ cond-false _ _ _ (le-ltb m (last_moment (es ++ starts)) late)
     ∙ cond-false _ _ _ going
 
--- A conditional option is present if its alternative is present.
+-- If the option `o` has a value, the conditional with the branches `Some x` and `o` has a value.
 some_if : {X : Type 0} (b : Bool) (x : X) (o : Option X) → IsSome o → IsSome (cond b (Some x) o)
 some_if true x o h = refl
 some_if false x o h = h

@@ -1,4 +1,5 @@
--- Proves how each step of a session advances the processing of an event.
+-- Proves how each step of a polling session advances the processing of an event. One event may
+-- require several calls, because each call reports at most one outcome.
 use Rattle.std.proofs.Common.{◌≡◌, ℕ, ◌%◌, ◌≤◌, Bool, true, false, cond, not, ◌&&◌, ◌||◌, List, [], ◌∷◌, ◌++◌, length, take, drop, refl, sym, ap, ◌∙◌, subst, arith, Option, Some, None, inl, inr, append_assoc}
 use Rattle.std.specs.List.{filter, find}
 use Rattle.std.specs.Option.{option_or, is_some, is_none}
@@ -25,7 +26,8 @@ use Rattle.poll_core.specs.declared.outcome.Call.{Call}
 use Rattle.poll_core.specs.declared.outcome.Call.TheVariants as call
 use Rattle.poll_core.specs.declared.poll.SettledBy.TheVariants as by
 
--- The relation `Within`, stated over the fields of a session that it depends on.
+-- True if a session with these fields has reported some outcomes of the event and must still report
+-- the others. It is the relation `Within`, stated over only the fields that it depends on.
 pub record Mid (t m n : ℕ) (r : List ℕ) (ps : List Poll) (x : Option LostCause) (es : List Event) (e : Event) (reported : List (ℕ × Settlement)) : Type 0 where
   pub last : m ≡ moment_of e
   pub next : n ≡ next_id (es ++ e ∷ [])
@@ -230,7 +232,8 @@ over_parts es m p =
 fresh_before : (one : OneReading) → (b p : List ℕ) → is_garbled (b ++ p) ≡ false → is_garbled b ≡ false
 fresh_before one b p h = false_from_ne_true _ (λ g. both_ways _ h (is_garbled-append one b p g))
 
--- Feeding more bytes of a chunk completes at most one poll by a frame, and may garble the stream.
+-- After a session reads more bytes of a chunk, it is still processing the chunk. The bytes
+-- completed at most one poll by a frame, and may have ended with an invalid length field.
 pub feed : (one : OneReading) → (t m n : ℕ) (r q p : List ℕ) (buffered : Buffered) (ps qs : List Poll) (o : Option Poll) (es : List Event) (reported : List (ℕ × Settlement)) (g : Bool) → Mid t m n r ps None es (Piece m p) reported → owed_by m None ps ≡ [] → alive m ps ≡ ps → Finds r q ps o buffered qs → is_bad buffered.rest ≡ g → Mid t m n buffered.rest qs (garbled_end g) es (Piece m (p ++ q)) (reported ++ reported_list o buffered.frame)
 feed one t m n r q p buffered ps qs o es reported g mid none all found bad =
     let e = Piece m p in
@@ -369,12 +372,13 @@ enter s es e reported other (inr (settling, w)) =
       buffered = w.buffered;
     }
 
--- After a call that reports one more outcome, the session is in a state `After` the call.
+-- After a call that reports one more outcome, the session is still processing the same event.
 pub reported_more : (t m n w : ℕ) (r : Buffered) (ps : List Poll) (x : Option LostCause) (z : Option Call) (es : List Event) (e : Event) (reported : List (ℕ × Settlement)) → Mid t m n r.rest ps x es e reported → Within (record { timeout = t; window = w; last = m; next = n; reader = r; polls = ps; ending = x; settling = z }) es e reported
 reported_more t m n w r ps x z es e reported mid =
     record { last = mid.last; next = mid.next; whole = mid.whole; polls = mid.polls; over = mid.over; none_after = mid.none_after; buffered = mid.buffered }
 
--- After a call that only reports outcomes already due, the session is in a state `After` the call.
+-- After a call that only reports outcomes already due, the session is in a state that `After`
+-- allows.
 pub settle : (t m n w : ℕ) (r : Buffered) (ps qs : List Poll) (x : Option LostCause) (call : Call) (taken : Option SettledPoll) (es : List Event) (e : Event) (reported : List (ℕ × Settlement)) → call_of e ≡ Some call → Mid t m n r.rest ps x es e reported → ReportsOwed m x ps taken qs → After (record { timeout = t; window = w; last = m; next = n; reader = r; polls = qs; ending = x; settling = call_if taken call }) es e reported (reported_of taken r.frame)
 settle t m n w r ps qs x call None es e reported by mid h = done t m n w r ps qs x es e reported mid h
 settle t m n w r ps qs x call (Some taken) es e reported by mid h =
@@ -393,8 +397,7 @@ pub closes : (s : State) (m : ℕ) (c : Closing) (qs : List Poll) (taken : Optio
 closes s m c qs taken h es reported b =
     settle s.timeout m s.next s.window s.reader s.polls qs (option_or s.ending (Some (cause_of c))) (call.Close c) taken es (Close m c) reported refl (enter s es (Close m c) reported refl b) h
 
--- The possible results of a call that processes a chunk. The call first reports the outcomes that
--- are already due.
+-- A session before a new or continued call for a chunk is processing that chunk.
 pub enters : (s : State) (m : ℕ) (p : List ℕ) (es : List Event) (reported : List (ℕ × Settlement)) → Before s es (Piece m p) reported → Mid s.timeout m s.next s.reader.rest s.polls s.ending es (Piece m p) reported
 enters s m p es reported b =
     let P : Option LostCause → Type 0 = λ y. Mid s.timeout m s.next s.reader.rest s.polls y es (Piece m p) reported in
@@ -414,8 +417,8 @@ piece_dropped one s m c qs piece over h es p reported b =
     let mid = subst Q (sym over) (drop_rest one s.timeout m s.next s.reader.rest s.reader.rest q p s.polls c es reported (subst P over (enters s m p es reported b))) in
     done s.timeout m s.next s.window s.reader s.polls qs s.ending es (Piece m (p ++ q)) reported mid h
 
--- The state after the reader was fed, up to a frame that completes a poll or to the end of the
--- chunk.
+-- The state of a session after its reader read a chunk up to a frame that completes a poll, or up
+-- to the end of the chunk.
 abbrev fed_mid : State → ℕ → Buffered → List Poll → Option Poll → Bool → List ℕ → List Event → List ℕ → List (ℕ × Settlement) → Type 0
 fed_mid s m buffered rs o g q es p reported = Mid s.timeout m s.next buffered.rest rs (garbled_end g) es (Piece m (p ++ q)) (reported ++ reported_list o buffered.frame)
 

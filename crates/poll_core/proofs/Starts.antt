@@ -1,4 +1,4 @@
--- Lemmas about the effect of a start on a session.
+-- Lemmas about the effect of starting a poll on a polling session.
 use Rattle.std.proofs.Common.{◌≡◌, ℕ, ◌+◌, ◌%◌, Bool, false, ◌||◌, List, [], ◌∷◌, ◌++◌, length, refl, sym, ap, ◌∙◌, arith, Option, Some, None, inl, inr, length-append}
 use Rattle.std.specs.List.{filter, list_any}
 use Rattle.std.specs.Option.{is_some}
@@ -40,8 +40,8 @@ starts s es m n u span poll h going poll_is =
       buffered = λ _. h.buffered going ∙ ap rest (sym (stream-same es e refl));
     }
 
--- The fault that `least_fault` computes from a session's state is the fault after the session's
--- events.
+-- The fault of a start that `least_fault` computes from a session's state is the fault that
+-- `start_fault` computes from the session's events.
 pub refused : (s : State) (es : List Event) (m : ℕ) (fault : Option StartFault) → fault ≡ least_fault s.window s.polls s.next s.last (is_some s.ending) m → Stands s es → fault ≡ start_fault s.timeout s.window es m
 refused s es m fault e h =
     e

@@ -8,7 +8,8 @@ use Rattle.mb_wire.specs.Frames.{span_of, IsFrame, IsOpen, IsBad, Reads, frames,
 use Rattle.poll_core.specs.declared.outcome.LostCause.TheVariants.{Garbled}
 use Rattle.poll_core.specs.Settling.{Event, Piece, stream, frames_at, ending_at, bytes_of, closing_of}
 
--- The statement that each byte list splits into frames and a rest in exactly one way.
+-- The statement that each byte list splits in exactly one way into complete frames and the bytes
+-- after them.
 pub record OneReading : Type 0 where
   pub exists : (bytes : List ℕ) → Reads bytes (frames bytes) (rest bytes)
   pub only : (bytes : List ℕ) (others : List (List ℕ)) (unread : List ℕ) → Reads bytes others unread → (frames bytes ≡ others) × (rest bytes ≡ unread)
@@ -55,7 +56,7 @@ bad-append r q (six, ways) =
     let same : span_of (r ++ q) ≡ span_of r = span_of-append r q six in
     (omega arith, elim ways [ inl low ↦ inl (omega arith) | inr high ↦ inr (omega arith) ])
 
--- More bytes after a garbled stream complete no frame.
+-- More bytes after a stream with an invalid length field complete no frame.
 garbled_reads : (one : OneReading) → (b q : List ℕ) → is_garbled b ≡ true → Reads (b ++ q) (frames b) (rest b ++ q)
 unfolding is_garbled
 garbled_reads one b q g =
@@ -76,8 +77,8 @@ is_garbled-append one b q g =
     let bad : IsBad (rest b ++ q) = bad-append (rest b) q (bad_is (rest b) g) in
     ap is_bad (one.only (b ++ q) (frames b) (rest b ++ q) h).1 ∙ is_bad-bad _ bad
 
--- Bytes appended to a stream that is not garbled complete the frames that they complete after its
--- rest.
+-- If the bytes after a stream's complete frames form the frames `gs` with new bytes, the longer
+-- stream has its earlier frames followed by `gs`.
 pub reads_on : (one : OneReading) → (b q : List ℕ) (gs : List (List ℕ)) (s : List ℕ) → Reads (rest b ++ q) gs s → Reads (b ++ q) (frames b ++ gs) s
 reads_on one b q gs s g =
     let h = one.exists b in
@@ -126,7 +127,7 @@ and_not : (b : Bool) → (b && not b) ≡ false
 and_not true = refl
 and_not false = refl
 
--- An event without bytes completes no frame and does not garble the stream.
+-- An event without bytes completes no frame.
 pub frames_at-nil : (es : List Event) (e : Event) → bytes_of e ≡ [] → frames_at es e ≡ []
 unfolding frames_at
 frames_at-nil es e none =

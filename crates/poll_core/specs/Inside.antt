@@ -1,4 +1,5 @@
--- The model of a session's private state, computed from its fields.
+-- The model of a polling session's private state, computed from its fields. A session tracks the
+-- pending polls of one device over one connection.
 use Rattle.std.specs.Prelude.{ℕ, ◌≤◌, Bool, if◌then◌else◌, List, length, take, Some, None}
 use Rattle.std.specs.declared.option.Option.{Option}
 use Rattle.std.specs.Option.{option_map}
@@ -51,13 +52,13 @@ ReportsStep old new moment piece step =
 abbrev pub ReportsTaken : State → State → Event → Option SettledPoll → Type 0
 ReportsTaken old new event taken = ReportsEvent old new event (reported_of taken new.reader.frame)
 
--- The call in progress after it reported the poll `taken`: `call`, or `None` if it reported none
--- and is therefore complete.
+-- The call that must be repeated for further outcomes: `call` if it just reported the poll `taken`,
+-- or `None` if it reported none. Each call reports at most one outcome.
 abbrev pub call_if : Option SettledPoll → Call → Option Call
 call_if None call = None
 call_if (Some taken) call = Some call
 
--- The cause by which a received chunk ends the session: `Garbled` if its bytes garble the stream,
--- otherwise `None`.
+-- The cause by which a received chunk ends the session: `Garbled` if it has an invalid length
+-- field, otherwise `None`.
 abbrev pub garbled_end : Bool → Option LostCause
 garbled_end garbled = if garbled then Some Garbled else None

@@ -1,4 +1,5 @@
--- The statements of the theorems about all lists of session events.
+-- The statements of the theorems about a polling session's events: starts of polls, received bytes,
+-- timer events, and the end of the connection.
 use Rattle.std.specs.Prelude.{◌≡◌, ℕ, ◌≤◌, List, [], ◌∷◌, ◌++◌, filter, is_none, map, true, Some, None}
 use Rattle.std.specs.declared.option.Option.{Option}
 use Rattle.std.specs.Option.{option_map, option_or, option_to_list}
@@ -122,7 +123,8 @@ AddsResults timeout events event =
     ≡ map (with_event events event) (results timeout [] events)
     ++ new_result (started timeout events event)
 
--- True if a session that accepted these events is over: its stream is garbled, or it was closed.
+-- True if a session that accepted these events is over: an invalid length field arrived, or the
+-- session was closed.
 abbrev pub IsOverAfter : (timeout window : ℕ) → List Event → Type 0
 IsOverAfter timeout window events =
     AcceptsAll timeout window [] events × (is_over events ≡ true)

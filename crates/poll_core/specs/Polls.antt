@@ -1,4 +1,4 @@
--- The model of a poll, for contracts.
+-- The model of a poll (one read request and its deadline), for contracts.
 use Rattle.std.specs.Prelude.{ℕ, Bool, ◌==◌, nat_le}
 use Rattle.mb_wire.specs.Spans.{Span}
 

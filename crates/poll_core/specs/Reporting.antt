@@ -1,4 +1,4 @@
--- The effects of a session's public calls, as their caller sees them.
+-- The effects of a polling session's public calls, as their caller sees them.
 use Rattle.std.specs.Prelude.{◌≡◌, ℕ, ◌<◌, ◌⊎◌, Bool, true, false, is_some, if◌then◌else◌, List, [], ◌++◌, length, take, Some, None, Result, OnErr, IfOk}
 use Rattle.std.specs.declared.option.Option.{Option}
 use Rattle.std.specs.Option.{option_map}
@@ -40,13 +40,15 @@ is_answered _ = false
 abbrev pub LendsReply : Settled → Type 0
 LendsReply settled = is_some settled.reply ≡ is_answered settled.outcome
 
--- True if no call is in progress, or the call in progress is of this kind and at this time.
+-- True if no call is in progress, or the call in progress is of this kind and at this time. A call
+-- is in progress while it must be repeated, because each call reports at most one outcome.
 abbrev pub IsCall : Call → State → ℕ → Type 0
 IsCall call session moment =
     (session.settling ≡ None) ⊎ ((session.settling ≡ Some call) × (session.last ≡ moment))
 
 -- The effect of a call that processes an event, or more bytes of a chunk. `before` and `after`
--- build the event from the bytes consumed. If the call reports an outcome, fewer polls are pending.
+-- build the event before and after the call from the bytes consumed earlier. If the call reports an
+-- outcome, fewer polls are pending.
 pub record ReportsOfCall (old new : State) (before after : List ℕ → Event)
     (settled : Option (ℕ × Settlement)) : Type 0 where
   pub timeout : new.timeout ≡ old.timeout

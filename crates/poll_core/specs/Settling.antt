@@ -18,7 +18,8 @@ use Rattle.poll_core.specs.declared.outcome.LostCause.{LostCause}
 use Rattle.poll_core.specs.declared.outcome.LostCause.TheVariants.{Garbled}
 use Rattle.poll_core.specs.declared.outcome.Closing.{Closing}
 
--- An event of a session, with its time in seconds since 1970-01-01 UTC.
+-- An event of a polling session, with its time in seconds since 1970-01-01 UTC: the start of a
+-- poll, received bytes, a timer event, or the end of the connection.
 pub data Event : Type 0 where
   Start : (moment poll unit : ℕ) (span : Span) → Event
   Piece : (moment : ℕ) (bytes : List ℕ) → Event
@@ -98,8 +99,8 @@ unfoldable pub frames_at : List Event → Event → List (List ℕ)
 frames_at before event =
     drop (length (frames (stream before))) (frames (stream before ++ bytes_of event))
 
--- The cause by which the event ends the session: it garbles the stream or closes the session.
--- `None` if it does neither.
+-- The cause by which the event ends the session: its bytes have an invalid length field, or it
+-- closes the session. `None` if it does neither.
 unfoldable pub ending_at : List Event → Event → Option LostCause
 ending_at before event =
     if is_garbled (stream before ++ bytes_of event) && not (is_garbled (stream before))

@@ -1,4 +1,4 @@
--- The state of a session after a list of events.
+-- The state of a polling session after a list of events.
 use Rattle.std.specs.Prelude.{◌≡◌, ℕ, ◌⊎◌, Bool, true, ◌||◌, List, [], ◌∷◌, ◌++◌, is_some, Some, None, OnOk}
 use Rattle.std.specs.declared.option.Option.{Option}
 use Rattle.std.specs.declared.result.Result.{Result}
@@ -34,7 +34,7 @@ last_moment (event ∷ next ∷ events) = last_moment (next ∷ events)
 unfoldable pub is_closed : List Event → Bool
 is_closed events = list_any (λ event. is_some (closing_of event)) events
 
--- True if the stream of the events is garbled, or one of the events closed the session.
+-- True if the received bytes have an invalid length field, or one of the events closed the session.
 unfoldable pub is_over : List Event → Bool
 is_over events = is_garbled (stream events) || is_closed events
 
@@ -101,19 +101,21 @@ After session events event reported None =
 After session events event reported (Some settled) =
     (session.settling ≡ call_of event) × Within session events event (reported ++ settled ∷ [])
 
--- After a successful start, the session has processed its earlier events and the start.
+-- True if, after a successful call of `start`, the session has processed its earlier events and the
+-- start.
 abbrev pub StartsOn : {X E : Type 0} → Result X E → (old new : State) → Event → Type 0
 StartsOn result old new start =
     (events : List Event) → Stands old events → OnOk result (After new events start [] None)
 
--- A call for an event leads from a state `Before` the call to a state `After` it.
+-- True if a call for the event leads from each state that `Before` allows to a state that `After`
+-- allows.
 abbrev pub StepsOn : (old new : State) → Event → Option (ℕ × Settlement) → Type 0
 StepsOn old new event settled =
     (events : List Event) (reported : List (ℕ × Settlement)) →
     Before old events event reported → After new events event reported settled
 
--- A call that consumes bytes of a received chunk leads from a state `Before` the call to a state
--- `After` it.
+-- True if a call that consumes bytes of a received chunk leads from each state that `Before` allows
+-- to a state that `After` allows.
 abbrev pub TakesOn : (old new : State) → (moment : ℕ) → (taken : List ℕ)
     → Option (ℕ × Settlement) → Type 0
 TakesOn old new moment taken settled =

@@ -1,4 +1,4 @@
--- Defines when a session refuses to start a poll.
+-- Defines when a polling session refuses to start a poll.
 use Rattle.std.specs.Prelude.{◌≡◌, ℕ, ◌+◌, ◌%◌, ◌≤◌, ◌<◌, Bool, true, false, not, ◌&&◌, is_some, nat_le, nat_lt, if◌then◌else◌, List, ◌++◌, length, take, Some, None, IsSome}
 use Rattle.std.specs.declared.option.Option.{Option}
 use Rattle.std.specs.List.{list_any, AllByRecursion}
@@ -42,8 +42,8 @@ abbrev pub AsksFor : (tid unit : ℕ) → Span → (buffer : List ℕ) → ℕ �
 AsksFor tid unit span buffer n =
     take n buffer ≡ spelling tid unit (request_bytes (request_of span))
 
--- True if a start would succeed after `before` earlier starts: the session is not over, the window
--- has room, and no pending poll uses its identifier.
+-- True if one more start would succeed after `before` successful starts from now. The session must
+-- not be over, the window must have room, and no pending poll may use the start's identifier.
 abbrev pub start_fits : ℕ → List Poll → ℕ → Bool → ℕ → Bool
 start_fits window polls next over before =
     not over && nat_lt (length polls + before) window

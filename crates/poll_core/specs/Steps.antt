@@ -1,4 +1,5 @@
--- The effects of a session's private steps on its reader and its polls.
+-- Defines the effects of a polling session's private steps on its frame reader and its pending
+-- polls.
 use Rattle.std.specs.Prelude.{◌≡◌, ℕ, suc, ◌≤◌, ◌<◌, Bool, true, not, List, [], ◌∷◌, ◌++◌, length, take, get_or, Some, None, is_some, IsSome, unwrap_or}
 use Rattle.std.specs.declared.option.Option.{Option}
 use Rattle.std.specs.List.{filter}
@@ -40,13 +41,15 @@ outcome_by poll by.Silence frame = Silent
 outcome_by poll by.Frame frame = answer poll (unwrap_or frame [])
 outcome_by poll (by.End cause) frame = Lost cause
 
--- True unless a frame completed the poll and the session's reader has no frame.
+-- True if the session's reader has a frame, or no frame is needed for the outcome. Only the outcome
+-- of a poll that a frame completed is decoded from that frame.
 abbrev pub HasFrame : SettledBy → Option (List ℕ) → Type 0
 HasFrame by.Silence frame = Unit {0}
 HasFrame by.Frame frame = IsSome frame
 HasFrame (by.End cause) frame = Unit {0}
 
--- True unless a poll was removed because of a frame and the session's reader has no frame.
+-- True if the outcome of the removed poll, if any, can be computed. The session's reader must have
+-- the frame if a frame completed the poll.
 abbrev pub CanTell : Option SettledPoll → Option (List ℕ) → Type 0
 CanTell None frame = Unit {0}
 CanTell (Some taken) frame = HasFrame taken.by frame
@@ -67,7 +70,8 @@ ReportsOwed moment ending old (Some taken) new =
     × (if_going ending (alive moment new) ≡ if_going ending (alive moment old))
     × (length old ≡ suc (length new))
 
--- True if the chunk continues the reading of any earlier stream and completes these frames.
+-- True if the chunk completes the frames `ended`, whatever stream came before it. `old` and `new`
+-- are the bytes of the incomplete frame before and after the chunk.
 abbrev pub FeedsOn : List ℕ → List ℕ → List (List ℕ) → List ℕ → Type 0
 FeedsOn old piece ended new = (bytes : List ℕ) (before : List (List ℕ)) → Reads bytes before old
     → Reads (bytes ++ piece) (before ++ ended) new

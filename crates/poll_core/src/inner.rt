@@ -52,8 +52,8 @@ fn write_request(id: u16, unit: u8, span: ReadSpan, out: &mut [u8; MAX_ADU]) -> 
     write_frame(id, unit, &pdu[..count], out)
 }
 
-// Returns `call` as the call in progress if it just reported a poll. Returns `None` if it reported
-// none, because the call is then complete.
+// Returns `call` if it just reported a completed poll, because the caller must repeat it for
+// further polls. Returns `None` if it reported none, because the call is then complete.
 fn call_while(taken: &Option<SettledPoll>, call: Call) -> Option<Call>
     ensures { result ≡ call_if taken.now call }
 {
@@ -63,7 +63,8 @@ fn call_while(taken: &Option<SettledPoll>, call: Call) -> Option<Call>
     }
 }
 
-// Returns `Garbled` as the cause of the session's end if the stream is garbled, otherwise `None`.
+// Returns `Garbled` as the cause of the session's end if an invalid length field arrived, otherwise
+// `None`.
 fn ending_if(is_garbled: bool) -> Option<LostCause>
     ensures { result ≡ garbled_end is_garbled }
 {
@@ -74,7 +75,8 @@ fn ending_if(is_garbled: bool) -> Option<LostCause>
     }
 }
 
-// Returns the number of bytes consumed: `taken` if an outcome was reported, otherwise `all`.
+// Returns the number of bytes that the call consumes. After a reported outcome the caller passes
+// the bytes after the first `taken` again. Without an outcome, all bytes count as consumed.
 fn taken_if(lost: &Option<SettledPoll>, taken: usize, all: usize) -> usize
     ensures { result ≡ (if is_some lost.now then taken else all) }
 {

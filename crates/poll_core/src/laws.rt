@@ -1,4 +1,5 @@
-//! Theorems about all lists of session events.
+//! Theorems about the events of a polling session: starts of polls, received bytes, timer events,
+//! and the end of the connection.
 ghost use Rattle.std.specs.Prelude.{◌≡◌, ℕ, List, [], length, slice_get};
 ghost use Rattle.std.specs.List.{All};
 ghost use Rattle.std.specs.List.Sorted.{IsPermutation};
@@ -40,8 +41,8 @@ pub fn pending_waits()
         → All (Waits timeout events) (pending timeout events) }
 {}
 
-/// Theorem: after its stream is garbled or it is closed, a session has no pending polls, and no
-/// event completes a poll.
+/// Theorem: after an invalid length field garbled its stream, or after it was closed, a session has
+/// no pending polls, and no event completes a poll.
 pub fn over_for_good()
     ensures nobody { (timeout window : ℕ) (events : List Event) →
         IsOverAfter timeout window events → pending timeout events ≡ [] }

@@ -2,8 +2,8 @@
 
 use mb_wire::ReplyFault;
 
-/// The kind of call that may report several outcomes. A session stores it while the call is in
-/// progress.
+/// The kind of a call that may have several outcomes to report. Each call reports one, and the
+/// session stores the kind until the caller has repeated the call for all outcomes.
 #[derive(Clone, Copy, Debug, PartialEq, Eq)]
 pub enum Call {
     Piece,

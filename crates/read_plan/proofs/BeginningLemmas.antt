@@ -1,5 +1,5 @@
--- Lemmas about the items at which reads start. The next item in order is within 125 registers from
--- the start of the last read, or starts a new read.
+-- Lemmas about the items (ranges that one read must contain) at which reads start. The next item in
+-- order is within 125 registers from the start of the last read, or starts a new read.
 use Rattle.std.proofs.Common.{◌≡◌, ◌∙◌, ℕ, ◌+◌, ◌-◌, ◌<◌, ◌≤◌, ◌⊎◌, List, [], ◌∷◌, ◌++◌, length, get_or, take, sym, refl, ap, arith, inl, inr, subst}
 use Rattle.std.specs.List.{AllPairs, Any, Contains}
 use Rattle.std.proofs.lemmas.Bool.{cases_lt, cases_eq}
@@ -47,7 +47,7 @@ before-or-same a b = elim (cases_lt (code_of a.function) (code_of b.function)) [
   ]
 ]
 
--- A range between two ranges of one area is in that area.
+-- If a range comes between two ranges of one area (function and area number), it is in that area.
 pub same-between : (a l x : Run) → ComesBefore a l → ¬ ComesBefore x l → SameArea a x → SameArea a l
 same-between a l x (inl f) never s = absurd (never (inl (subst (λ (t : ReadFunction). code_of t < code_of l.function) s.function f)))
 same-between a l x (inr (inl h)) never s = absurd (never (inr (inl (sym s.function ∙ h.0, subst (λ (n : ℕ). n < l.area) s.area h.1))))
@@ -65,7 +65,8 @@ in-front sorted n x within is ordered a w less =
     let same : get_or sorted w.0 x ≡ a = get_or_default sorted w.0 x a (omega (arith, below, within)) ∙ sym (get_or-take n sorted w.0 a below) ∙ w.2 in
     ordered w.0 n x below within (subst (λ (r : Run). ComesBefore r (get_or sorted w.0 x)) is (subst (λ (r : Run). ComesBefore x r) (sym same) less))
 
--- An item too far from the start of the last read is too far from the start of each earlier read.
+-- If an item does not lie within 125 registers from the start of the last read, the same is true
+-- for the start of each earlier read.
 pub apart-from-each : (sorted found : List Run) (n : ℕ) (x : Run) → n < length sorted → x ≡ get_or sorted n x → AllPairs (λ a b. ¬ ComesBefore b a) sorted
     → IsReadable x → AreBeginnings (take n sorted) found → ((d : Run) → 0 < length found → ¬ LiesWithinReach (get_or found (length found - 1) d) x)
     → (k : ℕ) (d : Run) → k < length found → BeginsApart (get_or found k d) x
@@ -106,7 +107,8 @@ apart-from-each sorted found n x within is ordered readable so_far beyond k d be
     not-lower a l (inr (inl h)) s ge = let e = s.area in let o = h.1 in omega (arith, e, o)
     not-lower a l (inr (inr h)) s ge = let o = h.1 in omega (arith, ge, o)
 
--- An item too far from the start of the last read starts a new read.
+-- If the next item does not lie within 125 registers from the start of the last read, a new read
+-- starts at that item.
 pub beginnings-push : (sorted found : List Run) (n : ℕ) (x : Run) → n < length sorted → x ≡ get_or sorted n x → AllPairs (λ a b. ¬ ComesBefore b a) sorted
     → IsReadable x → AreBeginnings (take n sorted) found → ((d : Run) → 0 < length found → ¬ LiesWithinReach (get_or found (length found - 1) d) x)
     → AreBeginnings (take (n + 1) sorted) (found ++ (x ∷ []))
@@ -127,7 +129,8 @@ beginnings-push sorted found n x within is ordered readable so_far beyond =
     any-append : (P : Run → Type 0) (xs ys : List Run) → Any P xs → Any P (xs ++ ys)
     any-append P xs ys w = let c = Contains-append_left xs ys w.1 (w.0, w.2, w.3) in (c.0, w.1, c.1, c.2, w.4)
 
--- An item within 125 registers from the start of the last read starts no new read.
+-- If the next item lies within 125 registers from the start of a read, no new read starts at that
+-- item.
 pub beginnings-skip : (sorted found : List Run) (n : ℕ) (x : Run) → n < length sorted → x ≡ get_or sorted n x
     → AreBeginnings (take n sorted) found → Any (λ begin. LiesWithinReach begin x) found → AreBeginnings (take (n + 1) sorted) found
 beginnings-skip sorted found n x within is so_far reached =

@@ -103,7 +103,8 @@ ends-partitioned ended limit ordered i j d below within e = elim (cases_eq i j) 
       ]
 ]
 
--- A range whose end is between the ends of two ranges of one area is in that area.
+-- If a range's end lies between the ends of two ranges of one area (function and area number), the
+-- range is in that area.
 area-between : (b i l : Run) → SameArea b l → ¬ EndsBefore l i → ¬ EndsBefore i b → SameArea b i
 area-between b i l s after before =
     let f = ap code_of s.function in

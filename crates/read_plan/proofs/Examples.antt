@@ -1,4 +1,4 @@
--- The definitions evaluated for example plans, and at both limits of a read's size.
+-- Checks the definitions by example plans, and at both limits of a read's size.
 use native.Mathlib.Omega.{arith}
 use Rattle.std.proofs.Common.{◌≡◌, ℕ, zero, suc, ◌<◌, ◌≤◌, List, [], ◌∷◌, get_or, take, refl, ap, inl, inr}
 use Rattle.std.specs.List.{All, AllPairs}
@@ -30,8 +30,8 @@ just_in_reach = record { same_area = alike 0 2 124 125; from_first = omega arith
 just_beyond_reach : LiesWithinReach (run 0 2) (run 124 126) → ⊥
 just_beyond_reach reach = omega (arith, reach.in_reach)
 
--- A plan for the items [0, 2), [124, 125) and [125, 126): one read of 125 registers, and one read
--- of the last register.
+-- The plan for the register ranges [0, 2), [124, 125) and [125, 126): one read of 125 registers,
+-- and one read of the last register.
 
 abbrev three : List Run
 three = run 0 2 ∷ run 124 125 ∷ run 125 126 ∷ []
@@ -107,7 +107,7 @@ three_contained (suc (suc (suc k))) d below = absurd (omega (arith, below))
 three_items_two_reads : FollowsRule three three_reads
 three_items_two_reads = record { ordered = three_ordered; begins = three_begins; ends = three_ends; contained = three_contained }
 
--- A plan for the items [0, 2) and [124, 126): two reads of two registers.
+-- The plan for the register ranges [0, 2) and [124, 126): two reads of two registers.
 
 abbrev two : List Run
 two = run 0 2 ∷ run 124 126 ∷ []

@@ -1,4 +1,5 @@
--- Proves that each item of a point list fits in one read and lies within the registers of its area.
+-- Proves that each item of a point list (the registers of a point and its scale point) fits in one
+-- read and lies within the registers of its area.
 use Rattle.std.proofs.Common.{◌≡◌, ◌∙◌, ℕ, suc, [], ◌∷◌, ◌<◌, ◌≤◌, Bool, List, length, map, get_or, sym, refl, ap, arith, inl, inr, subst, Some, None, IsSomeAnd}
 use Rattle.std.specs.declared.option.Option.{Option}
 use Rattle.std.specs.List.{All, Any, Contains, find}
@@ -28,7 +29,7 @@ any-run : (P : Run → Type 0) (points : List ListedPoint) (p : ListedPoint) →
 any-run P points p w h =
     (w.0, point_run p, omega (arith, w.1, length-map points point_run), get_or-map point_run points w.0 p (point_run p) w.1 ∙ ap point_run w.2, h)
 
--- The properties of the item of a point.
+-- The properties of the item of a point, which is the range of the point and its scale point.
 pub record ItemFacts (points : List ListedPoint) (p : ListedPoint) (item : Run) : Type 0 where
   pub readable : IsReadable item
   pub inside : item.end ≤ 65536

@@ -1,5 +1,5 @@
--- Proves that the reads of the planning rule form a valid plan, if each item fits in one read and
--- lies in its area.
+-- Proves that reads that follow the planning rule form a valid plan, if each item (a point and its
+-- scale point) fits in one read and lies in its area.
 use Rattle.std.proofs.Common.{◌≤◌, List, get_or, arith}
 use Rattle.std.specs.List.{All, Any}
 use Rattle.read_plan.specs.declared.run.Run.{Run}

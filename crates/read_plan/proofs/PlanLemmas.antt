@@ -1,4 +1,4 @@
--- Proves that the plan by the rule has the fewest reads.
+-- Proves that the plan that follows the planning rule has the fewest reads of all valid plans.
 use Rattle.std.proofs.Common.{◌≡◌, ◌∙◌, ℕ, ◌<◌, ◌≤◌, List, length, get_or, take, sym, ap, arith, inl, inr, subst}
 use Rattle.std.specs.List.{All, Any, Contains}
 use Rattle.std.proofs.lemmas.List.{get_or-take, get_or_default, length-take-le}
@@ -42,7 +42,8 @@ all-at {X} P xs all x w = subst P w.2 (all w.0 x w.1)
 pub contains-any : {X : Type 0} (P : X → Type 0) (xs : List X) → (w : Any P xs) → Contains xs w.1
 contains-any P xs w = (w.0, w.2, w.3)
 
--- True if the read `y` contains an item that begins at the first register of read `k`.
+-- True if the read `y` contains an item (a point and its scale point) that begins at the first
+-- register of read `k`.
 pub record HoldsBeginning (items reads : List Run) (k : ℕ) (y : Run) : Type 0 where
   pub item : Run
   pub among : Contains items item

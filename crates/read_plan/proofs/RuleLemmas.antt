@@ -173,7 +173,8 @@ module _ (items begins reads : List Run) (readable : All IsReadable items) (from
         );
   }
 
--- The reads follow the planning rule, in whatever order the items are listed.
+-- If the reads begin and end as computed from sorted items, they follow the planning rule for the
+-- same items in any order.
 pub rule-of-sorted : (items sorted ended begins reads : List Run) → IsPermutation items sorted → IsPermutation items ended → All IsReadable items → AreBeginnings sorted begins
     → AllZip (ReadsFrom ended) begins reads → FollowsRule items reads
 rule-of-sorted items sorted ended begins reads same-sorted same-ended readable from zipped =
@@ -184,8 +185,7 @@ rule-of-sorted items sorted ended begins reads same-sorted same-ended readable f
     let f = AllZip-get_or (ReadsFrom ended) begins reads k anything anything zipped within in
     record { same_area = f.same_area; first = f.first; end = greatest-permutation ended items (get_or begins k anything) (get_or reads k anything).end back f.end })
 
--- The items at which reads start are items of the list, so they have all properties that every item
--- has.
+-- Each item at which a read starts is in the list of items, in whatever order the items are sorted.
 pub beginnings-among : (items sorted ended begins : List Run) → IsPermutation items sorted → IsPermutation items ended → AreBeginnings sorted begins → All (Contains ended) begins
 beginnings-among items sorted ended begins same-sorted same-ended from =
     All-weaker (Contains sorted) (Contains ended)

@@ -42,7 +42,8 @@ scale-first points before after p scale runs puts name =
     ∙ ap (cond (bytes_eq p.name name) (Some (point_run p))) (runs name)
     ∙ chosen (is_sunssf p.kind) (bytes_eq p.name name) p (scale_point points name) scale
 
--- A scale point replaces in the map each later scale point of the list with the same name.
+-- If the loop stores one more scale point, the map has the first scale point of each name among the
+-- points visited. The loop visits the list from its last point to its first.
 pub scale-read : (yielded : List (Bor ListedPoint)) (p : Bor ListedPoint) (before after : BTreeMap (Bor (List ℕ)) Run) (name : List ℕ) (run : Run) → is_sunssf p.now.kind ≡ true
     → name ≡ p.now.name → run ≡ point_run p.now
     → AreScaleRuns (points-read yielded) before → Puts before after name run → AreScaleRuns (points-read (yielded ++ p ∷ [])) after
@@ -59,10 +60,10 @@ missing-run run None e = refl
 missing-run run (Some q) e = absurd (none-some (point_run q) (sym e))
 
 module _ (points : List ListedPoint) (runs : BTreeMap (Bor (List ℕ)) Run) (right : AreScaleRuns points runs) (p : ListedPoint) (name : List ℕ) (named : p.scale ≡ Named name) where
-  -- The item of a point whose scale point is in the map joins both ranges.
+  -- If the map has a point's scale point, the point's item is the range that contains both.
   pub item-found : (scale : Run) → run_named runs name ≡ Some scale → item_of points p ≡ joined (point_run p) scale
   item-found scale e = ap (with_scale_of points (point_run p)) named ∙ found-run (point_run p) scale (scale_point points name) (sym (right name) ∙ e)
 
-  -- The item of a point whose scale point is not in the map is the point's own range.
+  -- If the map does not have a point's scale point, the point's item is its own range.
   pub item-missing : run_named runs name ≡ None → item_of points p ≡ point_run p
   item-missing e = ap (with_scale_of points (point_run p)) named ∙ missing-run (point_run p) (scale_point points name) (sym (right name) ∙ e)

@@ -59,10 +59,11 @@ AreScaleRuns points runs = (name : List ℕ)
 abbrev pub item_of : List ListedPoint → ListedPoint → Run
 item_of points point = with_scale_of points (point_run point) point.scale
 
--- The items of all points of a point list, in the order of the list.
+-- The items of all points of a point list, in the order of the list. An item contains the registers
+-- of a point and of its scale point.
 abbrev pub items_of : List ListedPoint → List Run
 items_of points = map (item_of points) points
 
--- The ranges of all points of a list. They determine where each area begins and ends.
+-- The register ranges of all points of a list. They determine where each area begins and ends.
 abbrev pub runs_of : List ListedPoint → List Run
 runs_of points = map point_run points

@@ -7,7 +7,7 @@ use Rattle.read_plan.specs.Items.{items_of}
 use Rattle.read_plan.specs.PlannedReads.{read_runs}
 use Rattle.read_plan.specs.Plans.{FollowsRule}
 
--- A list of points, and the reads of its plan.
+-- A list of points, and the Modbus reads that poll them (the list's plan).
 pub record Planned : Type 0 where
   pub points : List ListedPoint
   pub reads : List PlannedRead
@@ -17,6 +17,6 @@ pub record IsPlanned (list : Planned) : Type 0 where
   pub points : IsPointList list.points
   pub rule : FollowsRule (items_of list.points) (read_runs list.reads)
 
--- The statement that each list of points has exactly one plan.
+-- The statement that each list of points has at most one plan by the planning rule.
 abbrev pub ListsArePlannedOnce : Type 0
 ListsArePlannedOnce = (a b : Planned) → IsPlanned a → IsPlanned b → a.points ≡ b.points → a ≡ b

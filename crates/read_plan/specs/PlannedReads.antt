@@ -20,13 +20,14 @@ read_run read =
 abbrev pub read_runs : List PlannedRead → List Run
 read_runs reads = map read_run reads
 
--- The content of a plan: the first register and the item of each point, and the reads.
+-- The content of a plan: its reads, and for each point the first register and the item, which is
+-- the range of registers that contains the point and its scale point.
 pub record Planned : Type 0 where
   pub starts : List ℕ
   pub items : List Run
   pub reads : List PlannedRead
 
--- True if a point whose first register is `start` begins inside this item.
+-- True if a point whose first register is `start` begins inside this range of registers.
 abbrev pub BeginsInside : Run → ℕ → Type 0
 BeginsInside item start = (item.first ≤ start) × (start < item.end)
 
@@ -46,7 +47,7 @@ abbrev pub StandsAt : Planned → (point read offset : ℕ) → Type 0
 StandsAt plan point read offset = (d : PlannedRead)
     → (slice_index_or plan.reads read d).span.address + offset ≡ slice_index plan.starts point
 
--- True if `place` is the index of the first of these reads that contains the item.
+-- True if `place` is the index of the first of these reads that contains the register range `item`.
 pub record IsFirstHolding (reads : List Run) (item : Run) (place : ℕ) : Type 0 where
   pub within : place < length reads
   pub holds : (d : Run) → Holds (slice_index_or reads place d) item

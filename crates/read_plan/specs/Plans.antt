@@ -1,4 +1,5 @@
--- Defines register ranges, valid plans of reads, and the planning rule, which gives one plan.
+-- Defines valid plans of reads, and the planning rule, which gives the plan with the fewest reads.
+-- An item is a range of registers (a point and its scale point) that one read must contain.
 use Rattle.std.specs.Prelude.{◌≡◌, ℕ, ◌+◌, ◌<◌, ◌≤◌, ◌⊎◌, List, length, take, slice_index_or}
 use Rattle.std.specs.List.{All, AllPairs, Any}
 use Rattle.mb_wire.specs.Spans.{code_of}
@@ -10,13 +11,14 @@ pub record SameArea (a b : Run) : Type 0 where
   pub function : a.function ≡ b.function
   pub area : a.area ≡ b.area
 
--- True if the read and the item are in the same area and the item lies inside the read.
+-- True if the read contains the register range `item`: both are in the same area (function and area
+-- number), and the range lies inside the read.
 pub record Holds (read item : Run) : Type 0 where
   pub same_area : SameArea read item
   pub from_first : read.first ≤ item.first
   pub to_end : item.end ≤ read.end
 
--- True if at least one of the reads contains the item.
+-- True if at least one of the reads contains the register range `item`.
 abbrev pub IsContained : List Run → Run → Type 0
 IsContained reads item = Any (λ read. Holds read item) reads
 
@@ -58,14 +60,15 @@ EndsBefore a b =
     ⊎ ((a.function ≡ b.function) × (a.area < b.area))
     ⊎ (SameArea a b × a.end < b.end)
 
--- True if the item lies within the 125 registers from the first register of the read.
+-- True if the register range `item` lies within the 125 registers from the first register of the
+-- read.
 pub record LiesWithinReach (read item : Run) : Type 0 where
   pub same_area : SameArea read item
   pub from_first : read.first ≤ item.first
   pub in_reach : item.end ≤ read.first + READ_LIMIT
 
 -- True if the read begins at the first register of the first item of its area that no earlier read
--- contains.
+-- contains. An item is a range of registers that one read must contain.
 pub record BeginsAtFirstUnheld (items earlier : List Run) (read : Run) : Type 0 where
   pub at_item : Any (λ item. SameArea read item × (item.first ≡ read.first)
       × ¬ IsContained earlier item)
@@ -73,13 +76,14 @@ pub record BeginsAtFirstUnheld (items earlier : List Run) (read : Run) : Type 0 
   pub first : All (λ item. SameArea read item → item.first < read.first
       → IsContained earlier item) items
 
--- True if the read ends at the greatest last register of the items within 125 registers from its
--- first register.
+-- True if the read ends at the greatest last register of the items (ranges that one read must
+-- contain) within 125 registers from its first register.
 pub record EndsAtLastInReach (items : List Run) (read : Run) : Type 0 where
   pub at_item : Any (λ item. LiesWithinReach read item × (item.end ≡ read.end)) items
   pub last : All (λ item. LiesWithinReach read item → item.end ≤ read.end) items
 
--- True if the reads are those that the planning rule gives for these items, in order.
+-- True if the reads are in order and follow the planning rule. Each read begins at the first item
+-- that no earlier read contains, and ends with the last item within 125 registers.
 pub record FollowsRule (items reads : List Run) : Type 0 where
   pub ordered : AllPairs ComesBefore reads
   pub begins : (k : ℕ) (d : Run) → k < length reads

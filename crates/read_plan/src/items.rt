@@ -72,7 +72,8 @@ pub fn item(runs: &ScaleRuns<'_>, point: &ListedPoint) -> Run
     }
 }
 
-/// Returns the items of the points, in the order of the point list.
+/// Returns the item of each point (the range of the point and its scale point), in the order of the
+/// point list.
 pub fn items(alloc: Global, points: &[ListedPoint]) -> Result<Vec<Run>, AllocError>
     ensures { IfOk result (λ v. v.items ≡ items_of points.now) }
 {

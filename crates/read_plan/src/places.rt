@@ -70,7 +70,7 @@ impl Plan {
     }
 
     /// Returns the location of the point at this index of the list, from 0: the first read that
-    /// contains the point's item, and the point's offset in that read.
+    /// contains the point and its scale point, and the point's offset in that read.
     pub fn place(&self, point: usize) -> Place
         requires { point < length self.now.items }
         ensures first { (d : Run) → IsFirstHolding (read_runs self.now.reads)

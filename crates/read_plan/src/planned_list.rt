@@ -8,7 +8,7 @@ use point_list::{ListedPoint, PointList};
 use std::alloc::{AllocError, Global};
 use std::marker::Model;
 
-/// A point list, and the reads of its plan.
+/// A point list, and the fewest Modbus reads that poll its points (the list's plan).
 #[derive(Drop)]
 pub struct PlannedList {
     list: PointList,

@@ -1,4 +1,4 @@
-//! The reads of a plan.
+//! The Modbus reads of a plan, which poll the points of a point list.
 ghost use Rattle.std.specs.Prelude.{◌≡◌, ◌≤◌, IfOk, map};
 ghost use Rattle.std.specs.List.{All};
 ghost use Rattle.read_plan.specs.Plans.{IsReadable};

@@ -1,4 +1,5 @@
-//! Creates the reads that the planning rule gives for a list of items.
+//! Creates the reads that the planning rule gives for a list of items. An item is a range of
+//! registers (a point and its scale point) that one read must contain.
 ghost use Rattle.std.specs.Prelude.{◌<◌, IfOk};
 ghost use Rattle.std.specs.List.{All, AllPairs, AllZip, Contains};
 ghost use Rattle.read_plan.specs.Beginnings.{ReadsFrom};

@@ -107,8 +107,8 @@ past_the_last_moment = refl
 past_a_place : meter_target (codes "/meters/m1/entries/0/1") ≡ None
 past_a_place = refl
 
--- An empty last segment is a malformed number and gives 400. It does not count as one segment too
--- many.
+-- An empty last segment is a malformed number, so the request gets status 400. The empty segment
+-- does not count as one segment too many.
 no_place : meter_target (codes "/meters/m1/entries/") ≡ Some (Own (Rejected BadRequest))
 no_place = refl
 

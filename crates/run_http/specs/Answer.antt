@@ -1,5 +1,5 @@
--- The response to the bytes that a client has sent so far. It is the response of `office_http` over
--- a link that delivers these bytes and then ends.
+-- The response to the bytes that a client has sent so far. The crate `office_http` computes the
+-- response, as if a connection delivered exactly these bytes and then ended.
 use Rattle.std.specs.Prelude.{◌⊎◌, ℕ, List, [], Option, Some, Result, Ok, Err}
 use Rattle.office_books.specs.Ledgers.{Ledger}
 use Rattle.office_core.specs.declared.office.Office.{Office}
@@ -10,8 +10,8 @@ use Rattle.mb_wire.specs.declared.link.LastTake.{LastTake}
 use Rattle.run_http.specs.declared.answer.ClientResponse.{ClientResponse}
 use Rattle.run_http.specs.declared.answer.ClientResponse.TheVariants.{Open, Replied, Failed}
 
--- A call of `handle` in `office_http` over the client's bytes ends with this result, and has
--- written this response.
+-- The function `handle` of the crate `office_http`, run on the client's bytes, ended with the
+-- result `ending` and wrote the response `reply`.
 pub record Serves {B : Type 0} (ledger : B → Ledger) (at : ℕ) (old new : Office B)
     (request : List ℕ) (ending : Result (Unit {0}) HandleFault) (reply : List ℕ) : Type 0 where
   pub left : List ℕ

@@ -38,7 +38,8 @@ headers_for false =
 abbrev pub first_line_end : List ℕ → Option ℕ
 first_line_end reply = position (λ byte. byte == 10) reply
 
--- The response with `more` inserted after this index. Without an index, the response is unchanged.
+-- The response `reply` with the bytes `more` inserted after the index `at`. Without an index, the
+-- response is unchanged.
 abbrev pub append_at : (more reply : List ℕ) → Option ℕ → List ℕ
 append_at more reply None = reply
 append_at more reply (Some at) = take (at + 1) reply ++ more ++ drop (at + 1) reply

@@ -1,5 +1,5 @@
--- Which quarter hours of a meter can change through new entries and voids, so that a client's copy
--- of the other quarter hours stays correct.
+-- Defines which quarter hours of a meter can change when entries are added or voided (withdrawn as
+-- false). A client's copy of all other quarter hours stays correct.
 use Rattle.std.specs.Prelude.{◌≡◌, ℕ, ◌+◌, ◌-◌, ◌%◌, ◌≤◌, nat_lt, List, ◌++◌, length, All, Option, Some, None}
 use Rattle.std.specs.List.{filter}
 use Rattle.energy_core.specs.declared.limits.TheConstants.{INTERVAL_SECONDS}
@@ -21,11 +21,12 @@ use Rattle.office_rules.specs.Meters.{opened, rows_of, installation_of}
 abbrev pub rows_before : (moment : ℕ) → List Share → List Share
 rows_before moment rows = filter (λ row. nat_lt row.start moment) rows
 
--- The meter entries with a sequence number below `place`, including voided entries.
+-- The meter entries with a sequence number below `place`, including voided (withdrawn) entries.
 abbrev pub entries_before : (place : ℕ) → List EntryRow → List EntryRow
 entries_before place entries = filter (λ entry. nat_lt entry.place place) entries
 
--- The sequence number of the meter's next entry. The opening entry has number 1.
+-- The sequence number that the meter's next entry will get. The opening entry, which installs the
+-- meter, has number 1. `rows_of` lists the entries after the opening entry.
 abbrev pub next_place : List Fact → Opening → ℕ
 next_place facts opening = length (rows_of facts opening) + 2
 
@@ -33,33 +34,33 @@ next_place facts opening = length (rows_of facts opening) + 2
 abbrev pub quarter_of : (moment : ℕ) → ℕ
 quarter_of moment = moment - moment % INTERVAL_SECONDS
 
--- The time of the last valid meter entry before the sequence number `place`. The opening entry is
--- always valid.
+-- The time of the last entry before the sequence number `place` that is not voided. The opening
+-- entry cannot be voided, so this time always exists.
 abbrev pub stood_at : List Fact → Opening → (place : ℕ) → ℕ
 stood_at facts opening place =
     let entries = entries_in (entries_before place (rows_of facts opening)) in
     (last_of (opened opening) entries).at
 
--- The time from which quarter hours can change, for a meter with this opening entry; 0 for a meter
--- without one.
+-- The time from which a meter's quarter hours can change, given its opening entry (the entry that
+-- installs the meter). The time is 0 if there is no meter.
 abbrev pub changes_of : List Fact → (place : ℕ) → Option Opening → ℕ
 changes_of facts place None = 0
 changes_of facts place (Some opening) = quarter_of (stood_at facts opening place)
 
--- The time from which a new entry or a void can change quarter hours of the meter. It is the start
--- of the quarter hour of the last valid entry before the sequence number `place`.
+-- The time from which quarter hours of the meter can change, if no entry before the sequence number
+-- `place` is voided. It is the start of the quarter hour with the last valid entry before `place`.
 abbrev pub changes_from : List Fact → (meter : List ℕ) → (place : ℕ) → ℕ
 changes_from facts meter place = changes_of facts place (opening_of facts meter)
 
--- If the record voids an entry of the meter, the entry's sequence number is at least `place`.
+-- If the record voids (withdraws) an entry of the meter, then the entry's sequence number is at
+-- least `place`.
 abbrev pub VoidsFrom : (meter : List ℕ) → (place : ℕ) → Fact → Type 0
 VoidsFrom meter place (fact.Void voided) = voided.meter ≡ meter → place ≤ voided.place
 VoidsFrom meter place _ = Unit {0}
 
--- States what later records leave unchanged, if they void no entry of the meter before the sequence
--- number `place`. `place` is at most the next unused number. Unchanged are the entries before
--- `place`, the time from which quarter hours can change, and the quarter hours before that time. A
--- copy of these quarter hours and the store's rows from that time on are complete.
+-- States that later records leave unchanged: the entries before the sequence number `place`, the
+-- time from which quarter hours can change, and the quarter hours before that time. A copy of these
+-- quarter hours, followed by the store's rows from that time on, has all rows.
 pub record StaysBefore (further facts : List Fact) (meter : List ℕ) (opening : Opening)
     (place : ℕ) : Type 0 where
   pub entries : entries_before place (rows_of (further ++ facts) opening)
@@ -73,8 +74,8 @@ pub record StaysBefore (further facts : List Fact) (meter : List ℕ) (opening :
       ≡ rows_before from (rows_of_meter facts meter)
       ++ rows_within (Between from till) (rows_of_meter (further ++ facts) meter)
 
--- If accepted later records void no entry of the meter before the sequence number `place`, then
--- they satisfy `StaysBefore`.
+-- If accepted later records void (withdraw) no entry of the meter before the sequence number
+-- `place`, then the meter's older quarter hours stay unchanged (`StaysBefore`).
 abbrev pub RowsBeforeStay : Type 0
 RowsBeforeStay = (further facts : List Fact) (meter : List ℕ) (opening : Opening) (place : ℕ)
     → AreLawful (further ++ facts) → opening_of facts meter ≡ Some opening
@@ -82,7 +83,8 @@ RowsBeforeStay = (further facts : List Fact) (meter : List ℕ) (opening : Openi
     → StaysBefore further facts meter opening place
 
 -- If no entry is voided, then only the quarter hour of a meter's last entry and later quarter hours
--- can change. The program reports the time of the last entry with the energy.
+-- can change. The program reports the time of that entry with the meter's energy, so a client knows
+-- which rows to query again.
 abbrev pub EntriesComeAfter : Type 0
 EntriesComeAfter = (facts : List Fact) (meter : List ℕ) (opening : Opening) → AreLawful facts
     → opening_of facts meter ≡ Some opening

@@ -1,5 +1,5 @@
--- The responses to queries for rows of a meter or for the meters at an accounting register, given
--- the program's answers.
+-- The responses to queries for rows of a meter, or for the meters at an accounting register (a
+-- named counter of a device).
 use Rattle.std.specs.Prelude.{◌≡◌, ℕ, true, List, [], ◌∷◌, ◌++◌, Option, Result, Ok, Err, IfOk, OnOk, codes}
 use Rattle.std.specs.declared.alloc.Global.{Global}
 use Rattle.std.specs.declared.vec.Vec.{Vec}
@@ -31,15 +31,16 @@ pub record AsksRows {B T : Type 0} (ledger : B → Ledger) (old new : Office B)
   pub gives : IfOk result (λ reported. reported ≡ answer)
   pub lists : OnOk result (ListsAccepted ledger old new answer says)
 
--- The response to a query for rows: the text of the rows, or the program's refusal.
+-- The response to a query for rows: the text of the rows, or an error response if the program
+-- refused the query.
 abbrev pub with_rows_reply : {T : Type 0} → (text : List T → List ℕ)
     → Result (Vec T Global) Refusal → List ℕ → List ℕ
 with_rows_reply text (Ok rows) before =
     with_reply Fine (codes "text/plain") (text rows.items) before
 with_rows_reply text (Err why) before = with_refusal why before
 
--- The call queries the store once, and appends the response with the rows or the refusal, unless
--- memory runs out.
+-- The call queries the store once. Unless memory runs out, it appends the response with the rows,
+-- or an error response if the program refused the query.
 pub record RepliesRows {B T : Type 0} (ledger : B → Ledger) (old new : Office B)
     (says : List Fact → Option (List T)) (text : List T → List ℕ) (from to : List ℕ) {E : Type 0}
     (result : Result (Unit {0}) E) : Type 0 where

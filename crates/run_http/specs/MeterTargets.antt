@@ -1,6 +1,7 @@
 -- The request targets for rows of a meter. `/meters/NAME/intervals/FROM/TILL` returns the quarter
 -- hours that start at FROM or later and before TILL. `/meters/NAME/entries/PLACE` returns the
--- entries from the sequence number PLACE on. `/meters/NAME/voids` returns the voided entries.
+-- entries from the sequence number PLACE on. `/meters/NAME/voids` returns the voided (withdrawn)
+-- entries.
 use Rattle.std.specs.Prelude.{ℕ, ◌+◌, ◌==◌, List, length, take, drop, position, bytes_eq, is_some, if◌then◌else◌, Option, Some, None, codes}
 use Rattle.http_request.specs.Values.{digits_in}
 use Rattle.http_request.specs.declared.status.Status.TheVariants.{BadRequest}
@@ -30,8 +31,8 @@ span_till (Some from) (Some till) = Some (Between from till)
 abbrev pub span_of : (from till : List ℕ) → Option Span
 span_of from till = span_till (digits_in from) (digits_in till)
 
--- The route to the quarter hours of a meter in a time span, or 400 without a span. An invalid name
--- matches no meter.
+-- The route to the quarter hours of a meter in a time span, or status 400 if the target has no
+-- valid span. An invalid name matches no meter.
 abbrev pub intervals_asked : (name : List ℕ) → Option Span → RunRoute
 intervals_asked name None = Own (Rejected BadRequest)
 intervals_asked name (Some span) = Intervals (named name) span
@@ -47,11 +48,12 @@ abbrev pub intervals_cut : (name text : List ℕ) → Option ℕ → Option RunR
 intervals_cut name text None = None
 intervals_cut name text (Some at) = intervals_till name (take at text) (drop (at + 1) text)
 
--- The route to quarter hours for the text after `intervals/`.
+-- The route of a request target to quarter hours, given its text after `intervals/`.
 abbrev pub intervals_in : (name text : List ℕ) → Option RunRoute
 intervals_in name text = intervals_cut name text (slash_in text)
 
--- The route to the entries of a meter from a sequence number on, or 400 without a number.
+-- The route to the entries of a meter from a sequence number on, or status 400 if the target has no
+-- valid number.
 abbrev pub entries_asked : (name : List ℕ) → (place : Option ℕ) → RunRoute
 entries_asked name None = Own (Rejected BadRequest)
 entries_asked name (Some place) = Entries (named name) place
@@ -69,7 +71,7 @@ rows_asked name None None = None
 rows_asked name None (Some text) = entries_at name text
 rows_asked name (Some text) entries = intervals_in name text
 
--- The route for the text after `/meters/NAME/`.
+-- The route of a request target, given its text after `/meters/NAME/`.
 abbrev pub rows_in : (name text : List ℕ) → Option RunRoute
 rows_in name text =
     if bytes_eq text (codes "voids") then Some (Voids (named name))
@@ -81,7 +83,7 @@ abbrev pub meter_cut : (text : List ℕ) → Option ℕ → Option RunRoute
 meter_cut text None = None
 meter_cut text (Some at) = rows_in (take at text) (drop (at + 1) text)
 
--- The route for the text after `/meters/`.
+-- The route of a request target, given its text after `/meters/`.
 abbrev pub meter_in : List ℕ → Option RunRoute
 meter_in text = meter_cut text (slash_in text)
 

@@ -1,5 +1,5 @@
--- The response to a query for `/metrics`, from the counts and from the registers and meters in the
--- store.
+-- The response to a query for `/metrics`: the program's counts of polls and readings, and the
+-- registers and meters in the store.
 use Rattle.std.specs.Prelude.{List, [], ℕ, Result, Ok, Err, codes}
 use Rattle.std.specs.declared.alloc.Global.{Global}
 use Rattle.std.specs.declared.vec.Vec.{Vec}
@@ -12,7 +12,7 @@ use Rattle.run_http.specs.Texts.MetricsText.{with_metrics}
 use Rattle.run_status.specs.declared.status.counts.Counts.{Counts}
 use Rattle.run_status.specs.declared.status.status.DeviceState.{DeviceState}
 
--- The response with the metrics, or with the program's refusal of the query.
+-- The response with the metrics, or an error response if the program refused the query.
 abbrev pub with_metrics_reply : Counts → List DeviceState → Result (Vec SiteRow Global) Refusal
     → List ℕ → List ℕ
 with_metrics_reply counts devices (Ok rows) text =

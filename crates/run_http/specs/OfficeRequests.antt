@@ -1,4 +1,6 @@
--- Recognizes requests for all quarter hours of a meter, and requests that may void an entry.
+-- Recognizes two kinds of requests. A request for all quarter hours of a meter may get a streamed
+-- response. A request to void an entry (to withdraw a false reading) can change rows of streamed
+-- responses.
 use Rattle.std.specs.Prelude.{◌≡◌, ◌&&◌, List, ℕ, Bool, false, Option, codes, is_some}
 use Rattle.std.specs.Str.{bytes_eq}
 use Rattle.httparse.specs.Spans.{span_bytes}
@@ -12,19 +14,19 @@ use Rattle.http_request.specs.declared.head.head.HeadState.TheVariants.{Open, To
 use Rattle.interval_core.specs.Lines.{intervals_text}
 use Rattle.run_http.specs.MeterTargets.{after}
 
--- The bytes request all quarter hours of the meter. The response has the program's answer to that
--- query, for any answer.
+-- The bytes request all quarter hours of the meter. Whatever the program answers to that query
+-- (`office.intervals`), the response reports that answer.
 abbrev pub AsksAllRows : Table → (bytes : List ℕ) → (meter : Option (List ℕ)) → Type 0
 AsksAllRows table bytes meter = (office : Office)
     → IsReply office table bytes (reply_bytes (lines_reply intervals_text (office.intervals meter)))
 
--- True if the request may void an entry. Such a request is a POST to a target that begins with
--- `/meters/`.
+-- True if the request may void (withdraw) an entry of a meter. The request is then a POST to a
+-- target that begins with `/meters/`.
 abbrev pub may_void_by : (method target : List ℕ) → Bool
 may_void_by method target =
     bytes_eq method (codes "POST") && is_some (after (codes "/meters/") target)
 
--- True if the bytes hold a complete head of a request that may void an entry.
+-- True if the bytes hold a complete head of a request that may void (withdraw) an entry.
 abbrev pub may_void_in : (bytes : List ℕ) → HeadState → Bool
 may_void_in bytes Open = false
 may_void_in bytes TooLarge = false
@@ -32,7 +34,7 @@ may_void_in bytes NoHead = false
 may_void_in bytes (Whole at) =
     may_void_by (span_bytes bytes at.method) (span_bytes bytes at.target)
 
--- The result says whether the bytes hold the head of a request that may void an entry.
+-- The result says whether the bytes hold the head of a request that may void (withdraw) an entry.
 pub record MayVoid (bytes : List ℕ) (result : Bool) : Type 0 where
   pub head_state : HeadState
   pub looks : Looks bytes head_state

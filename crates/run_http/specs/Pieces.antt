@@ -35,8 +35,8 @@ use Rattle.run_http.specs.declared.row_sizes.Sizes.{Sizes}
 abbrev pub rows_between : List Fact → (meter : Option (List ℕ)) → (from till : ℕ) → List Share
 rows_between facts meter from till = rows_in (intervals_within facts meter (Between from till))
 
--- The rows that are still to be written: the rows not yet queried, followed by the stored last
--- rows.
+-- The rows that are still to be written: the rows not yet queried, followed by the last rows, which
+-- were copied into memory when the response began.
 abbrev pub rows_left : List Fact → RemainingRows → List Share
 rows_left facts left = rows_between facts left.meter left.from left.till ++ left.last.items
 
@@ -56,15 +56,15 @@ abbrev pub last_quarter : Option Installation → ℕ
 last_quarter None = 0
 last_quarter (Some it) = quarter_of it.last.at
 
--- The rows still to be queried start before the quarter hour of the meter's last entry, so that new
--- entries change none of them.
+-- The rows still to be queried start before the quarter hour of the meter's last entry, so no new
+-- entry changes them while the response is sent.
 abbrev pub IsSettled : List Fact → RemainingRows → Type 0
 IsSettled facts left =
     left.from < left.till
     → left.till ≤ last_quarter (option_and_then (meter_of facts) left.meter)
 
--- If later records void no entry that the meter has now, they do not change the text still to be
--- written. All chunks then belong to the time at which the response began.
+-- If later records void (withdraw) no entry that the meter has now, they do not change the text
+-- still to be written. All chunks then belong to the time at which the response began.
 abbrev pub TextStays : Type 0
 TextStays = (further facts : List Fact) (meter : List ℕ) (opening : Opening) (left : RemainingRows)
     → AreLawful (further ++ facts) → opening_of facts meter ≡ Some opening
@@ -95,8 +95,8 @@ pub record IsBegun (facts : List Fact) (meter : List ℕ) (from till : ℕ)
   pub reports : put ++ text_left facts left ≡ reply (rows_between facts (Some meter) from till)
   pub settled : IsSettled facts left
 
--- If `it` is the meter as the program reports it now, the response has begun as in `IsBegun`, or
--- the store failed. Memory may also have run out.
+-- The result of beginning a streamed response, if `it` is the meter's present state in the store.
+-- The response has begun as `IsBegun` says, or the store failed, or memory ran out.
 abbrev pub AreBegun : {B E : Type 0} → (B → Ledger) → (old new : Office B) → Installation
     → (from till : ℕ) → (reply : List Share → List ℕ) → (put : List ℕ)
     → (answer : Result (Unit {0}) Refusal) → Result (Result RemainingRows Refusal) E → Type 0
@@ -110,7 +110,8 @@ AreBegun ledger old new it from till reply put answer (Ok (Err why)) =
     → IsOutside ⊥ (failures_of ledger old) (failures_of ledger new) why)
 AreBegun ledger old new it from till reply put answer (Err fault) = Unit {0}
 
--- The call queries the store, which changes no record, and begins the response as in `AreBegun`.
+-- The call begins a streamed response with the quarter hours of a meter, as `AreBegun` says. It
+-- only queries the store, and changes no record.
 pub record BeginsReply {B : Type 0} (ledger : B → Ledger) (old new : Office B) (it : Installation)
     (from till : ℕ) (reply : List Share → List ℕ) (put : List ℕ) {E : Type 0}
     (result : Result (Result RemainingRows Refusal) E) : Type 0 where
@@ -122,20 +123,20 @@ pub record BeginsReply {B : Type 0} (ledger : B → Ledger) (old new : Office B)
 abbrev pub with_rows : List ℕ → List Share → List ℕ
 with_rows text rows = with_reply Fine (codes "text/plain") (intervals_text rows) text
 
--- The response with all quarter hours of a meter, without Content-Length. The rows start at 0 or
--- later and before 2^64 - 1 (`RowsBeforeStay`).
+-- The response with all quarter hours of a meter. Its head has no Content-Length, so the body ends
+-- when the connection closes.
 abbrev pub with_all_rows : List ℕ → List Share → List ℕ
 with_all_rows text rows = text ++ reply_bytes (lines_reply intervals_text (Ok rows))
 
 -- ---- The size of a streamed response.
 
--- The sizes equal the number of bytes in the rows' lines, and the number of rows.
+-- The sizes are the number of bytes in the rows' lines, and the number of rows.
 abbrev pub AreSizes : Sizes → List Share → Type 0
 AreSizes sizes rows =
     (sizes.bytes ≡ length (flat_map share_line rows)) × (sizes.count ≡ length rows)
 
--- The number of rows rises by one, and the size of the row's line is added to the total size,
--- unless memory runs out.
+-- The effect of measuring one more row: the number of rows rises by one, and the size of the row's
+-- line is added to the total size. After memory ran out, the sizes are unknown.
 abbrev pub SizesRow : RowSizes → Share → RowSizes → Type 0
 SizesRow old row new = new.is_whole ≡ true
     → (old.is_whole ≡ true) × (new.sizes.bytes ≡ old.sizes.bytes + length (share_line row))
@@ -155,7 +156,8 @@ AreSized ledger old new left answer (Ok (Err why)) =
     (failures_of ledger old) (failures_of ledger new) answer)
 AreSized ledger old new left answer (Err fault) = Unit {0}
 
--- The size in bytes of a response's body, given the sizes of its rows that are still to be queried.
+-- The size in bytes of a response's body, for its Content-Length. `sizes` are the sizes of the rows
+-- that are still to be queried.
 abbrev pub body_size : RemainingRows → Sizes → ℕ
 body_size left sizes =
     sizes.bytes
@@ -176,9 +178,9 @@ pub record SizesRows {B : Type 0} (ledger : B → Ledger) (old new : Office B) (
 
 -- ---- The chunks of a streamed response.
 
--- A chunk was written to the response, with rows that start within `seconds` seconds. If rows were
--- still to be queried before the chunk, then fewer rows are after it. The meter and the end of the
--- rows are unchanged.
+-- The progress of a streamed response by one chunk, whose rows start within the next `seconds`
+-- seconds. If rows were still to be queried, then fewer rows are left. The meter and the end of the
+-- rows stay the same.
 pub record MovesOn (left later : RemainingRows) (seconds : ℕ) : Type 0 where
   pub meter : later.meter ≡ left.meter
   pub till : later.till ≡ left.till
@@ -207,7 +209,8 @@ pub record ReportsOn {B : Type 0} (ledger : B → Ledger) (old new : Office B) (
   pub asks : OnlyAsks ledger old new answer
   pub reports : HasReported ledger old new answer left later seconds from to result
 
--- If no rows are still to be queried, then the call writes the remaining text of the response.
+-- If all rows were queried, then the call writes the remaining text of the response: the copied
+-- last rows, and the line with the number of rows.
 abbrev pub ReportsRest : RemainingRows → (from to : List ℕ) → Type 0
 ReportsRest left from to =
     (facts : List Fact) → left.till ≤ left.from → to ≡ from ++ text_left facts left
@@ -221,18 +224,18 @@ pub record Piece : Type 0 where
   pub later : RemainingRows
   pub text : List ℕ
 
--- The state of a streamed response after some chunks, the latest chunk first.
+-- The state of a streamed response after some chunks, which the list has with the latest first.
 abbrev pub left_after : RemainingRows → List Piece → RemainingRows
 left_after left [] = left
 left_after left (piece ∷ earlier) = piece.later
 
--- The text of a streamed response after some chunks, the latest chunk first.
+-- The text of a streamed response after some chunks, which the list has with the latest first.
 abbrev pub text_after : List ℕ → List Piece → List ℕ
 text_after text [] = text
 text_after text (piece ∷ earlier) = piece.text
 
--- True if a chunk has the next rows of a response that is sent in chunks. The records added since
--- the response began void no meter entry that was recorded by then.
+-- A chunk has the next rows of a streamed response. The records that were added since the response
+-- began void no meter entry that existed at its beginning.
 pub record IsPiece (facts : List Fact) (meter : List ℕ) (opening : Opening) (left : RemainingRows)
     (text : List ℕ) (piece : Piece) : Type 0 where
   pub lawful : AreLawful (piece.further ++ facts)
@@ -251,9 +254,9 @@ ArePieces facts meter opening left text (piece ∷ earlier) =
     IsPiece facts meter opening (left_after left earlier) (text_after text earlier) piece
     × ArePieces facts meter opening left text earlier
 
--- If no record added between chunks voids an entry that the meter had at the beginning, then the
--- chunks together are complete. The written text and the remaining text are then the response as of
--- its beginning.
+-- If no record added between chunks voids (withdraws) an entry that the meter had at the beginning,
+-- then the chunks together are complete. The written text and the remaining text are then the
+-- response as of its beginning.
 abbrev pub PiecesAreWhole : Type 0
 PiecesAreWhole = (facts : List Fact) (meter : List ℕ) (opening : Opening) (left : RemainingRows)
     (text : List ℕ) (pieces : List Piece) → opening_of facts meter ≡ Some opening

@@ -1,4 +1,4 @@
--- The responses to queries for the energy of an accounting register, given the program's answers.
+-- The responses to queries for the energy of an accounting register (a named counter of a device).
 use Rattle.std.specs.Prelude.{◌≡◌, ℕ, false, List, map, Option, Some, Result, Ok, Err, IfOk, OnOk, codes}
 use Rattle.std.specs.Option.{option_and_then}
 use Rattle.std.specs.Io.KnownBytes.{Appends}
@@ -29,8 +29,8 @@ pub record PutsLast {W E : Type 0} (contents : W → Option (List ℕ))
   pub finishes : Finishes contents old new
   pub whole : OnOk result (new.failed ≡ false)
 
--- `Is` accepts the report on the register's daily energy within the range of the form, in the
--- configured time zone.
+-- The condition `Is` holds for the text of the report on a register's daily energy. The report
+-- covers the days that the form requests, in the site's time zone.
 abbrev pub IsReport : Zone → History → (register : Option (List ℕ)) → ReportForm
     → (Is : List ℕ → Type 0) → Type 0
 IsReport zone past register form Is =
@@ -49,8 +49,7 @@ pub record ReportsDays (zone : Zone) (past : History) (register : Option (List �
       IsFound (there ≡ Some tt) there before after answer
   pub report : OnOk answer (IsReport zone past register form Is)
 
--- For every history of accepted events that matches the program's state, `ReportsDays` describes
--- the report.
+-- The report follows from the events that the program accepted earlier, as `ReportsDays` states.
 abbrev pub ReportsDaysReport : {B : Type 0} → (B → Ledger) → (old new : Office B)
     → (register : Option (List ℕ)) → ReportForm → Result (Unit {0}) Refusal → (Is : List ℕ → Type 0)
     → Type 0
@@ -68,13 +67,13 @@ pub record AsksEnergy {B : Type 0} (ledger : B → Ledger) (old new : Office B)
   pub gives : IfOk result (λ reported. reported ≡ answer)
   pub reports : OnOk result (ReportsDaysReport ledger old new register form answer (Appends had holds))
 
--- The response with the energy report, or with the program's refusal.
+-- The response with the energy report, or an error response if the program refused the query.
 abbrev pub with_energy_reply : Result (Unit {0}) Refusal → (report : List ℕ) → List ℕ → List ℕ
 with_energy_reply (Ok done) report text = with_reply Fine (codes "text/plain") report text
 with_energy_reply (Err why) report text = with_refusal why text
 
--- The call queries the store once, and appends the response with the report or the refusal, unless
--- memory runs out.
+-- The call queries the store once. Unless memory runs out, it appends the response with the report,
+-- or an error response if the program refused the query.
 pub record RepliesEnergy {B : Type 0} (ledger : B → Ledger) (old new : Office B)
     (register : Option (List ℕ)) (form : ReportForm) (from to : List ℕ) {E : Type 0}
     (result : Result (Unit {0}) E) : Type 0 where

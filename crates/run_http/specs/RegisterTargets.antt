@@ -46,8 +46,8 @@ abbrev pub lines_of : DayRange → Period → ReportForm
 lines_of range period =
     record { range = range; period = period; unit = MilliwattHours; format = Text }
 
--- The route to the daily energy in a range of days, or 400 without a range. An invalid name matches
--- no register.
+-- The route to the daily energy in a range of days, or status 400 if the target has no valid range.
+-- An invalid name matches no register.
 abbrev pub days_asked : (name : List ℕ) → Option DayRange → RunRoute
 days_asked name None = Own (Rejected BadRequest)
 days_asked name (Some range) = Energy (named name) (lines_of range period.Day)
@@ -72,7 +72,7 @@ abbrev pub IsDaysCut : (name text : List ℕ) → (at : Option ℕ) → Option R
 IsDaysCut name text None route = route ≡ None
 IsDaysCut name text (Some at) route = IsDaysTill name (take at text) (drop (at + 1) text) route
 
--- The route for the text after `days/`.
+-- The route of a request target to daily energy, given its text after `days/`.
 abbrev pub IsDaysIn : (name text : List ℕ) → Option RunRoute → Type 0
 IsDaysIn name text route = IsDaysCut name text (slash_in text) route
 
@@ -96,7 +96,7 @@ abbrev pub IsRowsAsked : (is_meters : Bool) → (name text : List ℕ) → Optio
 IsRowsAsked true name text route = route ≡ Some (Meters (named name))
 IsRowsAsked false name text route = IsEnergyIn name text route
 
--- The route for the text after `/registers/NAME/`.
+-- The route of a request target, given its text after `/registers/NAME/`.
 abbrev pub IsRowsIn : (name text : List ℕ) → Option RunRoute → Type 0
 IsRowsIn name text route = IsRowsAsked (bytes_eq text (codes "meters")) name text route
 
@@ -106,7 +106,7 @@ abbrev pub IsRegisterCut : (text : List ℕ) → (at : Option ℕ) → Option Ru
 IsRegisterCut text None route = route ≡ None
 IsRegisterCut text (Some at) route = IsRowsIn (take at text) (drop (at + 1) text) route
 
--- The route for the text after `/registers/`.
+-- The route of a request target, given its text after `/registers/`.
 abbrev pub IsRegisterIn : (text : List ℕ) → Option RunRoute → Type 0
 IsRegisterIn text route = IsRegisterCut text (slash_in text) route
 

@@ -36,7 +36,8 @@ path_named target =
     else if bytes_eq target (codes "/site") then Some Site
     else option_map (λ part. Own (Page part)) (part_of target)
 
--- The route that was found for a fixed path, or else the route of the target to rows of a meter.
+-- The route of a target. If it is no fixed path such as `/status`, then the target may request rows
+-- of a meter.
 abbrev pub or_meter : (target : List ℕ) → Option RunRoute → Option RunRoute
 or_meter target None = meter_target target
 or_meter target (Some route) = Some route
@@ -45,8 +46,8 @@ or_meter target (Some route) = Some route
 abbrev pub plain_target : (target : List ℕ) → Option RunRoute
 plain_target target = or_meter target (path_named target)
 
--- The route that was found earlier, or else the route of the target to the energy or the meters of
--- an accounting register.
+-- The route of a target. If it is no fixed path and requests no rows of a meter, then it may
+-- request the energy or the meters of an accounting register.
 abbrev pub IsElse : (target : List ℕ) → Option RunRoute → Option RunRoute → Type 0
 IsElse target None route = IsRegisterTarget target route
 IsElse target (Some plain) route = route ≡ Some plain
@@ -65,7 +66,7 @@ IsTargetUnless false target route = IsWholeTarget target route
 abbrev pub IsTarget : (target : List ℕ) → Option RunRoute → Type 0
 IsTarget target route = IsTargetUnless (has_query target) target route
 
--- The route of a request with this method. A method other than GET gets 405.
+-- The route of a request with this method. A request with a method other than GET gets status 405.
 abbrev pub route_by : (method : List ℕ) → Option RunRoute → Option RunRoute
 route_by method None = None
 route_by method (Some route) =
@@ -102,7 +103,7 @@ abbrev pub is_forbidden : List ℕ → HeadState → Bool
 is_forbidden bytes head_state =
     is_cross_site_in bytes head_state && not (asks_for_page bytes head_state)
 
--- The route of the request, or 403 if `forbidden` is true.
+-- The route of the request, or status 403 if `forbidden` is true.
 abbrev pub IsPermittedUnless : (forbidden : Bool) → List ℕ → HeadState → Option RunRoute → Type 0
 IsPermittedUnless true bytes head_state route = route ≡ Some (Own (Rejected Forbidden))
 IsPermittedUnless false bytes head_state route = IsRouteIn bytes head_state route
@@ -113,7 +114,7 @@ abbrev pub IsPermitted : List ℕ → HeadState → Option RunRoute → Type 0
 IsPermitted bytes head_state route =
     IsPermittedUnless (is_forbidden bytes head_state) bytes head_state route
 
--- The route of the request, or 421 if its host was rejected. `may` says whether the host was
+-- The route of the request, or status 421 if its host was rejected. `may` says whether the host was
 -- accepted.
 abbrev pub IsRunRoute : (may : Bool) → List ℕ → HeadState → Option RunRoute → Type 0
 IsRunRoute true bytes head_state route = IsPermitted bytes head_state route

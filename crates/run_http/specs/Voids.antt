@@ -1,4 +1,5 @@
--- The voided entries of a meter.
+-- The voided entries of a meter: entries that were withdrawn as false. They stay in the store and
+-- no longer count.
 use Rattle.std.specs.Prelude.{ℕ, Bool, false, not, List, filter, Option, Some}
 use Rattle.std.specs.Option.{option_map, option_and_then}
 use Rattle.office_events.specs.declared.facts.Fact.{Fact}
@@ -7,7 +8,8 @@ use Rattle.office_books.specs.declared.entries.MeterEntry.{MeterEntry}
 use Rattle.office_books.specs.declared.entries.MeterEntry.TheVariants.{Opening, Later}
 use Rattle.office_books.specs.Entries.{entries_at}
 
--- True if the meter entry is voided. The opening entry cannot be voided.
+-- True if the meter entry is voided (withdrawn as false). The opening entry, which installs the
+-- meter, cannot be voided.
 abbrev pub is_voided : MeterEntry → Bool
 is_voided (Opening last) = false
 is_voided (Later row sf) = not row.stands

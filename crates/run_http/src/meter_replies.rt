@@ -38,7 +38,8 @@ pub(crate) fn ask_intervals<B: Books>(
     }
 }
 
-// Appends the response with the quarter hours of a meter, or with the program's refusal.
+// Appends the response with the quarter hours of a meter, or an error response if the program
+// refused the query.
 fn write_reported_intervals(
     alloc: Global,
     text: &mut Vec<u8>,
@@ -74,7 +75,8 @@ pub fn reply_intervals<B: Books>(
     write_reported_intervals(alloc, text, &answer)
 }
 
-// Appends the response with the entries of a meter, or with the program's refusal.
+// Appends the response with the entries of a meter, or an error response if the program refused the
+// query.
 fn write_reported_entries(
     alloc: Global,
     text: &mut Vec<u8>,

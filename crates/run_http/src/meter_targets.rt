@@ -1,4 +1,4 @@
-//! Parses the request targets for quarter hours, entries and voids of a meter.
+//! Parses the request targets for quarter hours, entries and voided (withdrawn) entries of a meter.
 ghost use Rattle.std.specs.Prelude.{◌≡◌, option_map};
 ghost use Rattle.run_http.specs.MeterTargets as targets;
 
@@ -29,7 +29,8 @@ fn span_of(from: &[u8], till: &[u8]) -> Option<Span>
     Some(Span::Between { from, till })
 }
 
-// Returns the route to the quarter hours of a meter in a time span, or 400 without a span.
+// Returns the route to the quarter hours of a meter in a time span, or status 400 if the target has
+// no valid span.
 fn intervals_asked(name: &[u8], span: Option<Span>) -> RunRoute
     ensures { result ≡ targets.intervals_asked name.now span }
 {
@@ -61,7 +62,8 @@ fn intervals_in(name: &[u8], text: &[u8]) -> Option<RunRoute>
     intervals_till(name, &text[..at], &text[at + 1..])
 }
 
-// Returns the route to the entries of a meter from a sequence number on, or 400 without a number.
+// Returns the route to the entries of a meter from a sequence number on, or status 400 if the
+// target has no valid number.
 fn entries_asked(name: &[u8], place: Option<u64>) -> RunRoute
     ensures { result ≡ targets.entries_asked name.now place }
 {
@@ -108,7 +110,7 @@ fn meter_in(text: &[u8]) -> Option<RunRoute>
     rows_in(&text[..at], &text[at + 1..])
 }
 
-/// Parses a request target for quarter hours, entries or voids of a meter.
+/// Parses a request target for quarter hours, entries or voided (withdrawn) entries of a meter.
 pub(crate) fn meter_target(target: &[u8]) -> Option<RunRoute>
     ensures { result ≡ targets.meter_target target.now }
 {

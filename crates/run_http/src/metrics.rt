@@ -13,7 +13,7 @@ use office_events::Refusal;
 use run_status::{Counts, DeviceState};
 use std::alloc::{AllocError, Global};
 
-// Appends the response with the metrics, or with the program's refusal.
+// Appends the response with the metrics, or an error response if the program refused the query.
 fn append_answer(
     alloc: Global,
     text: &mut Vec<u8>,

@@ -1,4 +1,6 @@
-//! Recognizes requests for all quarter hours of a meter, and requests that may void an entry.
+//! Recognizes two kinds of requests. A request for all quarter hours of a meter may get a streamed
+//! response. A request to void an entry (to withdraw a false reading) can change rows of streamed
+//! responses.
 ghost use Rattle.std.specs.Prelude.{◌≡◌, IfSome};
 ghost use Rattle.http_request.specs.Head.Heads.{Looks};
 ghost use Rattle.http_request.specs.declared.head.head.HeadState.TheVariants.{Whole};
@@ -52,7 +54,7 @@ fn may_void_by(method: &[u8], target: &[u8]) -> bool
     method == b"POST".as_slice() && after(b"/meters/", target).is_some()
 }
 
-/// Returns whether a request may void an entry of a meter.
+/// Returns whether a request may void (withdraw) an entry of a meter.
 pub fn may_void(request: &[u8]) -> bool
     ensures { MayVoid request.now result }
 {

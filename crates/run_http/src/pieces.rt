@@ -57,16 +57,16 @@ fn end_of_streamed(it: &Installation, from: u64, till: u64) -> u64
     first_asked(it, from).max(till.min(quarter_of(it.last.at)))
 }
 
-/// Returns whether the rows that are queried chunk by chunk span more than `seconds` seconds. The
-/// response has the quarter hours between `from` and `till`.
+/// Returns whether a response with the quarter hours between `from` and `till` is long: its rows
+/// that are queried chunk by chunk span more than `seconds` seconds.
 pub fn is_long_response(it: &Installation, from: u64, till: u64, seconds: u64) -> bool
     ensures { result ≡ pieces.is_long_response it.now from till seconds }
 {
     end_of_streamed(it, from, till).saturating_sub(first_asked(it, from)) > seconds
 }
 
-// Queries and stores the rows that new entries may change. All other rows are queried later, chunk
-// by chunk.
+// Queries the last rows of a response, which new entries may change, and keeps them in memory. All
+// other rows are queried later, chunk by chunk.
 fn begin_rows<B: Books>(
     alloc: Global,
     office: &mut Office<B>,
@@ -94,7 +94,8 @@ fn begin_rows<B: Books>(
     }
 }
 
-// Queries the rows that are still to be written, and measures the size of their lines.
+// Queries the rows that are still to be written, and measures their lines for the response's
+// Content-Length.
 fn ask_sizes<B: Books>(
     alloc: Global,
     office: &mut Office<B>,
@@ -224,7 +225,7 @@ fn piece_end(from: u64, till: u64, seconds: u64) -> u64
     }
 }
 
-// Appends the lines of a chunk's rows, and records that the chunk ends at `till`.
+// Appends the lines of a chunk's rows. The rows of the next chunk then start at `till`.
 fn add_piece(
     text: &mut Vec<u8>,
     left: &mut RemainingRows,
@@ -280,7 +281,7 @@ pub fn write_next_rows<B: Books>(
     }
 }
 
-// Returns the number of rows in the complete response, when only the stored last rows are left to
+// Returns the number of rows in the complete response, when only the copied last rows are left to
 // write.
 fn count_of(left: &RemainingRows) -> Option<usize>
     ensures { IfSome result (λ count. count ≡ left.now.reported + length left.now.last.items) }
@@ -288,8 +289,9 @@ fn count_of(left: &RemainingRows) -> Option<usize>
     left.reported.checked_add(left.last.len())
 }
 
-/// Appends the stored last rows of a response, and the line with the number of all its rows. All
-/// other rows must already be written. If memory runs out, a part of the text remains.
+/// Appends the last rows of a response, which were copied when the response began, and the line
+/// with the number of all rows. All other rows must already be written. If memory runs out, a part
+/// of the text remains.
 pub fn write_last_rows(text: &mut Vec<u8>, left: &RemainingRows) -> Result<(), AllocError>
     ensures { OnOk result (ReportsRest left.now text.old.items text.new.items) }
 {
@@ -301,7 +303,8 @@ pub fn write_last_rows(text: &mut Vec<u8>, left: &RemainingRows) -> Result<(), A
 }
 
 /// Theorem: later records do not change the text of a response that is still to be written. The
-/// exception is a void of an entry that the meter had when the response began.
+/// exception is a record that voids (withdraws) an entry that the meter had when the response
+/// began.
 pub fn text_stays()
     ensures { TextStays }
 {

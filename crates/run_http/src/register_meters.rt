@@ -13,7 +13,8 @@ use office_core::Office;
 use office_events::{Installation, Name, Refusal};
 use std::alloc::{AllocError, Global};
 
-// Appends the response with the meters at an accounting register, or with the program's refusal.
+// Appends the response with the meters at an accounting register, or an error response if the
+// program refused the query.
 fn write_reported_meters(
     alloc: Global,
     text: &mut Vec<u8>,

@@ -13,8 +13,8 @@ use office_events::{Name, Refusal};
 use std::alloc::{AllocError, Global};
 use std::io::Write;
 
-// Writes the rest of an energy report, unless the program refused the query. A failed write means
-// that memory ran out.
+// Writes the remaining lines of an energy report, unless the program refused the query. A failed
+// write means that memory ran out.
 fn add_rest<W: Write>(
     reported: Result<(), Refusal>,
     rows: &mut ReportRows<'_, W>,
@@ -51,8 +51,9 @@ fn write_energy<B: Books, W: Write>(
     add_rest(reported, &mut rows)
 }
 
-/// Appends the response to a query for the energy of an accounting register: the report, or the
-/// refusal. If memory runs out, a part of the response remains.
+/// Appends the response to a query for the energy of an accounting register: the report, or an
+/// error response if the program refused the query. If memory runs out, a part of the response
+/// remains.
 pub fn write_energy_reply(
     text: &mut Vec<u8>,
     answer: &Result<(), Refusal>,

@@ -54,7 +54,8 @@ fn lines_of(range: DayRange, period: Period) -> ReportForm
     }
 }
 
-// Returns the route to the daily energy in a range of days, or 400 without a range.
+// Returns the route to the daily energy in a range of days, or status 400 if the target has no
+// valid range.
 fn days_asked(name: &[u8], range: Option<DayRange>) -> RunRoute
     ensures { result ≡ targets.days_asked name.now range }
 {

@@ -18,7 +18,7 @@ use run_status::{
 use std::alloc::{AllocError, Global};
 use web_page::{PagePart, part_of};
 
-/// A route whose response needs no data of the store.
+/// A route whose response needs no query of the store.
 #[derive(Clone, Copy, Debug, PartialEq, Eq)]
 pub enum StatusRoute {
     /// The counts, the device states, and what the devices lack, as JSON (`/status`).
@@ -30,10 +30,10 @@ pub enum StatusRoute {
     Rejected(Status),
 }
 
-/// A route that `sunreg run` adds to the routes of `office_http`.
+/// A route that `sunreg run` adds to the routes of the crate `office_http`.
 #[derive(Clone, Copy, Debug, PartialEq, Eq)]
 pub enum RunRoute {
-    /// A route whose response needs no data of the store.
+    /// A route whose response needs no query of the store.
     Own(StatusRoute),
     /// The counts and the energy of the open meters, in Prometheus's text format (`/metrics`).
     Metrics,
@@ -44,12 +44,13 @@ pub enum RunRoute {
         meter: Option<Name>,
         span: Span,
     },
-    /// The entries of a meter from a sequence number on, including voided entries, as plain text.
+    /// The entries of a meter from a sequence number on, including voided (withdrawn) entries, as
+    /// plain text.
     Entries {
         meter: Option<Name>,
         from: u64,
     },
-    /// The voided entries of a meter, as plain text.
+    /// The voided entries of a meter (withdrawn as false), as plain text.
     Voids {
         meter: Option<Name>,
     },
@@ -178,7 +179,8 @@ fn permitted_route(request: &[u8], head_state: &HeadState) -> Option<RunRoute>
 /// within its limits.
 ///
 /// The route is 421 for a host that is neither in `names` nor a name of this machine. It is 403 for
-/// a request from a page of another site. `None` means that the routes of `office_http` apply.
+/// a request from a page of another site. `None` means that `run_http` has no route, and the crate
+/// `office_http` handles the request.
 pub fn run_route(names: &[&str], request: &[u8]) -> Option<RunRoute>
     ensures { texts.IsFor (hosts.texts names.now) request.now result }
 {

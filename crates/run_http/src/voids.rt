@@ -1,4 +1,4 @@
-//! The response to a query for the voided entries of a meter.
+//! The response to a query for the voided entries of a meter, which were withdrawn as false.
 ghost use Rattle.std.specs.Prelude.{◌≡◌, ◌++◌, ◌∷◌, [], OnOk};
 ghost use Rattle.run_http.specs.MeterReplies.{AsksRows, RepliesRows, with_rows_reply};
 ghost use Rattle.run_http.specs.Texts.MeterLines.{voids_text};
@@ -49,7 +49,7 @@ fn keep_voided(kept: &mut Vec<MeterEntry>, piece: &[MeterEntry]) -> Result<(), A
     Ok(())
 }
 
-// Queries all entries of a meter in chunks, and collects the voided entries.
+// Queries all entries of a meter in chunks, and collects the voided (withdrawn) entries.
 fn ask_voids<B: Books>(
     alloc: Global,
     office: &mut Office<B>,
@@ -72,7 +72,8 @@ fn ask_voids<B: Books>(
     Err(AllocError)
 }
 
-// Appends the response with the voided entries of a meter, or with the program's refusal.
+// Appends the response with the voided entries of a meter, or an error response if the program
+// refused the query.
 fn write_reported_voids(
     alloc: Global,
     text: &mut Vec<u8>,

@@ -22,8 +22,8 @@ or_left : (a b : Bool) → a ≡ true → (a || b) ≡ true
 or_left true b is = refl
 or_left false b is = absurd (cc)
 
--- If a file name has no period of the configured length, only the alternative length remains to be
--- tested.
+-- If a file name has no period of the configured length, then any period in the name has the
+-- alternative length.
 pub reported_by_other : (file : List ℕ) (length : Period) (name : List ℕ) (r : Option (Bor (List ℕ))) → IsPeriodIn file length name None
     → IsPeriodIn file (other_length length) name r → IsReportedBy file length name r
 reported_by_other file length name (Some text) own is = record {

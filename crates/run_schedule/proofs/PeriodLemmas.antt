@@ -29,8 +29,8 @@ in_range (Tzif z) n = (Table.offset_at z.now n).in_range
 offset_range : (zone : Zone) (moment : ℕ) → IsOffsetSeconds (offset_of zone moment)
 offset_range zone moment = in_range (plain_zone (rule_of zone)) (pos moment *ℤ pos 1_000_000_000)
 
--- If the UTC midnight at which the day after `last` begins is more than 25:59:59 later, then that
--- day has begun in no time zone.
+-- If the day after `last` begins in UTC more than 25:59:59 after `at`, then that day has begun in
+-- no time zone at `at`.
 pub not_past : (zone : Zone) (last : ℤ) (at : ℕ) → (pos at +ℤ pos 93_599) <ℤ ((last +ℤ pos 1) *ℤ pos 86_400) → day_at zone at ≤ℤ last
 not_past zone last at early =
     let bound = offset_range zone at in

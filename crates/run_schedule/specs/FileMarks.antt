@@ -1,4 +1,5 @@
--- Compares the file at a path with the open file by their marks: device, inode and size.
+-- Compares the file at a path with the open file by their marks: device, inode and size. So the
+-- program detects that the store's file was removed or replaced.
 use Rattle.std.specs.Prelude.{◌≡◌, ◌≤◌, ◌==◌, ◌&&◌, ℕ, nat_lt, if◌then◌else◌, Bool, Option, None, Some}
 use Rattle.run_schedule.specs.declared.file_marks.FileMark.{FileMark}
 use Rattle.run_schedule.specs.declared.file_marks.FileLoss.{FileLoss}

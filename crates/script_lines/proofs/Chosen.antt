@@ -29,7 +29,7 @@ pub found_meaning : {T : Type 0} (table : List (Bor (List ℕ) × T)) (word : Li
 found_meaning [] word = refl
 found_meaning (entry ∷ table) word = first_meaning (bytes_eq entry.0.now word) entry _ (meaning_in (map entry_of table) word) (found_meaning table word)
 
--- States that `P` is true for each entry's meaning and word, in every entry of the table.
+-- States that `P` is true for every entry of the table, applied to the entry's meaning and word.
 abbrev pub Each : {T : Type 0} → (T → List ℕ → Type 0) → List (List ℕ × T) → Type 0
 Each P [] = Unit {0}
 Each P (entry ∷ table) = P entry.1 entry.0 × Each P table

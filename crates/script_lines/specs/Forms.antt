@@ -1,5 +1,4 @@
--- Defines the form of each script line, which is a list of fields. The words of the line spell
--- these fields in order.
+-- Defines the form of each script line: the list of fields that its words spell in order.
 use Rattle.std.specs.Prelude.{ℕ, List, [], ◌∷◌, Option, Some, None, codes, option_map}
 use Rattle.office_events.specs.declared.commands.Command.{Command}
 use Rattle.office_events.specs.declared.commands.Command.TheVariants as command
@@ -75,8 +74,8 @@ form_of (line.Intervals name) = Some (Word (codes "intervals") ∷ Of AnyName na
 form_of (line.Days name) = Some (Word (codes "days") ∷ Of AnyName name ∷ [])
 form_of (line.Poll number) = Some (Word (codes "poll") ∷ Of Number number ∷ [])
 
--- States that the words spell the given fields. False if there are no fields, because no words
--- spell such a line.
+-- States that a line's words spell the given fields. False for `None`, which marks an event that no
+-- script line can express.
 abbrev pub HasForm : List (List ℕ) → Option (List Field) → Type 0
 HasForm words None = ⊥
 HasForm words (Some form) = Spell words form

@@ -20,7 +20,7 @@ abbrev pub Values : List Kind → Type 0
 Values [] = Unit {0}
 Values (kind ∷ kinds) = Value kind × Values kinds
 
--- The given script line if no word of the line is left to parse, otherwise `None`.
+-- The given script line, if no word of its text is left to parse. `None` if words are left.
 abbrev pub said_last : ScriptLine → List (List ℕ) → Option ScriptLine
 said_last line words = end_of_words words >>= λ none. Some line
 
@@ -217,8 +217,8 @@ abbrev pub line_said : List (List ℕ) → Option ScriptLine
 line_said [] = None
 line_said (word ∷ words) = said_from (number_of word) word words
 
--- The name of a device and the bytes that the words of a script line spell. If the hexadecimal word
--- is missing, the list of bytes is empty.
+-- The name of a device and the bytes that the words of a script line spell. A missing hexadecimal
+-- word means no bytes.
 abbrev pub device_bytes_said : List (List ℕ) → Option (Option (List ℕ) × List ℕ)
 device_bytes_said words = made (AnyName ∷ Hex ∷ []) (λ values. (values.0, values.1.0)) words
 

@@ -37,7 +37,7 @@ pub(crate) fn device(at: u64, words: &mut Words<'_>) -> Option<ScriptLine>
 }
 
 // Parses `NAME DEVICE FUNCTION ADDRESS SCALE`, the words after `register` in a line. They describe
-// a new accounting register.
+// a new accounting register (a named counter).
 pub(crate) fn register(at: u64, words: &mut Words<'_>) -> Option<ScriptLine>
     ensures { result ≡ said_by verb.Register at words.old }
 {
@@ -139,8 +139,8 @@ pub(crate) fn close(at: u64, words: &mut Words<'_>) -> Option<ScriptLine>
     command_line(at, command, words)
 }
 
-// Parses `METER PLACE`, the words after `void` in a line. They describe the voiding of the meter
-// entry with index PLACE.
+// Parses `METER PLACE`, the words after `void` in a line. They cancel (void) the meter's entry with
+// index PLACE.
 pub(crate) fn void_entry(at: u64, words: &mut Words<'_>) -> Option<ScriptLine>
     ensures { result ≡ said_by verb.Void at words.old }
 {
@@ -151,8 +151,8 @@ pub(crate) fn void_entry(at: u64, words: &mut Words<'_>) -> Option<ScriptLine>
     command_line(at, command, words)
 }
 
-// Parses `DEVICE FROM`, the words after `round` in a line. They describe the start of a round of
-// polls.
+// Parses `DEVICE FROM`, the words after `round` in a line. They start a round of polls of the
+// device, one for each Modbus read of its plan.
 pub(crate) fn round(at: u64, words: &mut Words<'_>) -> Option<ScriptLine>
     ensures { result ≡ said_by verb.Round at words.old }
 {

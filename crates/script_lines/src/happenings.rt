@@ -66,8 +66,8 @@ pub(crate) fn failed(at: u64, words: &mut Words<'_>) -> Option<ScriptLine>
     event_line(at, event, words)
 }
 
-/// Parses the argument of a query: the name of a meter or an accounting register, or the number of
-/// a poll.
+/// Parses the argument of a query: the name of a meter or an accounting register (a named counter),
+/// or the number of a poll.
 pub(crate) fn asked(question: Question, words: &mut Words<'_>) -> Option<ScriptLine>
     ensures { result ≡ asked_by question words.old }
 {

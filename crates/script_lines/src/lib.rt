@@ -1,4 +1,4 @@
-//! Parses the lines of scripts.
+//! Parses the lines of scripts, which are texts of commands, events and queries.
 #![tactic(auto)]
 
 mod bank;

@@ -32,8 +32,7 @@ impl GivenStart {
     }
 }
 
-/// The script line with a device's point list as CSV text. The text is not checked when the line is
-/// parsed.
+/// The script line with a device's point list as CSV text, which parsing leaves unchecked.
 #[derive(Drop)]
 pub struct GivenList {
     /// The name of the device, or `None` if the word is not a valid name.
@@ -55,7 +54,7 @@ pub enum ScriptLine {
     Meter { name: Option<Name> },
     /// A query for the energy of a meter in each quarter hour.
     Intervals { name: Option<Name> },
-    /// A query for the energy of an accounting register on each day.
+    /// A query for the energy of an accounting register (a named counter) on each day.
     Days { name: Option<Name> },
     /// A query for the outcome of a poll.
     Poll { number: u64 },

@@ -1,4 +1,4 @@
-//! Runs scripts over any store.
+//! Runs scripts (texts of commands, events and queries) over any store.
 
 use crate::replaying::Replayed;
 use command_io::{Buffered, ExitStatus, InputLines, read_input};
@@ -14,7 +14,7 @@ use script_text::{
 use std::alloc::Global;
 use std::io::{self, ErrorKind, Read, Write};
 
-// Passes an event to the office, and writes the office's reply.
+// Passes an event to the `Office` (the core of `sunreg`), and writes its answer or refusal.
 fn feed_event<B: Books, W: Write>(
     office: &mut Office<B>,
     at: u64,
@@ -112,7 +112,8 @@ fn play_line<B: Books, W: Write>(
     }
 }
 
-// Executes the lines of a script in order, up to the first line that cannot be parsed.
+// Executes the lines of a script (a text of commands, events and queries) in order, up to the first
+// line that cannot be parsed.
 fn play_text<B: Books, W: Write>(
     alloc: Global,
     office: &mut Office<B>,
@@ -137,7 +138,7 @@ fn play_text<B: Books, W: Write>(
     Ok(ExitStatus::Fine)
 }
 
-// Opens an office over a store, at the latest timestamp in the store.
+// Opens an `Office` (the core of `sunreg`) over a store, at the latest timestamp in the store.
 fn open_office<B: Books>(alloc: Global, books: B) -> Result<Office<B>, Refusal> {
     let mut books = books;
     let moment = match books.latest() {
@@ -150,7 +151,7 @@ fn open_office<B: Books>(alloc: Global, books: B) -> Result<Office<B>, Refusal> 
     }
 }
 
-// Opens an office over a store, and executes the lines of a script.
+// Opens an `Office` (the core of `sunreg`) over a store, and executes the lines of a script.
 fn play_books<B: Books, W: Write>(
     alloc: Global,
     books: B,
@@ -171,7 +172,7 @@ fn play_books<B: Books, W: Write>(
 
 /// Runs a script as [`replay`](crate::replay) does, over any store.
 ///
-/// The office is opened at the latest timestamp of the store, which is 0 in a new store. Days are
+/// Timestamps continue from the latest timestamp of the store, which is 0 in a new store. Days are
 /// civil days in the store's time zone.
 pub fn replay_books<B: Books, R: Read, W: Write>(
     alloc: Global,

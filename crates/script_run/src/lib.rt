@@ -1,4 +1,5 @@
-//! Runs scripts over a store in memory, over any other store, and over simulated devices.
+//! Runs scripts (texts of commands, events and queries) over a store in memory, over any other
+//! store, and over simulated devices.
 #![tactic(auto)]
 
 mod any_books;

@@ -1,4 +1,4 @@
-//! Runs scripts over a store in memory.
+//! Runs scripts (texts of commands, events and queries) over a store in memory.
 
 mod events;
 mod lines;

@@ -14,7 +14,8 @@ const STARTED: Answer = Answer::Started {
     of: 2,
 };
 
-// Returns three notifications: the outcome of a poll, an accepted reading, and a rejected reading.
+// Returns the three kinds of notifications: the outcome of a poll, an accepted reading, and a
+// rejected reading.
 fn notes(rt: &impl Abort) -> [Note; 3] {
     let meter = Name::new(b"m1").expect(rt, "no name");
     let answered = Note::Outcome {

@@ -1,5 +1,5 @@
-//! Tests that each word that is printed before numbers, such as `fault`, belongs to a kind of
-//! numbers. `tests/words.py` tests the explanation of each number.
+//! Tests that each word that is printed before numeric codes, such as `fault`, identifies a set of
+//! codes. `tests/words.py` tests the explanation of each code.
 use printed_numbers::{Kind, kind_named, kinds};
 
 #[test]

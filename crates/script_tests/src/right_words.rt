@@ -33,8 +33,8 @@ static RIGHT: [(&str, &str); 60] = [
         "round|--db|o.db|--device|\u{e4} b|--port|502",
         "Round { db: \"o.db\", device: \"\u{e4} b\", host: \"127.0.0.1\", port: 502 }",
     ),
-    // The name of an accounting register may contain any characters, and parsing leaves the name
-    // unchanged.
+    // The name of an accounting register (a named counter) may contain any characters, and parsing
+    // leaves the name unchanged.
     (
         "report|--db|o.db|--register|Main,=1 \u{3bc}",
         "Report { db: \"o.db\", register: \"Main,=1 \u{3bc}\", form: FormWords { from: None, \
@@ -59,7 +59,8 @@ static RIGHT: [(&str, &str); 60] = [
         "Report { db: \"o.db\", register: \"main\", form: FormWords { from: None, till: None, \
          period: Some(Month), unit: None, format: Some(Csv), statement: false } }",
     ),
-    // A statement (`report --statement`) has no periods, so the option `--by` is not given.
+    // A statement (a report with one row for each meter, to check a bill) has no periods, so the
+    // option `--by` is not given.
     (
         "report|--db|o.db|--register|main|--statement|--unit|kwh",
         "Report { db: \"o.db\", register: \"main\", form: FormWords { from: None, till: None, \

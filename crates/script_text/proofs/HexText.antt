@@ -20,7 +20,7 @@ pub none_got : (a : Option (List ℕ)) → Appends a a (encode_lower [])
 unfolding encode_with
 none_got a = Appends-nil a
 
--- Moving the first `n` bytes of the rest after the bytes already written keeps the bytes in order.
+-- If the first `n` unwritten bytes are appended to the written bytes, all bytes stay in order.
 pub cut_off : (bytes done rest piece after : List ℕ) (n : ℕ) → bytes ≡ done ++ rest → piece ≡ take n rest → after ≡ drop n rest → bytes ≡ (done ++ piece) ++ after
 cut_off bytes done rest piece after n split front back =
     split ∙ ap (λ (l : List ℕ). done ++ l) (sym (take-append-drop n rest)) ∙ ap (λ (l : List ℕ). done ++ (l ++ drop n rest)) (sym front)

@@ -1,5 +1,5 @@
--- The lines that a run of a script prints for answers, notifications, refusals, meters, polls and
--- faults.
+-- The lines that a script (a text of commands, events and queries) prints for answers,
+-- notifications, refusals, meters, polls and faults.
 use Rattle.std.specs.Prelude.{ℕ, Bool, true, false, List, ◌++◌, flat_map, Some, None, codes}
 use Rattle.std.specs.declared.option.Option.{Option}
 use Rattle.std.specs.Fmt.{decimal, signed_decimal}
@@ -21,7 +21,7 @@ use Rattle.poll_core.specs.Outcomes.{cause_number as loss_number, malformation_n
 use Rattle.poll_core.specs.declared.outcome.Outcome.{Outcome}
 use Rattle.poll_core.specs.declared.outcome.Outcome.TheVariants.{Answered, Exception, Silent, Malformed, Lost}
 
--- The text for the outcome of a poll, as `answered` or `exception 2`.
+-- The text for the outcome of a poll, such as `answered` or `exception 2`.
 abbrev pub outcome_text : Outcome → List ℕ
 outcome_text Answered = codes "answered"
 outcome_text (Exception code) = codes "exception " ++ decimal code
@@ -40,18 +40,19 @@ outcome_line poll outcome =
     codes "poll " ++ decimal poll ++ codes " " ++ outcome_text outcome ++ codes "\n"
 
 -- The part of an accepted reading's line after the meter's name: the meter's count, its number of
--- rollovers, and the energy since the entry before, in mWh.
+-- rollovers, and the energy since the previous entry, in mWh.
 abbrev pub reading_text : ℕ → ℕ → ℕ → List ℕ
 reading_text raw rolls step =
     codes " " ++ decimal raw ++ codes " rolls " ++ decimal rolls ++ codes " step " ++ decimal step
     ++ codes "\n"
 
--- The part of a rejected reading's line after the meter's name: the meter's count, and the number
--- of the cause.
+-- The part of a rejected reading's line after the meter's name: the meter's count, and the numeric
+-- code of the cause.
 abbrev pub held_text : ℕ → ℕ → List ℕ
 held_text raw cause = codes " " ++ decimal raw ++ codes " cause " ++ decimal cause ++ codes "\n"
 
--- The line for a notification: the outcome of a poll, an accepted reading or a rejected reading.
+-- The line for a notification, which reports a result of an event: the outcome of a poll, an
+-- accepted reading or a rejected reading.
 abbrev pub note_line : Note → List ℕ
 note_line (note.Outcome poll outcome) = outcome_line poll outcome
 note_line (note.Reading meter raw rolls step) =
@@ -65,8 +66,8 @@ counts_text first count of =
     codes "started " ++ decimal first ++ codes " " ++ decimal count ++ codes " " ++ decimal of
     ++ codes " "
 
--- The line for the answer to an event: `ok`, or for a start the polls and the frames to send, in
--- hex.
+-- The line for the answer to an event. It is `ok`, or for started polls their numbers and the
+-- Modbus frames to send, in hex.
 abbrev pub answer_line : Answer → List ℕ → List ℕ
 answer_line Noted frames = codes "ok\n"
 answer_line (Done kind) frames = codes "ok\n"
@@ -74,11 +75,12 @@ answer_line (Again kind) frames = codes "ok\n"
 answer_line (Started first count of) frames =
     counts_text first count of ++ encode_lower frames ++ codes "\n"
 
--- The lines for an accepted event: one for each notification, then one for the answer.
+-- The lines for an accepted event: one for each notification (such as a recorded reading), then one
+-- for the answer.
 abbrev pub accepted_text : Answer → List Note → List ℕ → List ℕ
 accepted_text answer notes frames = flat_map note_line notes ++ answer_line answer frames
 
--- The line `refused N`, where N is the number of the refusal.
+-- The line `refused N`, where N is the numeric code of the reason for the refusal.
 abbrev pub refused_line : Refusal → List ℕ
 refused_line refusal = codes "refused " ++ decimal (refusal_number refusal) ++ codes "\n"
 

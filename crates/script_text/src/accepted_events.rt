@@ -10,8 +10,8 @@ use crate::row_lines::Line;
 use office_events::{Answer, Note};
 use std::io::{self, Write};
 
-/// Writes a line for each notification of an accepted event, and then a line for the answer.
-/// `frames` are the Modbus frames to send.
+/// Writes a line for each notification (such as a recorded reading) of an accepted event, and then
+/// a line for the answer. `frames` are the Modbus frames to send.
 pub fn write_accepted<W: Write>(
     answer: &Answer,
     notes: &[Note],
@@ -25,7 +25,7 @@ pub fn write_accepted<W: Write>(
     write_answer(answer, frames, output)
 }
 
-/// Writes one line for each notification, in order.
+/// Writes one line for each notification, such as a recorded reading, in order.
 pub fn write_notes<W: Write>(notes: &[Note], output: &mut W) -> io::Result<()>
     ensures { GotText result (flat_map text.note_line notes.now)
         (W.contents output.old) (W.contents output.new) }

@@ -1,5 +1,5 @@
-//! Writes the texts that a run of a script prints. After a failed write, the writer has received a
-//! beginning of the text. No function allocates memory.
+//! Writes the texts that a script (a text of commands, events and queries) prints. After a failed
+//! write, the writer has received a beginning of the text. No function allocates memory.
 #![tactic(auto)]
 
 mod accepted_events;

@@ -12,7 +12,7 @@ use office_events::{EndedPoll, Installation, PollRow, Refusal};
 use point_list::FaultyRow;
 use std::io::{self, Write};
 
-/// Writes the line `refused N`, where N is the number of the refusal.
+/// Writes the line `refused N`, where N is the numeric code of the reason for the refusal.
 pub fn write_refusal<W: Write>(refusal: Refusal, output: &mut W) -> io::Result<()>
     ensures { GotText result (text.refused_line refusal)
         (W.contents output.old) (W.contents output.new) }

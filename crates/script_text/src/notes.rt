@@ -1,4 +1,4 @@
-//! Writes the lines of notifications.
+//! Writes the lines of notifications, which report ended polls and meter readings.
 ghost use Rattle.std.specs.Prelude.{◌≡◌, ◌≤◌, ◌+◌, ◌++◌, length};
 ghost use Rattle.sun_points.specs.Writing.{GotText};
 ghost use Rattle.script_text.specs.AnswerText as text;
@@ -9,8 +9,8 @@ use office_events::Note;
 use poll_core::Outcome;
 use std::io::{self, Write};
 
-/// Writes the line for a notification: `poll N OUTCOME`, `reading METER RAW rolls R step MWH` or
-/// `held METER RAW cause N`.
+/// Writes the line for a notification: `poll N OUTCOME`, `reading METER RAW rolls R step MWH` for
+/// an accepted reading, or `held METER RAW cause N` for a rejected one.
 pub fn write_note<W: Write>(note: &Note, output: &mut W) -> io::Result<()>
     ensures { GotText result (text.note_line note.now)
         (W.contents output.old) (W.contents output.new) }
@@ -52,7 +52,7 @@ fn outcome_line(poll: u64, outcome: Outcome) -> Line
     line
 }
 
-/// Appends the text for the outcome of a poll, as `answered` or `exception 2`.
+/// Appends the text for the outcome of a poll, such as `answered` or `exception 2`.
 pub(crate) fn push_outcome(line: &mut Line, outcome: Outcome)
     requires { length line.old ≤ 64 }
     ensures bytes { line.new ≡ line.old ++ text.outcome_text outcome }

@@ -1,4 +1,4 @@
--- Defines the state of a new link, before its first call.
+-- Defines the state of a new link (a connection to read and write), before its first call.
 use Rattle.std.specs.Prelude.{◌≡◌, ℕ, None}
 use Rattle.socket_link.specs.declared.counts.Counts.{Counts}
 use Rattle.socket_link.specs.declared.deadline_link.DeadlineLink.{DeadlineLink}

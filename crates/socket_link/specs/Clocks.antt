@@ -11,7 +11,7 @@ abbrev pub next_moment : List ℕ → ℕ
 next_moment [] = 0
 next_moment (moment ∷ later) = moment
 
--- The program's answer `late` to the question whether the clock's next time is after `until`.
+-- True if `late` states correctly whether the clock's next time is after the deadline `until`.
 abbrev pub ReportsLate : (until : ℕ) → (late : Bool) → (moments : List ℕ) → Type 0
 ReportsLate until late moments = late ≡ nat_lt until (next_moment moments)
 

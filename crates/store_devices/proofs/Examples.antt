@@ -37,7 +37,7 @@ row : (address : ℕ) → (scale : ℕ) → Row
 row address scale = Int (pos 1) ∷ Text (codes "r1") ∷ Text (codes "d1") ∷ Int (pos 3) ∷ Int (pos address) ∷ Int (pos 1) ∷ Int (pos scale) ∷ []
 
 -- Examples of rows of the table `registers`. If a row spans 125 Modbus registers, the reader
--- returns it. If a row spans 126, the reader reports damage.
+-- returns it. If a row spans 126, the reader reports `Damaged`.
 reached : register_in (row 0 124) ≡ Ok (record { place = 1; function = HoldingRegisters; address = 0; scale = At 124 })
 unfolding row
 reached = refl

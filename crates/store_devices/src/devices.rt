@@ -1,5 +1,5 @@
-//! Statements on the tables `devices`, `points` and `registers`: devices, point lists and
-//! accounting registers.
+//! SQL statements on the tables `devices`, `points` and `registers`: devices, their lists of
+//! SunSpec points, and their named counters.
 
 mod columns;
 mod devices;

@@ -1,5 +1,5 @@
-//! Statements on the tables `polls`, `outcomes`, `holds` (rejected readings) and `replies` (stored
-//! requests).
+//! SQL statements on the tables `polls`, `outcomes`, `holds` (rejected readings) and `replies`
+//! (requests that are stored to detect retries).
 
 mod columns;
 mod holds;

@@ -15,7 +15,7 @@ use Rattle.store_facts.specs.Intervals.StepShares.{raised, with_share, with_shar
 use Rattle.store_facts.specs.Rows.{interval_of}
 use Rattle.store_facts.proofs.Passing.{map_agree, any_agree, filter_edited, filter_spared, any_filter, any_permutation, any_map}
 
--- ---- adding energy to the quarter hours of a meter's journal
+-- ---- adding a quarter hour's energy to the quarter hours that follow from a meter's entries
 
 abbrev pub has_start : ℕ → Share → Bool
 has_start start row = row.start == start
@@ -41,8 +41,8 @@ untouched share [] h = refl
 untouched share (row ∷ rows) h =
     let parts = neither _ _ h in ap₂ ◌∷◌ (cond-false _ _ _ parts.0) (untouched share rows parts.1)
 
--- If a quarter hour already has a row, adding a share of energy in this quarter hour increases the
--- row's energy.
+-- If a quarter hour already has a row, adding energy in this quarter hour increases the row's
+-- energy.
 joined_there : (share : Share) (rows : List Share) → AreApart rows → list_any (has_start share.start) rows ≡ true → journal.with_share share rows ≡ map (grown share) rows
 joined_there share [] apart h = absurd (cc)
 joined_there share (row ∷ rows) apart h =
@@ -56,7 +56,7 @@ joined_there share (row ∷ rows) apart h =
           cond-false _ _ _ off ∙ ap₂ ◌∷◌ (sym (cond-false _ _ _ off)) (joined_there share rows apart.1 more)
     ]
 
--- If a quarter hour has no row, adding a share of energy in this quarter hour appends a new row.
+-- If a quarter hour has no row, adding energy in this quarter hour appends a new row.
 stands_after : (share : Share) (rows : List Share) → list_any (has_start share.start) rows ≡ false → journal.with_share share rows ≡ rows ++ share ∷ []
 stands_after share [] h = refl
 stands_after share (row ∷ rows) h =
@@ -91,13 +91,13 @@ apart_with share rows h =
       | inr none ↦ subst AreApart (sym (stands_after share rows none)) (apart_after share rows h none)
     ]
 
--- ---- adding energy to a meter's rows of the table `intervals`
+-- ---- adding a quarter hour's energy to a meter's rows of the table `intervals`
 
 pub itself : (meter : List ℕ) → bytes_eq meter meter ≡ true
 itself meter = (bytes_eq-Decides meter meter).1 refl
 
--- True if a meter's rows of `intervals` have the quarter hours and the energy that its journal
--- lists.
+-- True if a meter's rows of `intervals` have the quarter hours and the energy that follow from its
+-- journal, its entries in order.
 abbrev pub AreRowsOf : (meter : List ℕ) → List Interval → List Share → Type 0
 AreRowsOf meter rows shares = IsPermutation (filter (is_of meter) rows) (map (interval_of meter) shares)
 
@@ -116,8 +116,8 @@ any_there meter start rows shares are =
     ∙ any_map (is_at meter start) (interval_of meter) shares
     ∙ any_agree (λ share. is_at meter start (interval_of meter share)) (has_start start) (at_start meter start) shares
 
--- If a meter's rows of `intervals` agree with its journal, they still agree after corresponding
--- edits of the rows and the journal.
+-- If a meter's rows of `intervals` agree with its journal (its entries in order), they still agree
+-- after corresponding edits of both.
 edited : (meter : List ℕ) (f : Interval → Interval) (h : Share → Share) (rows : List Interval) (shares : List Share)
     → ((i : Interval) → (f i).meter ≡ i.meter) → ((share : Share) → f (interval_of meter share) ≡ interval_of meter (h share))
     → AreRowsOf meter rows shares → AreRowsOf meter (map f rows) (map h shares)
@@ -142,8 +142,8 @@ raise_meter : (b : Bool) (share : Share) (i : Interval) → (let made : Interval
 raise_meter true share i = refl
 raise_meter false share i = refl
 
--- If the energy of one quarter hour is added to `intervals` and to the meter's journal, the meter's
--- rows still agree with the journal.
+-- If the energy of one quarter hour is added both to `intervals` and to the energy that follows
+-- from the meter's entries, the two still agree.
 pub booked_one : (meter : List ℕ) (share : Share) (rows : List Interval) (shares : List Share) → AreApart shares → AreRowsOf meter rows shares
     → AreRowsOf meter (with_share meter share rows) (journal.with_share share shares)
 booked_one meter share rows shares apart are =
@@ -178,7 +178,7 @@ booked meter [] rows shares apart are = are
 booked meter (share ∷ adds) rows shares apart are =
     booked meter adds (with_share meter share rows) (journal.with_share share shares) (apart_with share shares apart) (booked_one meter share rows shares apart are)
 
--- ---- rows of `intervals` for all other meters, which stay unchanged
+-- ---- adding energy to one meter leaves the rows of `intervals` for all other meters unchanged
 
 not_other : (a b : Bool) → (a ≡ true → b ≡ true → ⊥) → a ≡ true → b ≡ false
 not_other a true h e = absurd (h e refl)

@@ -46,7 +46,8 @@ more_leaves g zone h left more leaves clean trees it =
     let one = leaves clean trees it in
     record { facts = one.facts; one = one_more left more one.facts one.one; db = one.db; has = one.has; same = one.same }
 
--- If a call keeps the last commit, the connection has the same records before and after the call.
+-- If a call keeps the last committed rows, the connection has the same records before and after the
+-- call.
 pub kept_holds : {S : Type 0} (g : Ghosts S) (zone : List ℕ) (old new : Held S) (facts : List Fact) → (HasCleanDisk (state g new) → HasCleanDisk (state g old)) → (HasCleanDisk (state g new) → KeepsCommit (state g old) (state g new))
     → HoldsFacts g zone old facts → HoldsFacts g zone new facts
 unfolding HoldsFacts
@@ -72,7 +73,7 @@ module _ {S X E : Type 0} (g : Ghosts S) (zone : List ℕ) (old mid new : Held S
       let k = kept (early clean) in
       subst (HasFacts zone facts) (sym (o.1 ∙ k.committed o.0)) (holds (first clean) (k.was_open o.0))
 
-  -- The tables encode the old and the new records after the transaction.
+  -- If a transaction stored new records, the tables encode the old and the new records.
   made : (facts : List Fact) (content : Content) (db : Database) → AreOf zone facts content → AreLawful (reverse fs ++ facts) → HasMade (RecordsAll fs) content db → HasFacts zone (reverse fs ++ facts) db
   made facts content db are lawful it = record { content = it.0; tables = it.2; are = it.1 zone facts are lawful }
 
@@ -95,7 +96,7 @@ module _ {S X E : Type 0} (g : Ghosts S) (zone : List ℕ) (old mid new : Held S
       let m = kept (early clean) in
       subst (HasFacts zone facts) (sym (k.committed still ∙ m.committed (k.was_open still))) (holds (first clean) (m.was_open (k.was_open still))))
 
-  -- If a crash occurs while the store is open, the store has the last commit.
+  -- If a crash can leave only the last commit, it leaves the old and the new records.
   settled : ((trees : Trees) → IsTrue (state g new).is_open → (state g new).may_leave trees → trees ≡ (state g new).committed.trees)
       → (facts : List Fact) → HoldsFacts g zone old facts → AreLawful (reverse fs ++ facts) → OnOk r (LeavesFacts g zone new ((reverse fs ++ facts) ∷ []))
   unfolding LeavesFacts

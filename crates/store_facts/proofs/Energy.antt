@@ -1,5 +1,5 @@
--- Proofs about the rows of `intervals` for valid records. A meter's rows have distinct starts, and
--- no row has more energy than the greatest total of a meter.
+-- Proofs about the rows of `intervals` (a meter's energy by quarter hour) for valid records. A
+-- meter's rows have distinct starts, and none has more energy than the greatest total of a meter.
 use Rattle.std.proofs.Common.{◌≡◌, ℕ, ◌+◌, ◌*◌, ◌^◌, ◌<◌, ◌≤◌, ◌==◌, ◌||◌, Bool, true, false, cond, inl, inr, List, [], ◌∷◌, map, filter, Option, Some, None, bytes_eq, refl, sym, ap, ap₂, subst, ◌∙◌, IsPermutation, arith}
 use Rattle.std.specs.Prelude.{sum_by}
 use Rattle.std.specs.List.{list_any, AllByRecursion, find, Contains}

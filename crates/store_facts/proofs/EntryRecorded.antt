@@ -36,7 +36,7 @@ use Rattle.store_facts.proofs.Placed.{greatest}
 use Rattle.store_facts.proofs.Recorded.{stay, points_stay, entries_stay, intervals_stay}
 use Rattle.store_facts.proofs.Entered.{entry_added, energy_added, installations_changed}
 
--- ---- the index of a meter's next entry
+-- ---- the index for a meter's next entry is one more than the number of its entries
 
 few_entered : (o : Opening) (rows : List journal.EntryRow) (n : ℕ) → AreNumbered rows → length rows + 1 ≤ n
     → AllByRecursion (λ e. entry_place e ≤ n) (entered_rows o rows)
@@ -44,7 +44,8 @@ few_entered o [] n numbered h = (h, tt)
 few_entered o (row ∷ rows) n numbered h =
     let place = numbered.0 in (omega (arith, h, place), few_entered o rows n numbered.1 (omega (arith, h)))
 
--- The index after a meter's last entry is the index of the meter's next row in `entries`.
+-- The index after the greatest one in a meter's rows of `entries` is the number of the meter's
+-- entries plus 1. The first entry, its opening, is not in `rows`.
 pub entries_count : (o : Opening) (rows : List journal.EntryRow) (passes : Entered → Bool) (entered_all : List Entered) (last : Option ℕ) → AreNumbered rows
     → IsPermutation (filter passes entered_all) (entered_rows o rows)
     → IsLast passes (λ e n. n ≡ entry_place e) entry_place entered_all last → next_place last ≡ length rows + 2
@@ -55,7 +56,7 @@ entries_count o (row ∷ rows) passes all last numbered are h =
     (few_entered o rows row.place numbered.1 (omega (arith, place))) h in
     omega (arith, following, place)
 
--- ---- the tables after a meter entry was recorded
+-- ---- the tables encode the records after a meter entry was recorded
 
 -- If the row of a meter entry, its energy and the meter's new state are written, the tables encode
 -- the records with the entry.

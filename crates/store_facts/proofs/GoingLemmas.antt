@@ -19,7 +19,8 @@ both_ok : {X E : Type 0} {P Q R : Type 0} (r : Result X E) → (P → Q → R) �
 both_ok (Ok x) f p q = f p q
 both_ok (Err e) f p q = tt
 
--- If an SQL statement satisfies the contract `Steps`, it also satisfies the contract `Goes`.
+-- If an SQL statement satisfies `Steps`, the contract of one statement, it also satisfies `Goes`,
+-- the contract of a call inside a transaction.
 pub of_steps : {X E : Type 0} (old new : State) (r : Result X E) (Makes : Content → Content → Type 0) → StepsTo old new r (Turns Makes) → Goes old new r Makes
 of_steps old new r Makes one = record {
   kept = λ clean inside content has. one.kept clean inside;
@@ -52,7 +53,8 @@ more_ok : {X E : Type 0} {P Q : Type 0} (r : Result X E) → (P → Q) → OnOk 
 more_ok (Ok x) f h = f h
 more_ok (Err e) f h = tt
 
--- If a call is Ok, this call and the next call together satisfy the contract `Goes` of one call.
+-- If a call is Ok, this call and the next call together satisfy `Goes`, the contract of one call
+-- inside a transaction.
 pub goes_then : {X Y D E : Type 0} (a b c : State) (x : X) (r : Result Y E) (P Q R : Content → Content → Type 0) → Goes {X = X} {E = D} a b (Ok x) P → Goes b c r Q
     → ((before mid after : Content) → P before mid → Q mid after → R before after) → Goes a c r R
 goes_then a b c x r P Q R one two goes = record {
@@ -68,8 +70,8 @@ goes_then a b c x r P Q R one two goes = record {
   survives = survives_then a b c (λ _. ⊥) (λ _. ⊥) (λ _. ⊥) (λ _ db none. none) (λ _ db none. none) one.survives two.survives;
 }
 
--- If a call is Ok and the next call fails, both calls together satisfy the contract `Goes` of one
--- failed call.
+-- If a call is Ok and the next call fails, both calls together satisfy `Goes`, the contract of one
+-- (failed) call inside a transaction.
 pub then_failed : {X Y Z D E F : Type 0} (a b c : State) (x : X) (e : E) (f : F) (P Q R : Content → Content → Type 0) → Goes {X = X} {E = D} a b (Ok x) P → Goes {X = Y} b c (Err e) Q
     → Goes {X = Z} a c (Err f) R
 then_failed a b c x e f P Q R one two = record {
@@ -81,16 +83,16 @@ then_failed a b c x e f P Q R one two = record {
   survives = survives_then a b c (λ _. ⊥) (λ _. ⊥) (λ _. ⊥) (λ _ db none. none) (λ _ db none. none) one.survives two.survives;
 }
 
--- If a call fails, it satisfies `Goes` with any postcondition, because postconditions are only
--- about Ok. A caller may also turn an Ok into an error.
+-- If a call fails, it satisfies `Goes`, the contract of a call inside a transaction, with any
+-- postcondition. Postconditions are only about Ok.
 pub failed : {X Y D E : Type 0} (a b : State) (e : D) (d : E) (P Q : Content → Content → Type 0) → Goes {X = X} a b (Err e) P → Goes {X = Y} a b (Err d) Q
 failed a b e d P Q one = record { kept = one.kept; makes = λ clean inside content has. tt; survives = one.survives }
 
 pub then_refused : {X Y D E : Type 0} (a b : State) (x : X) (d : E) (P Q : Content → Content → Type 0) → Goes {X = X} {E = D} a b (Ok x) P → Goes {X = Y} a b (Err d) Q
 then_refused a b x d P Q one = record { kept = one.kept; makes = λ clean inside content has. tt; survives = one.survives }
 
--- If a call satisfies `Goes`, it also satisfies `Goes` with a weaker postcondition, and with any
--- other Ok value.
+-- If a call satisfies `Goes`, the contract of a call inside a transaction, it also satisfies `Goes`
+-- with a weaker postcondition.
 pub reported_less : {X Y D E : Type 0} (a b : State) (x : X) (y : Y) (P Q : Content → Content → Type 0) → ((content after : Content) → P content after → Q content after)
     → Goes {X = X} {E = D} a b (Ok x) P → Goes {X = Y} {E = E} a b (Ok y) Q
 reported_less a b x y P Q reports one = record {

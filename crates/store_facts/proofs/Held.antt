@@ -24,7 +24,8 @@ use Rattle.store_facts.specs.Recording.{Records, IsAfter}
 use Rattle.store_facts.proofs.Placed.{last_counts}
 use Rattle.store_facts.proofs.Recorded.{stay, points_stay, entries_stay, intervals_stay}
 
--- If a rejected reading is recorded, every meter stays unchanged.
+-- If a record, such as a rejected reading, changes no meter, the rows that encode the meters stay
+-- unchanged.
 module _ (f : Fact) (facts : List Fact) (stays : (o : Opening) → Stays f facts o) where
   entries_same : (found : Option Opening) → entries_at (f ∷ facts) found ≡ entries_at facts found
   entries_same None = refl
@@ -37,7 +38,7 @@ module _ (f : Fact) (facts : List Fact) (stays : (o : Opening) → Stays f facts
   installed_same : (openings : List Opening) → placed (installed_row (f ∷ facts)) openings ≡ placed (installed_row facts) openings
   installed_same openings = λ i. placed (λ place o. installed_as place ((stays o).installation i)) openings
 
--- If the row of a new rejected reading has the index after the last row of `holds`, the tables
+-- If the row of a new rejected reading gets the index after the last row of `holds`, the tables
 -- encode the reading.
 pub hold_recorded : HoldsChangeNothing → (reading : HeldReading) (place : ℕ) (content after : Content) → IsAfter poll_tree.holds hold_columns every hold_place place content
     → Edits poll_tree.holds hold_columns (with_row (held_row place reading)) content after → Records (fact.Hold reading) content after

@@ -25,7 +25,7 @@ use Rattle.store_facts.specs.Tables.{meta_tree, meta_columns, ArePoints}
 use Rattle.store_facts.specs.Recording.{Records}
 use Rattle.store_facts.proofs.Recorded.{stay, entries_stay, intervals_stay}
 
--- Every row that encodes a point of a device's point list belongs to this device.
+-- Every row of `points` that encodes a point of a device's point list has the name of this device.
 own_points : (device : List ℕ) (ps : List Point) → AllByRecursion (λ (p : Listed). is_point_of device p ≡ true) (map (listed_at device) ps)
 own_points device [] = tt
 own_points device (p ∷ ps) = (same_itself device, own_points device ps)
@@ -58,8 +58,8 @@ others_left device other (p ∷ rows) off =
     spared_step (is_point_of device p) (is_point_of other p) p (without_where (is_point_of device) rows) rows (is_point_of other) refl
     (λ here. ap (λ t. same t other) (same_text p.device device here) ∙ off) (others_left device other rows off)
 
--- After a device gets a new point list, the records have the points of the new list instead of the
--- previous list.
+-- If a device's points are replaced in `points`, the table encodes the records with the device's
+-- new point list.
 pub list_put : (put : DeviceList) (facts : List Fact) (ps : List Point) (content after : Content) → map (listed_at put.device) ps ≡ placed_on (listed put.device) 0 put.list.points
     → Edits list_tree.points point_columns (with_list put.device ps) content after → ArePoints facts content → ArePoints (fact.List put ∷ facts) after
 list_put put facts ps content after are e a = record {

@@ -1,4 +1,4 @@
--- Proofs about the rows that the query for the installations at an accounting register returns.
+-- Proofs about the rows that the query for the meters at an accounting register returns.
 use Rattle.std.proofs.Common.{◌≡◌, ℕ, bytes_eq, List, [], ◌∷◌, codes, false, refl}
 use Rattle.sqlite.specs.declared.types.Value.TheVariants.{Text}
 use Rattle.sqlite.specs.Order.{Row}

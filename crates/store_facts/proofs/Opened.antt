@@ -70,8 +70,8 @@ module _ (facts : List Fact) (o : Opening) (begins : Begins facts o) (new : open
       still None = refl
       still (Some x) = refl
 
--- After the rows of a meter's installation, its counter's range and its opening are inserted, the
--- tables encode the new meter.
+-- If a new meter's rows are inserted into `installations`, `ranges` and `entries`, the tables
+-- encode the records with the new meter.
 pub opening_recorded : OpeningsBegin → (o : Opening) (place : ℕ) (zone : List ℕ) (facts : List Fact) (content one two after : Content)
     → AreOf zone facts content → AreLawful (fact.Opening o ∷ facts)
     → IsAfter meter_tree.installations installed_columns every installed_place place content

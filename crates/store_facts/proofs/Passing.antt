@@ -1,4 +1,4 @@
--- Proofs about the rows that pass a test, after an edit of all rows.
+-- Proofs about the rows that pass a test, before and after all rows are edited.
 use Rattle.std.proofs.Common.{◌≡◌, ℕ, Bool, true, false, cond, inl, inr, ◌||◌, List, [], ◌∷◌, ◌++◌, map, filter, refl, sym, ap, ap₂, ◌∙◌, IsPermutation}
 use Rattle.std.specs.List.{list_any, AllByRecursion}
 use Rattle.std.proofs.lemmas.Bool.{cases_Bool, cond-true, cond-false}
@@ -38,8 +38,8 @@ any_step false p q x xs e implies more =
       | inr is ↦ more ∙ sym (ap (λ b. b || list_any q xs) is)
     ]
 
--- If a test implies a weaker test, filtering by the weaker test does not change whether any row
--- passes the test.
+-- If a test implies a weaker test, a list has a row that passes the test exactly if the rows that
+-- pass the weaker test have one.
 pub any_filter : {X : Type 0} (p q : X → Bool) → ((x : X) → q x ≡ true → p x ≡ true) → (xs : List X) → list_any q (filter p xs) ≡ list_any q xs
 any_filter p q implies [] = refl
 any_filter p q implies (x ∷ xs) = any_step (p x) p q x xs refl (implies x) (any_filter p q implies xs)

@@ -12,8 +12,8 @@ use Rattle.store_facts.specs.Recording.{next_place}
 pub all_every : {X : Type 0} (xs : List X) → filter every xs ≡ xs
 all_every xs = filter_all every xs (all_of (λ x. every x ≡ true) (λ x. refl) xs)
 
--- If no row has a greater key than the row `first`, the greatest key of all rows is the key of
--- `first`.
+-- If the row `first` has the greatest key of all passing rows, the next index is one more than the
+-- key of `first`.
 pub greatest : {Y : Type 0} (key : Y → ℕ) (passes : Y → Bool) (rows : List Y) (first : Y) (others : List Y) (last : Option ℕ)
     → IsPermutation (filter passes rows) (first ∷ others) → AllByRecursion (λ y. key y ≤ key first) others
     → IsLast passes (λ y n. n ≡ key y) key rows last → next_place last ≡ key first + 1
@@ -49,8 +49,8 @@ module _ {X Y : Type 0} (row : ℕ → X → Y) (key : Y → ℕ) (keyed : (plac
       (few (key (row (length xs + 1) x)) xs (omega (arith, first))) h in
       omega (arith, first, following)
 
--- If two conversions agree on each element of a list, they convert the list to the same numbered
--- rows.
+-- If two conversions from elements to rows agree on each element of a list, they convert the list
+-- to the same numbered rows.
 pub placed_same : {X Y : Type 0} (row other : ℕ → X → Y) (xs : List X) → AllByRecursion (λ x. (place : ℕ) → row place x ≡ other place x) xs
     → placed row xs ≡ placed other xs
 placed_same row other [] h = refl

@@ -1,4 +1,5 @@
--- Proofs about the tables after a record that changes no meter.
+-- Proofs about the tables after a record that changes no meter: a device, an accounting register, a
+-- poll, an outcome or a stored request.
 use Rattle.std.proofs.Common.{◌≡◌, ◌≢◌, ℕ, ◌+◌, List, [], ◌∷◌, map, filter, length, Option, Some, None, refl, sym, ap, subst, ◌∙◌, IsPermutation, arith}
 use Rattle.sqlite.specs.Order.{Row}
 use Rattle.office_events.specs.declared.facts.Device.{Device}
@@ -54,7 +55,7 @@ intervals_stay facts others content after same of a = record {
   each = λ meter. subst (λ rs. IsPermutation (filter (is_interval_of meter) a.rows) (map (interval_of meter) rs)) (sym (of meter)) (a.each meter);
 }
 
--- If the row of a new device has the index after the last row of `devices`, the tables encode the
+-- If the row of a new device gets the index after the last row of `devices`, the tables encode the
 -- device.
 pub device_recorded : (device : Device) (place : ℕ) (content after : Content) → IsAfter list_tree.devices device_columns every device_place place content
     → Edits list_tree.devices device_columns (with_row (added place device)) content after → Records (fact.Device device) content after
@@ -79,7 +80,7 @@ device_recorded device place content after following e zone facts a lawful = rec
   replies = stay poll_tree.replies reply_columns (map kept (replies_in facts)) content after (e.others 16 (λ is. omega (arith, is))) a.replies;
 }
 
--- If the row of a new accounting register has the index after the last row of `registers`, the
+-- If the row of a new accounting register gets the index after the last row of `registers`, the
 -- tables encode the accounting register.
 pub register_recorded : (register : Register) (place : ℕ) (content after : Content) → IsAfter list_tree.registers register_columns every register_place place content
     → Edits list_tree.registers register_columns (with_row (registered place register)) content after → Records (fact.Register register) content after

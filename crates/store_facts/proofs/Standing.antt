@@ -66,8 +66,8 @@ module _ (facts : List Fact) (lawful : AreLawful facts) (meter : List ℕ) (o : 
       all_mapped ranged (λ (r : Ranged). is_range_of meter r ≡ true → r.range ≡ o.range) (openings_in facts)
       (all_weaker _ _ ranged_one (openings_in facts) each_by_name)
 
-  -- The rows of a meter in `installations` and `ranges` agree with the meter's current state and
-  -- its counter's range in the records.
+  -- If a query finds a meter's row in `installations`, the row has the meter's last entry and total
+  -- energy according to the records.
   pub stands_found : {A : Type 0} (IsSeen : Installed → A → Type 0) (a : A) → IsFound (is_meter meter) IsSeen (placed (installed_row facts) (openings_in facts)) (Some a)
       → (i : Installed) × IsSeen i a × (i.row.last ≡ last_row (installation_of facts o))
   stands_found IsSeen a found = found_has (is_meter meter) IsSeen (λ (i : Installed). i.row.last ≡ last_row (installation_of facts o)) (placed (installed_row facts) (openings_in facts)) a installed_all found

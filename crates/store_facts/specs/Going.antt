@@ -6,7 +6,8 @@ use Rattle.sqlite.specs.Order.{Row}
 use Rattle.sqlite.specs.State.{State, HasCleanDisk, KeepsCommit, Survives}
 use Rattle.store_tables.specs.Content.{Content, AreTables, HasRows}
 
--- True if a database has the store's tables, and `Makes` relates `content` to their content.
+-- True if a database has the store's tables, and `Makes`, the effect of a call, relates the old
+-- content of the tables to their content.
 abbrev pub HasMade : (Content → Content → Type 0) → Content → Database → Type 0
 HasMade Makes content db = (after : Content) × Makes content after × AreTables db after
 
@@ -21,8 +22,8 @@ pub record Goes {X E : Type 0} (old new : State) (result : Result X E)
       → OnOk result (IsTrue new.in_transaction × HasMade Makes content new.now)
   pub survives : Survives old new (λ _. ⊥)
 
--- True if B-trees store a database whose tables have a content that `Makes` relates to the old
--- content.
+-- True if B-trees store a database that a transaction may leave: `Makes`, the effect of the
+-- transaction, relates the old content of the tables to the new content.
 pub record AreMade (old : State) (Makes : Content → Content → Type 0) (trees : Trees) : Type 0 where
   pub db : Database
   pub made : (content : Content) → AreTables old.now content → HasMade Makes content db

@@ -17,7 +17,7 @@ use Rattle.store_tables.specs.Content.{Content, AreTables}
 use Rattle.store_tables.specs.Failing.{IsFault, StateAfterCall}
 use Rattle.store_tables.specs.Asking.{Asks}
 
--- True if every row that the sink received has the property `IsRow`.
+-- True if every row that the caller's sink received has the property `IsRow`.
 abbrev pub TookSome : {K T : Type 0} → (IsRow : T → Type 0) → (takes : K → T → K → Type 0)
     → (before after : K) → Type 0
 TookSome {K} {T} IsRow takes before after =
@@ -27,21 +27,21 @@ TookSome {K} {T} IsRow takes before after =
 abbrev pub most_rows : ℕ
 most_rows = 18446744073709551615
 
--- True if the sink received `most_rows` rows.
+-- True if the caller's sink received `most_rows` rows, the greatest number that a stream can count.
 abbrev pub TookMost : {K T : Type 0} → (takes : K → T → K → Type 0) → (before after : K) → Type 0
 TookMost {K} {T} takes before after =
     (rows : List T) × (length rows ≡ most_rows) × TakesAll takes before rows after
 
--- Why a stream ends early: an error of the store, a row out of its ranges, or `most_rows` rows.
+-- Why a stream of rows ends early: an error of the store, a row with a value out of its range, or
+-- `most_rows` rows.
 abbrev pub IsStreamFault : {K T : Type 0} → (old new : State) → (takes : K → T → K → Type 0)
     → (before after : K) → (IsSound : Type 0) → RowFault → Type 0
 IsStreamFault old new takes before after IsSound e =
     IsFault old new IsSound e ⊎ ((e ≡ Sql InvalidQuery) × TookMost takes before after)
 
--- The contract of a stream. The sink receives the rows in order: at Ok all rows, and on a fault the
--- first rows. Every received row has the property `IsRow`, even if the tables are damaged. The
--- stream reports `Damaged` only if a row is out of its ranges. Any other fault is an error of the
--- store, or follows after `most_rows` rows.
+-- The contract of streaming rows to a caller's sink. The sink receives the rows in order: at Ok all
+-- rows, and on a fault the first rows. Every received row has the property `IsRow`, even if the
+-- tables are damaged.
 pub record HandsOn {S K T Tables : Type 0} (g : Ghosts S) (old new : Held S)
     (takes : K → T → K → Type 0) (before after : K)
     (result : Result (Unit {0}) RowFault) (IsRow : T → Type 0) (Have : Tables → Content → Type 0)
@@ -61,9 +61,10 @@ pub record HandsOn {S K T Tables : Type 0} (g : Ghosts S) (old new : Held S)
       → IfErr result
       (IsStreamFault (state g old) (state g new) takes before after (AreSound tables))
 
--- ---- streams of the result rows of a query, read by one reader
+-- ---- streams of the result rows of a query, each converted by one reader
 
--- True if the reader `reads` returns the values in a list for the rows, one value for each row.
+-- True if the reader `reads` converts each row of a list to the value at the same index of another
+-- list.
 abbrev pub AreRead : {T : Type 0} → (reads : Row → Result T RowFault) → List Row → List T → Type 0
 AreRead reads = AllZip (λ row read. reads row ≡ Ok read)
 
@@ -73,7 +74,8 @@ abbrev pub IsAsked : {S : Type 0} → Ghosts S → (sql : List ℕ) → (params 
 IsAsked g sql params old asked given =
     IsUnchanged (state g old) (state g asked) × Begins sql params (state g asked) given
 
--- True if a query failed while its rows were read, and its earlier calls left the tables unchanged.
+-- True if a query failed while its rows were read, and earlier calls of the stream left the tables
+-- unchanged.
 pub record HasStopped {S : Type 0} (g : Ghosts S) (sql : List ℕ) (params : Row) (old new : Held S)
     (e : Error) : Type 0 where
   pub asked : Held S
@@ -93,8 +95,8 @@ IsReadFault {S} g sql params reads old new given read Damaged =
     (asked : Held S) × (row : Row) × IsAsked g sql params old asked (given ++ row ∷ [])
     × (reads row ≡ Err Damaged)
 
--- The contract of streaming a query. The stream reads the rows and passes them to the sink in
--- order. At Ok the sink gets all rows, and on a fault the first rows.
+-- The contract of streaming a query's rows to a caller's sink. The stream reads the rows and passes
+-- them to the sink in order. At Ok the sink gets all rows, and on a fault the first rows.
 pub record HandsOnQuery {S K T : Type 0} (g : Ghosts S) (sql : List ℕ) (params : Row)
     (reads : Row → Result T RowFault) (old new : Held S)
     (takes : K → T → K → Type 0) (before after : K) (result : Result (Unit {0}) RowFault) : Type 0
@@ -109,8 +111,8 @@ pub record HandsOnQuery {S K T : Type 0} (g : Ghosts S) (sql : List ℕ) (params
         × Shown sql params (state g asked) (state g end) given)
     pub fault : IfErr result (IsReadFault g sql params reads old new given rows)
 
--- The contract `HandsOnQuery` for a query whose answer depends only on the tables. The contract
--- assumes that reads of the database file return the written bytes.
+-- The contract `HandsOnQuery` of a stream, for a query whose answer depends only on the tables. The
+-- contract assumes that reads of the database file return the written bytes.
 abbrev pub HandsOnPlain : {S K T : Type 0} → Ghosts S → (sql : List ℕ) → (params : Row)
     → (reads : Row → Result T RowFault) → (old new : Held S)
     → (takes : K → T → K → Type 0) → (before after : K)

@@ -23,7 +23,8 @@ abbrev pub IsOneOf : List (List Fact) → List Fact → Type 0
 IsOneOf [] facts = ⊥
 IsOneOf (one ∷ left) facts = (facts ≡ one) ⊎ IsOneOf left facts
 
--- True if B-trees store a database that encodes one of the lists of records in `left`.
+-- True if B-trees, such as those that a crash leaves, store a database that encodes one of the
+-- lists of records in `left`.
 pub record IsLeft (zone : List ℕ) (left : List (List Fact)) (trees : Trees) : Type 0 where
   pub facts : List Fact
   pub one : IsOneOf left facts
@@ -45,7 +46,7 @@ module _ {S : Type 0} (g : Ghosts S) (zone : List ℕ) where
   LeavesFacts h left = HasCleanDisk (state g h) → (trees : Trees) → (state g h).may_leave trees
       → IsLeft zone left trees
 
-  -- The contract of a look-up outside a transaction. The look-up commits nothing, and a later crash
+  -- The contract of a query outside a transaction. The query commits nothing, and a later crash
   -- leaves only what an earlier crash could leave.
   pub record OnlyLooks (old new : Held S) : Type 0 where
     pub clean : HasCleanDisk (state g new) → HasCleanDisk (state g old)

@@ -1,5 +1,5 @@
--- Definitions of how rows of `holds` are read, and which rows a stream of rejected readings
--- returns.
+-- Definitions of how rows of `holds`, the table of rejected readings, are read, and which of its
+-- rows a stream returns.
 use Rattle.std.specs.Prelude.{◌≡◌, ◌≤◌, ℕ, ℤ, pos, negsuc, nat_le, nat_lt, List, [], ◌∷◌, map, Bool, bytes_eq, ◌&&◌, ◌==◌, IsTrue, Option, Some, None, if◌then◌else◌, Result, Ok}
 use Rattle.std.specs.List.{AllByRecursion}
 use Rattle.sqlite.specs.declared.types.Value.{Value}
@@ -17,9 +17,9 @@ use Rattle.store_tables.specs.Answer.{AreFound, FirstFirst}
 use Rattle.store_devices.specs.Polls.Trees.{holds}
 use Rattle.store_devices.specs.Polls.Rows.{Held, hold_columns, hold_place}
 
--- ---- the value of one row
+-- ---- reading one row of `holds`
 
--- The cause of a rejection that a number in `holds` encodes, or None.
+-- The cause of a rejected reading that a number in `holds` encodes, or None for any other number.
 abbrev pub cause_of : ℕ → Option Cause
 cause_of n =
     if n == 1 then Some cause.NotAccumulated else
@@ -36,7 +36,8 @@ abbrev pub has_sixteen_bits : ℤ → Bool
 has_sixteen_bits (pos n) = nat_le n 32767
 has_sixteen_bits (negsuc n) = nat_le n 32767
 
--- The integer in a column, or None if the column has no signed 16-bit integer.
+-- The integer in a column, or None if the column has no signed 16-bit integer. A rejected reading
+-- can have any scale factor of 16 bits.
 abbrev pub sixteen_in : Value → Option ℤ
 sixteen_in (Int n) = if has_sixteen_bits n then Some n else None
 sixteen_in Null = None
@@ -95,7 +96,7 @@ reading_in meter row =
 abbrev pub HaveHolds : List Held → Content → Type 0
 HaveHolds = HasRows holds hold_columns
 
--- True if a rejected reading belongs to the meter `meter`.
+-- True if a rejected reading is a reading of the meter `meter`.
 abbrev pub is_of : (meter : List ℕ) → Held → Bool
 is_of meter h = bytes_eq h.meter meter
 

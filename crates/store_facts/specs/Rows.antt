@@ -47,19 +47,21 @@ use Rattle.store_facts.specs.Intervals.Rows.{Interval}
 use Rattle.store_devices.specs.declared.polls.rows.OutcomeRow.{OutcomeRow}
 use Rattle.store_devices.specs.Polls.Rows.{Started, Held, Kept}
 
--- The numbered rows of a list that is sorted latest first. The oldest element has index 1.
+-- The rows that encode the elements of a list that is sorted latest first. The oldest element has
+-- index 1.
 abbrev pub placed : {X Y : Type 0} → (row : ℕ → X → Y) → List X → List Y
 placed row [] = []
 placed row (x ∷ xs) = row (length xs + 1) x ∷ placed row xs
 
--- The numbered rows of a list, in the order of the list. The first row has index `before` + 1.
+-- The rows that encode the elements of a list, in the order of the list. The first row has index
+-- `before` + 1.
 abbrev pub placed_on : {X Y : Type 0} → (row : ℕ → X → Y) → (before : ℕ) → List X → List Y
 placed_on row before [] = []
 placed_on row before (x ∷ xs) = row (before + 1) x ∷ placed_on row (before + 1) xs
 
 -- ---- rows that encode devices, their point lists and their accounting registers
 
--- The row that encodes a device.
+-- The row of `devices` that encodes a device.
 abbrev pub added : (place : ℕ) → Device → Added
 added place device = record {
   name = device.name;
@@ -75,7 +77,7 @@ abbrev pub point_row : (place : ℕ) → ReadFunction → (area address : ℕ) �
 point_row place function area address =
     record { place = place; function = function; area = area; address = address }
 
--- The row that encodes a point of a device's point list.
+-- The row of `points` that encodes a point of a device's point list.
 abbrev pub listed : (device : List ℕ) → (place : ℕ) → ListedPoint → Listed
 listed device place point = record {
   device = device;
@@ -99,7 +101,7 @@ abbrev pub ArePlacedPoints : {Z : Type 0} → List ListedPoint → Vec Point Z �
 ArePlacedPoints points rows =
     (device : List ℕ) → map (listed_at device) rows.items ≡ placed_on (listed device) 0 points
 
--- The points of a point list, in order. A device without a list has no points.
+-- The points of a device's point list, in order. A device without a list has no points.
 abbrev pub points_put : Option DeviceList → List ListedPoint
 points_put None = []
 points_put (Some put) = put.list.points
@@ -113,7 +115,7 @@ abbrev pub scale_as : ScaleSource → RegisterScale
 scale_as (source.Fixed sf) = scale.Fixed sf
 scale_as (source.Register address) = scale.At address
 
--- The row that encodes an accounting register.
+-- The row of `registers` that encodes an accounting register, a named counter of a device.
 abbrev pub registered : (place : ℕ) → Register → Registered
 registered place register = record {
   name = register.name;
@@ -135,7 +137,7 @@ GivesSoundRow place register row =
 
 -- ---- rows that encode meters
 
--- A meter's state at its opening: no energy, and not closed.
+-- A meter's state at its installation: no energy, and not closed.
 abbrev pub begun : Opening → Installation
 begun opening = record { opening = opening; last = opened opening; total = 0; ended = false }
 
@@ -157,22 +159,24 @@ installed_as place row = record {
   };
 }
 
--- The row of `installations` for the meter of an opening, with the meter's state after all records.
+-- The row of `installations` for a meter, found by its opening (the record of its installation).
+-- The row has the meter's state after all records.
 abbrev pub installed_row : List Fact → (place : ℕ) → Opening → Installed
 installed_row facts place opening = installed_as place (installation_of facts opening)
 
--- True if every number of an opening is in the range of its column.
+-- True if every number in an opening, the record that installs a meter, is in the range of its
+-- column.
 pub record IsSoundOpening (opening : Opening) : Type 0 where
   pub ceiling : (1 ≤ opening.ceiling) × (opening.ceiling ≤ greatest_ceiling)
   pub range : IsRange opening.range
   pub moment : opening.at ≤ latest_moment
   pub sf : IsTrue (is_within 3 opening.sf)
 
--- The row of `ranges` that encodes the range of a meter's counter.
+-- The row of `ranges` that encodes how many values a meter's counter has before it rolls over.
 abbrev pub ranged : Opening → Ranged
 ranged opening = record { meter = opening.meter; range = opening.range }
 
--- ---- rows that encode the opening and the entries of a meter, where the opening has index 1
+-- ---- rows of `entries`: a meter's opening (its first entry, made at installation) has index 1
 
 -- The kind of an entry, as the table `entries` stores it.
 abbrev pub kind_as : journal_kind.EntryKind → EntryKind
@@ -210,7 +214,8 @@ entry_row sf row = record {
   sf = sf;
 }
 
--- The row that encodes an opening as the meter's first entry.
+-- The row of `entries` that encodes an opening, the record that installs a meter, as the meter's
+-- first entry.
 abbrev pub opening_row : Opening → EntryRow
 opening_row opening =
     record {
@@ -241,16 +246,16 @@ entered meter row = record { meter = meter; entry = row }
 abbrev pub scale_after : Opening → List journal.EntryRow → ℤ
 scale_after opening rows = (last_of (opened opening) (entries_in rows)).sf
 
--- The rows of a meter's opening and of its later entries, the latest first. Each row has the scale
--- factor after its entry.
+-- The rows of `entries` for one meter, the latest first: its opening (made at installation) and its
+-- later entries. Each row has the scale factor after its entry.
 abbrev pub entered_rows : Opening → List journal.EntryRow → List Entered
 entered_rows opening [] = entered opening.meter (opening_row opening) ∷ []
 entered_rows opening (row ∷ rows) =
     entered opening.meter (entry_row (scale_after opening (row ∷ rows)) row)
     ∷ entered_rows opening rows
 
--- The rows of `entries` that encode all entries of the meter of an opening. If there is no opening,
--- there are no rows.
+-- The rows of `entries` for all entries of a meter, found by its opening (the record of its
+-- installation). A meter without an opening has no rows.
 abbrev pub entries_at : List Fact → Option Opening → List Entered
 entries_at facts None = []
 entries_at facts (Some opening) = entered_rows opening (rows_of facts opening)
@@ -259,7 +264,7 @@ entries_at facts (Some opening) = entered_rows opening (rows_of facts opening)
 abbrev pub entries_of : List Fact → (meter : List ℕ) → List Entered
 entries_of facts meter = entries_at facts (opening_of facts meter)
 
--- The row that encodes a void.
+-- The row of `voids` that encodes the cancellation of a meter's entry.
 abbrev pub voided : VoidedEntry → Voided
 voided void = record { meter = void.meter; place = void.place; moment = void.at }
 
@@ -269,7 +274,7 @@ interval_of meter share = record { meter = meter; share = share }
 
 -- ---- rows that encode polls, outcomes, rejected readings and stored requests
 
--- The row that encodes a poll.
+-- The row of `polls` that encodes a poll.
 abbrev pub started : Poll → Started
 started poll = record {
   device = poll.device;
@@ -284,11 +289,11 @@ started poll = record {
   };
 }
 
--- The row that encodes the outcome of a poll.
+-- The row of `outcomes` that encodes how a poll ended.
 abbrev pub outcome_row : EndedPoll → OutcomeRow
 outcome_row ended = record { poll = ended.poll; moment = ended.at; outcome = ended.outcome }
 
--- The row that encodes a rejected reading.
+-- The row of `holds` that encodes a rejected reading with its cause.
 abbrev pub held_row : (place : ℕ) → HeldReading → Held
 held_row place reading = record {
   meter = reading.meter;
@@ -302,7 +307,7 @@ held_row place reading = record {
   };
 }
 
--- The row that encodes a stored request.
+-- The row of `replies` that encodes a request with its response, stored to detect retries.
 abbrev pub kept : Reply → Kept
 kept given = record {
   caller = given.caller;

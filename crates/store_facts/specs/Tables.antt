@@ -39,8 +39,8 @@ pub record ArePoints (facts : List Fact) (content : Content) : Type 0 where
       → IsPermutation (filter (is_point_of device) rows)
       (placed_on (listed device) 0 (points_of facts device))
 
--- True if the rows of `entries` encode the opening of each meter in the records and the meter's
--- later entries.
+-- True if the rows of `entries` encode all entries of each meter in the records, from its opening
+-- (made at installation).
 pub record AreEntries (facts : List Fact) (content : Content) : Type 0 where
   pub rows : List Entered
   pub there : HasRows entry_tree.entries entry_columns rows content
@@ -56,8 +56,8 @@ pub record AreIntervals (facts : List Fact) (content : Content) : Type 0 where
       → IsPermutation (filter (is_interval_of meter) rows)
       (map (interval_of meter) (rows_of_meter facts meter))
 
--- True if the tables encode the time zone `zone` and the records `facts`, listed latest first,
--- which the rules accepted.
+-- True if the tables encode the time zone `zone` and the records `facts`. The records are listed
+-- latest first, and the rules accepted each one after the earlier ones.
 pub record AreOf (zone : List ℕ) (facts : List Fact) (content : Content) : Type 0 where
   pub lawful : AreLawful facts
   pub meta : HasRows meta_tree meta_columns (zone ∷ []) content

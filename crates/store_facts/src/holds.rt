@@ -1,4 +1,4 @@
-//! Streams of the rejected readings of a meter from the table `holds`.
+//! Streams a meter's rejected readings from the table `holds`, without keeping them in memory.
 
 mod columns;
 mod streams;

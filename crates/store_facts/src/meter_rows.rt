@@ -1,4 +1,5 @@
-//! The query for the installations at an accounting register.
+//! The query for the meters that were installed at an accounting register (a named counter of a
+//! device).
 ghost use Rattle.store_tables.specs.Answer.{FirstFirst};
 ghost use Rattle.store_tables.specs.Asking.{Asks, Shows, ReportsRows};
 ghost use Rattle.store_tables.specs.Meters.Rows.{installed_columns, installed_place, installed_shown, is_at};
@@ -6,7 +7,7 @@ ghost use Rattle.store_tables.specs.Meters.Trees.{installations};
 
 use sqlite::{Alter, Connection, Error, Row, params};
 
-/// Queries the installations at an accounting register in order of their indices.
+/// Queries the rows of `installations` at an accounting register, ordered by their index.
 /// `read_installation` reads each row.
 pub fn register_meter_rows<S: Alter>(
     conn: &mut Connection<S>,

@@ -1,4 +1,4 @@
-//! Conversions between names and texts of the tables.
+//! Conversions between names (of meters, devices and registers) and texts of the tables.
 ghost use Rattle.std.specs.Prelude.{◌≡◌, IfOk, IfErr, IsUtf8};
 ghost use Rattle.office_events.specs.Names.{named};
 ghost use Rattle.store_tables.specs.declared.faults.RowFault.TheVariants.{Damaged};
@@ -8,7 +8,7 @@ use office_events::Name;
 use std::str;
 use store_tables::RowFault;
 
-/// Returns the text of a name. Reports a name that is not UTF-8 as damage.
+/// Returns a name as text for SQL. Reports a name that is not UTF-8 as `Damaged`.
 pub fn text(name: &Name) -> Result<&str, RowFault>
     ensures text { IfOk result (λ text. text.now ≡ name.now) }
     ensures fault { IfErr result (λ e. (e ≡ Damaged) × (¬ IsUtf8 name.now)) }
@@ -19,7 +19,7 @@ pub fn text(name: &Name) -> Result<&str, RowFault>
     }
 }
 
-/// Parses a text of the tables as a name. Reports an invalid name as damage.
+/// Parses a text of the tables as a name. Reports an invalid name as `Damaged`.
 pub fn name(text: &str) -> Result<Name, RowFault>
     ensures { result ≡ or_damaged (named text.now) }
 {

@@ -16,15 +16,15 @@ use store_devices::{Point, PointRow};
 use store_tables::{GREATEST_PLACE, RowFault};
 use sun_points::PointType;
 
-/// Returns the text of a point type. Every function in this file reports out of memory as an SQLite
-/// error.
+/// Returns the text that the table `points` stores for a SunSpec point type. If memory runs out,
+/// all functions of this file return an SQLite error.
 fn kind(alloc: Global, kind: PointType) -> Result<String, Error>
     ensures { IfOk result (λ text. string_bytes text ≡ written.type_text kind) }
 {
     Ok(type_text(alloc, kind)?)
 }
 
-/// Returns the decimal text of a scale exponent.
+/// Returns the decimal text of a scale exponent, as the table `points` stores it.
 fn exponent(alloc: Global, exponent: i8) -> Result<String, Error>
     ensures { IfOk result (λ text. string_bytes text ≡ signed_decimal exponent) }
 {
@@ -38,7 +38,7 @@ fn copy(alloc: Global, text: &str) -> Result<String, Error>
     Ok(String::from_str(alloc, text)?)
 }
 
-/// Returns the text of a point's name. Reports a name that is not UTF-8 as damage.
+/// Returns the text of a point's name. Reports a name that is not UTF-8 as `Damaged`.
 fn name(alloc: Global, name: &PointName) -> Result<String, RowFault>
     ensures { IfOk result (λ text. string_bytes text ≡ name.now) }
 {
@@ -94,8 +94,8 @@ fn push(points: &mut Vec<Point>, point: Point) -> Result<(), Error>
     Ok(())
 }
 
-/// Converts the points of a point list to rows of `points`, with indices from 1. Reports a name
-/// that is not UTF-8 as damage.
+/// Converts the points of a device's point list to rows of `points`, with indices from 1. Reports a
+/// name that is not UTF-8 as `Damaged`.
 pub fn points_at(alloc: Global, points: &[ListedPoint]) -> Result<Vec<Point>, RowFault>
     ensures listed { IfOk result (ArePlacedPoints points.now) }
     ensures sound { IfOk result (λ ps. All (λ p. IsSoundPoint p.row) ps.items) }

@@ -51,8 +51,8 @@ pub fn register_row(register: Register, place: u64) -> RegisterRow
     }
 }
 
-/// Returns the columns for a meter's last entry. `total` is the meter's energy since its opening,
-/// in mWh.
+/// Returns the columns of `installations` for a meter's last entry. `total` is the meter's energy
+/// since its installation, in mWh.
 pub fn last_row(last: Last, total: u64) -> LastRow
     ensures { result ≡ record { moment = last.at; raw = last.raw; sf = last.sf; total = total } }
 {
@@ -138,7 +138,8 @@ pub fn is_scale(sf: i16) -> bool
     MIN_SCALE <= sf && sf <= MAX_SCALE
 }
 
-/// Returns true if every number of an opening is in the range of its column.
+/// Returns true if every number in an opening, the record that installs a meter, is in the range of
+/// its column.
 pub fn is_sound_opening(opening: &Opening) -> bool
     ensures { result ≡ true → IsSoundOpening opening.now }
 {
@@ -169,7 +170,8 @@ pub fn begun_row(opening: &Opening, place: u64) -> InstallationRow
     }
 }
 
-/// Returns the row of an opening as the meter's first entry, at index 1.
+/// Returns the row of `entries` for an opening, the record that installs a meter. It is the meter's
+/// first entry, at index 1.
 pub fn opening_row(opening: &Opening) -> EntryRow
     ensures row { result ≡ rows.opening_row opening.now }
     ensures sound { IsSoundOpening opening.now → IsSoundEntry result }

@@ -11,14 +11,14 @@ use sqlite::types::ValueRef;
 use sqlite::{Alter, Connection, Error, Row};
 use store_tables::RowFault;
 
-/// A reader of the rows of a query.
+/// A reader that converts the result rows of one query to values, for `hand_on`.
 pub(crate) trait RowReader<T> {
     ghost use Rattle.std.specs.Prelude.{◌≡◌, Result, IfOk, IfErr};
     ghost use Rattle.sqlite.specs.Order as order;
     ghost use Rattle.store_tables.specs.declared.faults.RowFault as faults;
     ghost use Rattle.store_tables.specs.declared.faults.RowFault.TheVariants.{Damaged};
 
-    /// The value that the reader returns for a result row, or its fault.
+    /// The value or the fault that the reader returns for a result row.
     ghost reads: { Self → order.Row → Result T faults.RowFault };
 
     /// A property of every value that the reader returns.
@@ -31,7 +31,8 @@ pub(crate) trait RowReader<T> {
         ensures damage { IfErr result (λ e. e ≡ Damaged) };
 }
 
-/// Streams the rows of a query to `sink`. Ends with `InvalidQuery` after 2^64 - 1 rows.
+/// Passes the rows of a query to `sink` one by one. Ends with `InvalidQuery` after 2^64 - 1 rows,
+/// the greatest number that it can count.
 pub(crate) fn hand_on<S: Alter, T, R: RowReader<T>, K: RowSink<T>>(
     conn: &mut Connection<S>,
     sql: &str,

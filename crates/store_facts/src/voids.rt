@@ -1,4 +1,5 @@
-//! Queries and deletions of rows for voiding an entry of a meter.
+//! The queries and deletions of rows that voiding a meter's entry (cancelling a false reading)
+//! needs.
 
 mod entries;
 mod neighbours;

@@ -30,7 +30,7 @@ after_second content = with_rows 20 [] content
 abbrev after_first : Content → Content
 after_first content = with_rows 18 [] (after_second content)
 
--- ---- upgrading files of version 2
+-- ---- upgrading files of version 2: the tables other than `meta` and `voids` keep their rows
 
 second_same : (content : Content) (t : ℕ) → HasTree (first_tables 12).tables t → after_second content t ≡ content t
 second_same content t there = with_others 20 [] content t (λ is. has_not (first_tables 12).tables 20 refl (subst (HasTree (first_tables 12).tables) is there))
@@ -68,7 +68,7 @@ brought_second a b c x r one two =
       last.2,
     ))
 
--- ---- upgrading files of version 1
+-- ---- upgrading files of version 1: the tables other than `meta` and the new ones keep their rows
 
 first_same : (content : Content) (t : ℕ) → HasTree (first_tables 11).tables t → after_first content t ≡ content t
 first_same content t there =
@@ -122,10 +122,11 @@ brought_first {E} {D} {F} shown a b c d x r one two three =
       last.2,
     ))
 
--- ---- the connection after a file was opened
+-- ---- the connection after a file was opened: it satisfies the contract `OpensFile`
 
 module _ (layout : Layout) (zone : List ℕ) (content : Content) where
-  -- If a query runs before a file is opened, the result of opening the file stays the same.
+  -- If a query runs before a file is opened, both together satisfy the contract of opening the
+  -- file.
   pub after_question : {X E : Type 0} (a b c : State) (r : Result X E) → IsUnchanged a b → Survives a b (λ _. ⊥) → OpensFile layout zone content b c r → OpensFile layout zone content a c r
   after_question a b c (Ok x) same crash it = record { ok = it.ok; err = tt; survives = survives_then a b c (λ _. ⊥) _ _ (λ _ db none. absurd none) (λ _ db is. is) crash it.survives }
   after_question a b c (Err e) same crash it = record {
@@ -134,7 +135,8 @@ module _ (layout : Layout) (zone : List ℕ) (content : Content) where
     survives = survives_then a b c (λ _. ⊥) _ _ (λ _ db none. absurd none) (λ _ db is. is) crash it.survives;
   }
 
-  -- If a call commits nothing, the result of a later opening of the file stays the same.
+  -- If a call commits nothing, and a later call opens the file, both together satisfy the contract
+  -- of opening the file.
   pub after_kept : {X E : Type 0} (a b c : State) (r : Result X E) → KeepsCommit a b → Survives a b (λ _. ⊥) → OpensFile layout zone content b c r → OpensFile layout zone content a c r
   after_kept a b c (Ok x) kept crash it = record { ok = it.ok; err = tt; survives = survives_then a b c (λ _. ⊥) _ _ (λ _ db none. absurd none) (λ _ db is. is) crash it.survives }
   after_kept a b c (Err e) kept crash it = record { ok = tt; err = kept_then a b c kept it.err; survives = survives_then a b c (λ _. ⊥) _ _ (λ _ db none. absurd none) (λ _ db is. is) crash it.survives }
@@ -160,15 +162,16 @@ module _ (layout : Layout) (zone : List ℕ) (content : Content) where
   passed_on a b e (Ok y) Q fails it = absurd fails
   passed_on a b e (Err d) Q fails it = record { ok = tt; err = it.err; survives = it.survives }
 
-  -- If a result satisfies the contract `OpensFile`, it also satisfies the contract with another
-  -- value in Ok.
+  -- If opening a file satisfies the contract `OpensFile`, it also satisfies the contract with
+  -- another value in Ok.
   pub reported_as : {X Y E D : Type 0} (a b : State) (x : X) (y : Y) → OpensFile {X = X} {E = E} layout zone content a b (Ok x) → OpensFile {X = Y} {E = D} layout zone content a b (Ok y)
   reported_as a b x y it = record { ok = it.ok; err = tt; survives = it.survives }
 
   pub failed_as : {X Y E D : Type 0} (a b : State) (e : E) (d : D) → OpensFile {X = X} layout zone content a b (Err e) → OpensFile {X = Y} layout zone content a b (Err d)
   failed_as a b e d it = record { ok = tt; err = it.err; survives = it.survives }
 
-  -- If an upgrade runs in one transaction, it satisfies the contract `OpensFile`.
+  -- If an upgrade runs in one transaction, it satisfies `OpensFile`, the contract of opening a
+  -- file.
   pub transacted : {X E : Type 0} (a b : State) (r : Result X E) (Goes : Database → Database → Type 0) → HasCleanDisk b → TransactsTo a b r Goes
       → ((db : Database) → Goes a.now db → (after : Content) × IsBrought layout zone content after × AreTables db after) → OpensFile layout zone content a b r
   transacted a b r Goes clean done brings = record {

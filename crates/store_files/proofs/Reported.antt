@@ -26,7 +26,7 @@ apart_from : (e d f g : OpenFault) → (e ≡ d) ⊎ (e ≡ f) → d ≢ g → f
 apart_from e d f g (inl is) off away same = off (sym is ∙ same)
 apart_from e d f g (inr is) off away same = away (sym is ∙ same)
 
--- ---- faults of the database itself
+-- ---- if the database itself fails, the fault is `Store` or `Memory`
 
 own_kind : (a b : State) (e : OpenFault) → IsOwnFault a b e → (e ≡ Store) ⊎ (e ≡ Memory)
 own_kind a b Store own = inl refl
@@ -38,8 +38,8 @@ is_store : (a b : State) (e : OpenFault) → (e ≡ Store) ⊎ (e ≡ Memory) �
 is_store a b e (inl is) own = subst (IsOwnFault a b) (sym is) own
 is_store a b e (inr is) own = subst (IsOwnFault a b) (sym is) tt
 
--- If the database fails with an error, the fault is a fault of the database itself, never a fault
--- of the file.
+-- If a call of the database fails, the reported fault is one of the database itself, not one of the
+-- file's content.
 pub own_fault : (a b : State) (error : Error) (e : OpenFault) → e ≡ fault_of error → (e ≡ Store) ⊎ (e ≡ Memory) → a.faults ≤ b.faults → IsStoreError a b error → IsOwnFault a b e
 own_fault a b error e is kind up (inl want) = subst (IsOwnFault a b) (sym (is ∙ ap fault_of want)) tt
 own_fault a b error e is kind up (inr (inl failed)) = is_store a b e kind (up, inl failed)
@@ -51,10 +51,10 @@ later_own a b c Memory goes own = tt
 later_own a b c NotOurs goes own = absurd own
 later_own a b c NoZone goes own = absurd own
 
--- ---- the result of opening a file
+-- ---- the result of opening a file, by its version and time zone
 
--- If the database itself fails, the result of opening says nothing about the file's version or time
--- zone.
+-- If the database itself fails, the contract of opening a file is satisfied, whatever version and
+-- time zone the file has.
 pub reports_fault : (version : ℕ) (m : Meta) (a b : State) (e : OpenFault) → IsOwnFault a b e → KeepsCommit a b → ReportsOpening version m a b (Err e)
 reports_fault version m a b e own kept =
     let is = own_kind a b e own in
@@ -100,7 +100,8 @@ reports_well version m a b c z it = record {
   kept = tt;
 }
 
--- If a call runs before the query of `meta`, the result of opening the file stays the same.
+-- If a call runs before the query of `meta`, both together satisfy the contract of opening the
+-- file.
 pub reports_since : (version : ℕ) (m : Meta) (a b c : State) (r : Result Zone OpenFault) → StateAfterCall a b → KeepsCommit a b → ReportsOpening version m b c r → ReportsOpening version m a c r
 reports_since version m a b c (Ok z) goes kept it = record {
   other = λ off. ((it.other off).0, tt);
@@ -170,14 +171,14 @@ any_ok (Err e) p = tt
 pub unchanged_kept : (a b : State) → IsUnchanged a b → KeepsCommit a b
 unchanged_kept a b same = record { was_open = λ _. same.0.was_open; committed = λ _. same.0.committed_is }
 
--- If a layout has version 3, it is the layout with all tables.
+-- If a layout (the tables of a file) has version 3, it is the layout with all tables.
 pub is_third : (layout : Layout) → version_of layout ≡ 3 → layout ≡ Third
 is_third First is = absurd (omega (arith, is))
 is_third Second is = absurd (omega (arith, is))
 is_third Third is = refl
 
--- If two layouts have equal table names, they are the same layout, because each layout has a
--- different number of tables.
+-- If two layouts (versions of a file's tables) have equal table names, they are the same, because
+-- each has a different number of tables.
 pub one_layout : (l k : Layout) → names_of (schema_of l) ≡ names_of (schema_of k) → l ≡ k
 one_layout First First same = refl
 one_layout First Second same = absurd (let n : 11 ≡ 12 = ap length same in omega (arith, n))

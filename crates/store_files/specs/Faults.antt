@@ -1,4 +1,4 @@
--- Definitions of why a file is not opened or not created, and the numbers of these faults.
+-- Definitions of why a database file is not opened or not created, and the numbers of these faults.
 use Rattle.std.specs.Prelude.{⊤, ◌≤◌, ◌⊎◌, ℕ, IsSome}
 use Rattle.sqlite.specs.State.{State}
 use Rattle.sqlite.specs.declared.error.ErrorCode.TheVariants.{OutOfMemory}
@@ -15,8 +15,8 @@ open_fault_number Zone = 2
 open_fault_number Store = 3
 open_fault_number Memory = 4
 
--- True if the database itself caused a fault: it was closed, its disk failed, it reached SQLite's
--- limit of steps, or memory ran out.
+-- True if a fault of opening a file came from the database, not from the file's content. The
+-- database was closed, its disk failed, it reached SQLite's limit of steps, or memory ran out.
 abbrev pub IsOwnFault : (old new : State) → OpenFault → Type 0
 IsOwnFault old new Store =
     (old.faults ≤ new.faults) × (HasFailed old new ⊎ IsSome old.step_limit)

@@ -6,8 +6,8 @@ use Rattle.store_tables.specs.Content.{Content, HasTree, AreApart, AreTablesIn, 
 use Rattle.store_tables.specs.Schema.{books_schema}
 use Rattle.store_files.specs.Layouts.{first_tables}
 
--- True if a database has the first `count` tables of the schema with the rows of `content`. All
--- other tables are empty in `content`.
+-- True if a database has the first `count` tables of the schema with the rows of `content`. In
+-- `content`, the tables that do not exist yet are empty.
 pub record HasFirst (count : ℕ) (db : Database) (content : Content) : Type 0 where
   pub schema : db.schema ≡ first_tables count
   pub rows : (t : ℕ) → HasTree (first_tables count).tables t

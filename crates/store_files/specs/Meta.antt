@@ -4,7 +4,7 @@ use Rattle.sqlite.specs.declared.types.Value.TheVariants.{Null, Int, Text}
 use Rattle.sqlite.specs.Order.{Row}
 use Rattle.store_tables.specs.Content.{Content, HasRows}
 
--- The number of the B-tree that stores the table `meta`.
+-- The number that identifies the B-tree of the table `meta` in contracts and proofs.
 abbrev pub meta : ℕ
 meta = 0
 
@@ -13,7 +13,8 @@ pub record Meta : Type 0 where
   pub version : ℕ
   pub zone : List ℕ
 
--- The columns of the one row of `meta`.
+-- The columns of the one row of `meta`: its rowid 1, the NULL of its key, the file's version and
+-- the time zone.
 abbrev pub meta_columns : Meta → Row
 meta_columns m = Int (pos 1) ∷ Null ∷ Int (pos m.version) ∷ Text m.zone ∷ []
 

@@ -19,8 +19,8 @@ abbrev pub ShowsMeta : {Z : Type 0} → Content → (old new : State) → Vec Ro
 ShowsMeta content old new rows =
     IsUnchanged old new × ((m : Meta) → IsMarked m content → rows.items ≡ meta_shown m ∷ [])
 
--- The result of reading `meta`: the time zone, `NotOurs` for an unexpected version, or `Zone` for
--- an invalid time zone. The only other fault is `Memory`.
+-- The contract of reading `meta`. The result is the time zone, `NotOurs` for an unexpected version,
+-- or `Zone` for an invalid time zone. The only other fault is `Memory`.
 pub record ReadsMeta (version : ℕ) (m : Meta) (result : Result Zone OpenFault) : Type 0 where
   pub other : m.version ≢ version → result ≡ Err NotOurs
   pub ours : m.version ≡ version → IfErr result (λ e. (e ≡ NoZone) ⊎ (e ≡ Memory))
@@ -44,8 +44,8 @@ pub record ReportsOpening (version : ℕ) (m : Meta) (old new : State)
       → IfErr result (IsOwnFault old new)
   pub kept : OnErr result (KeepsCommit old new)
 
--- The contract of the query for the time zone in a file of a given layout. The query changes
--- nothing and commits nothing.
+-- The contract of the query for the time zone in a file of a given layout (version). The query
+-- changes nothing and commits nothing.
 pub record FindsZone (layout : Layout) (content : Content) (old new : State)
     (result : Result Zone OpenFault) : Type 0 where
   pub kept : KeepsCommit old new
@@ -53,15 +53,15 @@ pub record FindsZone (layout : Layout) (content : Content) (old new : State)
   pub survives : Survives old new (λ _. ⊥)
   pub reported : (m : Meta) → IsMarked m content → ReportsOpening (version_of layout) m old new result
 
--- The result of opening a file of a given layout over an open connection without uncommitted
--- changes.
+-- The contract of opening a file of a given layout (version). The connection must be open, without
+-- uncommitted changes.
 abbrev pub ReportsOfLayout : Layout → (old new : State) → Result Zone OpenFault → Type 0
 ReportsOfLayout layout old new result =
     (content : Content) → IsTrue old.is_open → old.now ≡ old.committed
     → AreTablesIn (schema_of layout) old.now content
     → (m : Meta) → IsMarked m content → ReportsOpening (version_of layout) m old new result
 
--- The result of opening a file of any layout, which depends on the row of `meta`.
+-- The contract of opening a file of any layout (version). The result depends on the row of `meta`.
 abbrev pub ReportsOfFile : (old new : State) → Result Zone OpenFault → Type 0
 ReportsOfFile old new result =
     (layout : Layout) (content : Content) → AreTablesIn (schema_of layout) old.committed content

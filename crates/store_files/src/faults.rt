@@ -1,4 +1,4 @@
-//! Faults that report why a file is not opened or not created.
+//! Faults that report why a database file is not opened or not created.
 ghost use Rattle.std.specs.Prelude.{◌≡◌, ◌⊎◌};
 ghost use Rattle.store_files.specs.Faults.{open_fault_number, fault_of};
 
@@ -6,14 +6,14 @@ use sqlite::{Error, ErrorCode};
 use std::fmt;
 use std::fmt::{Display, Formatter};
 
-/// The reason why a database was not opened as a store, or why no store was created in the
-/// database.
+/// The reason why a database was not opened as a store of `sunreg`, or why no store was created in
+/// the database.
 #[derive(Clone, Copy, Debug, PartialEq, Eq)]
 pub enum OpenFault {
     /// On opening, the database does not have the tables of a store, their version is unknown, or a
     /// transaction is open. On creating, the database is not empty, or a transaction is open.
     NotOurs,
-    /// The text of the time zone is not a POSIX rule.
+    /// The text of the time zone is not a POSIX rule (such as `CET-1CEST,M3.5.0,M10.5.0/3`).
     Zone,
     /// SQLite refused a statement of opening or creating a store, or SQLite failed.
     Store,
@@ -51,7 +51,7 @@ impl Display for OpenFault {
 
 impl std::error::Error for OpenFault {}
 
-/// Returns the fault of opening a file for an error of SQLite.
+/// Converts an error of SQLite to the fault of opening or creating a file.
 pub(crate) fn fault_of(error: Error) -> OpenFault
     ensures value { result ≡ fault_of error }
     ensures kind { (result ≡ OpenFault.Store) ⊎ (result ≡ OpenFault.Memory) }

@@ -1,4 +1,4 @@
-//! The tables that each version of a file has.
+//! The tables that a database file of each version has.
 ghost use Rattle.std.specs.Prelude.{◌≡◌, ◌≢◌, ◌↔◌, map, IsTrue, IfSome, IfNone};
 ghost use Rattle.sqlite.specs.Table.{Table};
 ghost use Rattle.store_files.specs.declared.layouts.Layout.{Layout};
@@ -6,8 +6,8 @@ ghost use Rattle.store_files.specs.Layouts.{version_of, IsNamedAs};
 
 use sqlite_schema::schema::{Schema, Table};
 
-/// The layout of a file, which determines its tables. Version 1 lacks `ranges` and `voids`, version
-/// 2 lacks `voids`, and version 3 has all tables.
+/// The layout of a database file: which tables it has. Version 1 lacks `ranges` and `voids`,
+/// version 2 lacks `voids`, and version 3 has all tables.
 #[derive(Clone, Copy, Debug, PartialEq, Eq)]
 pub enum Layout {
     First,
@@ -28,7 +28,7 @@ impl Layout {
     }
 }
 
-/// The tables of version 3, in the order in which they are created.
+/// The tables of a version 3 file, in the order in which they are created.
 const NAMES: [&str; 13] = [
     "meta",
     "devices",
@@ -61,7 +61,8 @@ fn are_named(tables: &[Table], names: &[&str]) -> bool
     true
 }
 
-/// Returns the layout whose tables have the names of a schema's tables, or None.
+/// Returns the layout (version of a file's tables) whose table names equal those of a schema, or
+/// None if no version has these names.
 pub fn layout_of(schema: &Schema) -> Option<Layout>
     ensures found { IfSome result (IsNamedAs schema.now) }
     ensures none { IfNone result ((layout : Layout) → ¬ IsNamedAs schema.now layout) }

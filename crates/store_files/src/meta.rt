@@ -1,4 +1,4 @@
-//! SQL statements on the table `meta`.
+//! SQL statements on the table `meta`, whose one row has the version of the file and its time zone.
 ghost use Rattle.std.specs.Prelude.{◌≤◌, [], ◌∷◌};
 ghost use Rattle.sqlite.specs.Held.{state};
 ghost use Rattle.store_tables.specs.Content.{Edits, with_row, changed_where};

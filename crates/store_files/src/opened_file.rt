@@ -1,4 +1,5 @@
-//! Opens the file of a store.
+//! Opens the database file of a store: checks its tables, reads its time zone, and upgrades an
+//! earlier version.
 ghost use Rattle.std.specs.Prelude.{◌≡◌, ◌≢◌, ◌⊎◌, ◌↔◌, false, [], ◌∷◌, IsTrue, IfOk, IfErr};
 ghost use Rattle.std.specs.Prelude.{IsUtf8, Err, OnErr};
 ghost use Rattle.sqlite.specs.State.{HasCleanDisk, KeepsCommit, Survives};
@@ -42,14 +43,15 @@ fn meta_rows<S: Alter>(conn: &mut Connection<S>) -> Result<Vec<Row>, Error>
     conn.query_all("SELECT version, zone FROM meta", &[])
 }
 
-/// Returns true if the row of `meta` has the version `version`.
+/// Returns true if the row of `meta` has the version `version`. A file of another version is not
+/// opened.
 fn has_version(row: &Row, version: u64) -> bool
     ensures { (m : Meta) → row.now ≡ meta_shown m → IsTrue result ↔ (m.version ≡ version) }
 {
     whole(row, 0, version, version).is_ok()
 }
 
-/// Reads the time zone from the row of `meta`.
+/// Reads the time zone of a file from the row of `meta`.
 fn read_zone_text(row: &Row) -> Result<Zone, OpenFault>
     ensures fault { (m : Meta) → row.now ≡ meta_shown m
         → IfErr result (λ e. (e ≡ OpenFault.Zone) ⊎ (e ≡ OpenFault.Memory)) }
@@ -65,8 +67,8 @@ fn read_zone_text(row: &Row) -> Result<Zone, OpenFault>
     }
 }
 
-/// Reads the time zone from the only row of `meta`. Returns `NotOurs` for an unexpected version, or
-/// for any other number of rows.
+/// Reads the time zone of a file from the only row of `meta`. Returns `NotOurs` for an unexpected
+/// version, or for any other number of rows.
 fn zone_in(rows: &[Row], version: u64) -> Result<Zone, OpenFault>
     ensures reports { (m : Meta) → rows.now ≡ meta_shown m ∷ [] → ReadsMeta version m result }
 {
@@ -82,7 +84,8 @@ fn zone_in(rows: &[Row], version: u64) -> Result<Zone, OpenFault>
     }
 }
 
-/// Returns the time zone of the file, if `meta` has the version of `layout`.
+/// Returns the time zone of the file. Returns `NotOurs` if `meta` does not have the version of
+/// `layout`.
 fn stored_zone<S: Alter>(conn: &mut Connection<S>, layout: Layout) -> Result<Zone, OpenFault>
     ensures clean { HasCleanDisk (state S.Store conn.new) → HasCleanDisk (state S.Store conn.old) }
     ensures mode { conn.old.in_transaction ≡ false → conn.new.in_transaction ≡ false }
@@ -96,7 +99,8 @@ fn stored_zone<S: Alter>(conn: &mut Connection<S>, layout: Layout) -> Result<Zon
     }
 }
 
-/// Upgrades a file to version 3, and converts an error of SQLite to a fault.
+/// Upgrades a file of any version to version 3. Reports an error of SQLite as a fault of opening
+/// the file.
 fn brought<S: Alter>(conn: &mut Connection<S>, layout: Layout) -> Result<(), OpenFault>
     requires autocommit { conn.old.in_transaction ≡ false }
     ensures autocommit { conn.new.in_transaction ≡ false }
@@ -113,7 +117,8 @@ fn brought<S: Alter>(conn: &mut Connection<S>, layout: Layout) -> Result<(), Ope
     }
 }
 
-/// Opens a file of a given layout after `check_open` returned Ok.
+/// Opens a file of a given version (layout). `check_open` must have returned Ok, so that queries
+/// see the committed rows.
 fn open_settled<S: Alter>(conn: &mut Connection<S>, layout: Layout) -> Result<Zone, OpenFault>
     requires autocommit { conn.old.in_transaction ≡ false }
     ensures autocommit { conn.new.in_transaction ≡ false }
@@ -129,7 +134,8 @@ fn open_settled<S: Alter>(conn: &mut Connection<S>, layout: Layout) -> Result<Zo
     Ok(zone)
 }
 
-/// Opens a file whose tables have the names of a layout.
+/// Opens a file whose tables have the names of the version (layout) `found`. First checks that the
+/// database is open.
 fn open_as<S: Alter>(conn: &mut Connection<S>, found: Layout) -> Result<Zone, OpenFault>
     requires autocommit { conn.old.in_transaction ≡ false }
     requires named { IsNamedAs conn.old.schema found }

@@ -1,4 +1,4 @@
-//! The CREATE TABLE statements of the store, in order.
+//! The CREATE TABLE statements of the store's tables, in the order in which the tables are created.
 ghost use Rattle.sqlite.specs.Held.{state};
 ghost use Rattle.store_tables.specs.Steps.{StepsTo, IsSameBorrow};
 ghost use Rattle.store_files.specs.Growing.{Grows};
@@ -160,7 +160,7 @@ fn create_lists<S: Alter>(tx: &mut Transaction<'_, S>) -> Result<usize, Error>
     create_registers(tx)
 }
 
-/// Creates the tables of installations, meter entries, polls and rejected readings.
+/// Creates the tables of meters (`installations`), meter entries, polls and rejected readings.
 fn create_meters<S: Alter>(tx: &mut Transaction<'_, S>) -> Result<usize, Error>
     ensures same_reference { IsSameBorrow tx.old.conn tx.new.conn }
     ensures does { StepsTo (state S.Store tx.old.conn.now) (state S.Store tx.new.conn.now) result
@@ -172,7 +172,7 @@ fn create_meters<S: Alter>(tx: &mut Transaction<'_, S>) -> Result<usize, Error>
     create_holds(tx)
 }
 
-/// Creates the tables of outcomes, energy by quarter hours, and stored requests.
+/// Creates the tables of poll outcomes, energy by quarter hours, and stored requests.
 fn create_answers<S: Alter>(tx: &mut Transaction<'_, S>) -> Result<usize, Error>
     ensures same_reference { IsSameBorrow tx.old.conn tx.new.conn }
     ensures does { StepsTo (state S.Store tx.old.conn.now) (state S.Store tx.new.conn.now) result

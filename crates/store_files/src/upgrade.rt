@@ -1,4 +1,5 @@
-//! Upgrades a file of an earlier version to version 3.
+//! Upgrades a database file of an earlier version to version 3. Version 1 lacks the tables `ranges`
+//! and `voids`, and version 2 lacks `voids`.
 ghost use Rattle.std.specs.Prelude.{◌≡◌, false, IfOk, OnErr, string_bytes};
 ghost use Rattle.sqlite.specs.Order.{column};
 ghost use Rattle.sqlite.specs.declared.types.Value.TheVariants.{Text};
@@ -34,14 +35,15 @@ fn meter_rows<S: Alter>(conn: &mut Connection<S>) -> Result<Vec<Row>, Error>
     conn.query_all("SELECT meter FROM installations", &[])
 }
 
-/// Reads the name of a meter from a result row.
+/// Reads the name of a meter from a result row of the query for the meters.
 fn meter_in(row: &Row) -> Result<String, Error>
     ensures { IfOk result (λ meter. column row.now 0 ≡ Text (string_bytes meter)) }
 {
     row.get(0)
 }
 
-/// Inserts a range of 2^32 values for the meter in each result row.
+/// Inserts a counter range of 2^32 values for the meter in each result row, because version 1
+/// stores no ranges.
 fn give_ranges<S: Alter>(tx: &mut Transaction<'_, S>, meters: &[Row]) -> Result<(), Error>
     ensures same_reference { IsSameBorrow tx.old.conn tx.new.conn }
     ensures does { Steps (state S.Store tx.old.conn.now) (state S.Store tx.new.conn.now) result
@@ -73,8 +75,8 @@ fn bring_second<S: Alter>(tx: &mut Transaction<'_, S>) -> Result<usize, Error>
     set_version(tx)
 }
 
-/// Creates the tables `ranges` and `voids`, inserts the ranges, and sets the version to 3, in one
-/// transaction.
+/// Upgrades version 1 in one transaction: creates `ranges` and `voids`, inserts a counter range for
+/// each meter, and sets the version to 3.
 fn add_ranges<S: Alter>(conn: &mut Connection<S>, meters: &[Row]) -> Result<(), Error>
     requires autocommit { conn.old.in_transaction ≡ false }
     ensures autocommit { conn.new.in_transaction ≡ false }
@@ -86,7 +88,7 @@ fn add_ranges<S: Alter>(conn: &mut Connection<S>, meters: &[Row]) -> Result<(), 
     tx.commit()
 }
 
-/// Creates the table `voids` and sets the version to 3, in one transaction.
+/// Upgrades version 2 in one transaction: creates `voids`, and sets the version to 3.
 fn add_voids<S: Alter>(conn: &mut Connection<S>) -> Result<(), Error>
     requires autocommit { conn.old.in_transaction ≡ false }
     ensures autocommit { conn.new.in_transaction ≡ false }
@@ -98,7 +100,7 @@ fn add_voids<S: Alter>(conn: &mut Connection<S>) -> Result<(), Error>
     tx.commit()
 }
 
-/// Upgrades a file of version 1 to version 3, or leaves the file unchanged.
+/// Upgrades a file of version 1 to version 3. After an error the file is unchanged.
 fn open_first<S: Alter>(conn: &mut Connection<S>) -> Result<(), Error>
     requires autocommit { conn.old.in_transaction ≡ false }
     ensures autocommit { conn.new.in_transaction ≡ false }
@@ -111,8 +113,8 @@ fn open_first<S: Alter>(conn: &mut Connection<S>) -> Result<(), Error>
     add_ranges(conn, &meters)
 }
 
-/// Upgrades a file of any version to version 3, or leaves the file unchanged. The commit is the
-/// last call of the database.
+/// Upgrades a file of any version to version 3. After an error the file is unchanged. The commit is
+/// the last call of the database.
 pub(crate) fn bring<S: Alter>(conn: &mut Connection<S>, layout: Layout) -> Result<(), Error>
     requires autocommit { conn.old.in_transaction ≡ false }
     ensures autocommit { conn.new.in_transaction ≡ false }

@@ -1,4 +1,4 @@
-//! The time zone that determines the civil days of a store.
+//! The time zone of a store, which determines when its civil days begin.
 ghost use Rattle.std.specs.Prelude.{◌≡◌, ◌↔◌, IsOk, IfOk, IfErr};
 ghost use Rattle.interval_core.specs.Zone.{HasRule};
 ghost use Rattle.store_files.specs.Zones.{IsZone};

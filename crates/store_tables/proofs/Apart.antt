@@ -1,4 +1,4 @@
--- Proofs that a table still has distinct rowids after an UPDATE or a DELETE.
+-- Proofs that the rowids of a table stay distinct after an UPDATE or a DELETE.
 use Rattle.std.proofs.Common.{◌≡◌, inl, inr, ℤ, List, [], ◌∷◌, map, filter, Bool, true, false, ◌||◌, refl, sym, ap, subst, ◌∙◌}
 use Rattle.std.specs.List.{AllByRecursion}
 use Rattle.std.specs.List.Sorted.{IsPermutation}
@@ -69,7 +69,7 @@ module _ (p : Row → Bool) (f : Row → Row) (keeps : (r : Row) → rowid r ≡
   pub changed_apart : (rows : List Row) → AreApart rows → AreApart (map (changed p f) rows)
   changed_apart rows apart = record { keyed = keyed_still rows apart.keyed; distinct = subst (IsDistinct same_id) (sym (same_all rows apart.keyed)) apart.distinct }
 
--- A rowid that differs from the rowids of all rows differs from the rowids of any subset of the
+-- If a rowid differs from the rowids of all rows, it differs from the rowids of any part of the
 -- rows.
 kept_apart : (p : Row → Bool) (x : ℤ) (rows : List Row) → AllByRecursion (λ y. same_id x y ≡ false) (map id_of rows) → AllByRecursion (λ y. same_id x y ≡ false) (map id_of (filter p rows))
 kept_apart p x [] all = tt

@@ -61,12 +61,13 @@ pub probe_whole : (schema : Schema) → IsWhole (codes "SELECT 1") 0 (understood
 unfolding understood everything
 probe_whole schema = (refl, refl, refl)
 
--- A property of an error still applies if a caller returns the error unchanged.
+-- If a caller returns the error of a call unchanged, each property of the error also holds for the
+-- caller's error.
 pub passed : {X E : Type 0} (P : E → Type 0) (e : E) (r : Result X E) → IsErrAnd r (λ d. d ≡ e) → P e → IfErr r P
 passed P e (Ok x) fails h = absurd fails
 passed P e (Err d) fails h = subst P (sym fails) h
 
--- ---- queries
+-- ---- a query of the store fails only for a cause in `IsStoreError`
 
 -- True if a database with the schema `schema` can answer the query `sql` with the parameters
 -- `params`.
@@ -125,23 +126,25 @@ module _ (schema : Schema) (sql : List ℕ) (params : Row) (suits : Suits schema
       let bare = subst IsPlain (sym known) suits.plain in
       absurd (let f = subst IsSome bare.0 late.2 in cc)
 
--- A result that satisfies a stronger postcondition also satisfies a weaker one.
+-- If a result satisfies a postcondition, it also satisfies every weaker postcondition.
 pub reported : {A : Type 0} (r : Result A Error) (P Q : A → Type 0) (R T : Error → Type 0) → ((a : A) → P a → Q a) → ((e : Error) → R e → T e) → IfOk r P → IfErr r R → MatchResult r Q T
 reported (Ok a) P Q R T reports fails ok err = reports a ok
 reported (Err e) P Q R T reports fails ok err = fails e err
 
--- A failed query satisfies its postcondition if its error satisfies the part about errors.
+-- If a query failed, and its error satisfies `Q`, the result satisfies the postcondition: `P` for
+-- an Ok value, `Q` for an error.
 pub failed_on : {A : Type 0} (P : A → Type 0) (Q : Error → Type 0) (e : Error) (r : Result A Error) → IsErrAnd r (λ d. d ≡ e) → Q e → MatchResult r P Q
 failed_on P Q e (Ok a) fails h = absurd fails
 failed_on P Q e (Err d) fails h = subst Q (sym fails) h
 
--- ---- two calls in sequence
+-- ---- if the second of two calls fails, its cause is also a cause of both calls together
 
 pub on_err : {X E : Type 0} {P Q : E → Type 0} (r : Result X E) → ((e : E) → P e → Q e) → IfErr r P → IfErr r Q
 on_err (Ok x) f h = tt
 on_err (Err e) f h = f e h
 
--- A connection on which no call was made is in a state that `StateAfterCall` permits.
+-- If no call was made on a connection, its state satisfies `StateAfterCall`, which relates the
+-- states before and after a call.
 pub still_goes : (a : State) → StateAfterCall a a
 still_goes a = record { faults = omega arith; closes = λ is. inl is; limit = refl }
 
@@ -158,7 +161,7 @@ goes_then a b c one two = record {
   limit = two.limit ∙ one.limit;
 }
 
--- A store failure between the states `b` and `c` is also a failure between the earlier state `a`
+-- If the store failed between the states `b` and `c`, it also failed between the earlier state `a`
 -- and `c`.
 pub later_failed : (a b c : State) → StateAfterCall a b → b.faults ≤ c.faults → HasFailed b c → HasFailed a c
 later_failed a b c goes up (inr more) = inr (let first = goes.faults in omega arith)
@@ -179,12 +182,14 @@ pub later_fault : (a b c : State) (Sound : Type 0) (f : RowFault) → StateAfter
 later_fault a b c Sound (Sql e) goes up why = later_error a b c e goes up why
 later_fault a b c Sound Damaged goes up why = why
 
--- Damage in some rows of a table justifies the fault `Damaged` for all of its rows.
+-- If damage in a part of a table's rows justifies the fault `Damaged`, damage justifies it for all
+-- rows of the table.
 pub less_fault : (a b : State) (Sound Part : Type 0) (f : RowFault) → (Sound → Part) → IsFault a b Part f → IsFault a b Sound f
 less_fault a b Sound Part (Sql e) part why = why
 less_fault a b Sound Part Damaged part not = λ sound. not (part sound)
 
--- A fault in reading one row is a permitted fault of the look-up that reads it.
+-- If a query's contract concerns all rows of a table, it permits each fault that the reader of one
+-- row may have.
 pub row_fault : (a b : State) (Sound One : Type 0) (f : RowFault) → (Sound → One) → IsRowFault One f → IsFault a b Sound f
 row_fault a b Sound One (Sql e) part why = inl why
 row_fault a b Sound One Damaged part not = λ sound. not (part sound)

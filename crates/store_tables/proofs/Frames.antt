@@ -1,4 +1,4 @@
--- An edit of one table leaves the other tables unchanged.
+-- Proofs that an edit of one table leaves the other tables unchanged.
 use Rattle.std.proofs.Common.{◌≡◌, ◌≢◌, inl, inr, ℕ, ◌==◌, true, false, List, [], ◌∷◌, map, refl, sym, subst, ap, arith, zero, suc, slice_get, Some}
 use Rattle.std.specs.List.{AllByRecursion}
 use Rattle.std.specs.List.Sorted.{IsPermutation}

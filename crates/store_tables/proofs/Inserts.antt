@@ -1,4 +1,4 @@
--- The effect of an INSERT of one row.
+-- Proofs that an INSERT of one row adds this row to its table, and changes nothing else.
 use Rattle.std.proofs.Common.{◌≡◌, ℕ, ℤ, List, [], ◌∷◌, Bool, true, false, ◌&&◌, not, Some, None, Ok, Err, Result, OnOk, refl, sym, ap, subst, ◌∙◌, IsPermutation, slice_get}
 use Rattle.sqlite.specs.declared.types.Value.TheVariants.{Null, Int}
 use Rattle.sqlite.specs.declared.error.Error.{Error}
@@ -37,7 +37,7 @@ one_only : (b : Bool) → b && true ≡ true → b ≡ true
 one_only true e = refl
 one_only false e = absurd (let f = e in cc)
 
--- The description of a table, with AUTOINCREMENT switched off.
+-- The schema of a table, with AUTOINCREMENT switched off.
 abbrev pub plainly : Table → Table
 plainly t = record t { is_counted = false }
 
@@ -99,10 +99,10 @@ module _ (t : Table) (at : ℕ) (place : slice_get books_schema.tables at ≡ So
         (λ apart xs lies. laid_permuted (is_numbered t.tree) columns _ (new.now.trees t.tree) (x ∷ xs) (subst (λ (r : Row). IsPermutation (r ∷ old.now.trees t.tree) (new.now.trees t.tree)) number.1 came.row)
         (laid_more (is_numbered t.tree) columns (old.now.trees t.tree) xs number.0 x lies)) content has
 
--- SQLite chooses the rowid of an inserted row whose first column is NULL.
+-- If the first column of an inserted row is NULL, SQLite chooses the rowid of the row.
 pub chosen_rowid : (row columns : Row) → row ≡ Null ∷ columns → (rows : List Row) → (n : ℤ) × (with_rowid Chosen rows row ≡ laid false n columns)
 chosen_rowid row columns is rows = (next_rowid rows, ap (with_rowid Chosen rows) is)
 
--- An inserted row whose first column is an integer has this integer as its rowid.
+-- If the first column of an inserted row is an integer, this integer is the rowid of the row.
 pub given_rowid : (row columns : Row) (n : ℤ) → row ≡ Int n ∷ columns → (rows : List Row) → (m : ℤ) × (with_rowid Chosen rows row ≡ laid true m (Int n ∷ columns))
 given_rowid row columns n is rows = (n, ap (with_rowid Chosen rows) is)

@@ -1,4 +1,4 @@
--- The stored rows of a table, and the values that they encode.
+-- The stored rows of a table, which begin with their rowid, and the values that these rows encode.
 use Rattle.std.proofs.Common.{◌≡◌, inl, inr, ℤ, List, [], ◌∷◌, map, filter, Bool, true, false, not, if◌then◌else◌, refl, sym, ap, ap₂, ◌∙◌, subst, IsPermutation}
 use Rattle.std.specs.List.{AllByRecursion}
 use Rattle.std.proofs.lemmas.Bool.{cases_Bool}
@@ -74,7 +74,8 @@ module _ {X : Type 0} (numbered : Bool) (columns : X → Row) where
   laid_more rows xs n x h = record { all = (n, x) ∷ h.all; rows = ap (λ rs. laid numbered n (columns x) ∷ rs) h.rows; same = IsPermutation-cons x _ _ h.same }
 
   module _ (test : Row → Bool) (p : X → Bool) (reports : (n : ℤ) (x : X) → test (laid numbered n (columns x)) ≡ p x) where
-    -- The stored rows that pass `test` are the stored rows of the values that pass `p`.
+    -- If a test of stored rows agrees with the test `p` of values, the rows that pass `test` encode
+    -- exactly the values that pass `p`.
     chosen : (all : List (Numbered X)) → filter test (map lay all) ≡ map lay (filter (λ (z : Numbered X). p z.1) all)
     chosen [] = refl
     chosen (z ∷ all) = elim (cases_Bool (p z.1)) [

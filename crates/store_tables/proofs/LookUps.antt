@@ -1,4 +1,5 @@
--- Proofs that a look-up returns the value in the first row of its query.
+-- Proofs that a look-up, a function that runs one query, returns the value in the first row of the
+-- result.
 use Rattle.std.proofs.Common.{◌≡◌, ◌≤◌, ℕ, List, [], ◌∷◌, map, take, slice_get, Bool, Option, Some, None, Ok, Err, Result, IfOk, IfSome, IsErrAnd, refl, sym, ap, subst, ◌∙◌}
 use Rattle.std.specs.List.{AllByRecursion}
 use Rattle.std.proofs.lemmas.List.Sorted.{All-permutation}
@@ -19,7 +20,7 @@ use Rattle.store_tables.specs.Columns.{whole_in, first_of, first_in, or_damaged,
 use Rattle.store_tables.specs.Asking.{Asks, ReportsAnswer, ShowsFirst, ReadsRow, LooksUp}
 
 module _ {S A X : Type 0} (g : Ghosts S) (old new : Held S) (tree : ℕ) (columns : X → Row) (IsSound : X → Type 0) (Answers : List X → A → Type 0) (asks : Asks g old new) where
-  -- A look-up whose query failed returns the error of the query.
+  -- If the query of a look-up fails, the look-up returns the error of the query.
   pub refused : (e : Error) (r : Result A RowFault)
       → (HasCleanDisk (state g new) → (content : Content) → AreTables (state g old).now content → (rows : List X) → HasRows tree columns rows content → IsStoreError (state g old) (state g new) e)
       → IsErrAnd r (λ d. d ≡ Sql e) → LooksUp g old new tree columns IsSound r Answers
@@ -44,7 +45,7 @@ module _ {S A X : Type 0} (g : Ghosts S) (old new : Held S) (tree : ℕ) (column
   some_shown row [] is e = absurd (let f = sym is ∙ ap (λ rs. slice_get rs 0) e in cc)
   some_shown row (x ∷ found) is e = (x, refl, (let f : Some row ≡ Some (shown x) = sym is ∙ ap (λ rs. slice_get rs 0) e in cc))
 
-  -- A look-up whose query shows no row returns None.
+  -- If the result of a look-up's query has no row, the look-up returns None.
   pub looked_none : slice_get items 0 ≡ None → ((xs found : List X) → AreFound passes Later xs found → slice_get found 0 ≡ None → Answers xs None) → LooksUp g old new tree columns IsSound (Ok None) Answers
   looked_none is reports = record {
     asks = asks;
@@ -52,7 +53,8 @@ module _ {S A X : Type 0} (g : Ghosts S) (old new : Held S) (tree : ℕ) (column
     fault = λ clean content has rows of. tt;
   }
 
-  -- A look-up whose first row can be read returns the value in this row.
+  -- If the first result row of a look-up's query can be read, the look-up returns the value in this
+  -- row.
   pub looked_some : (IsSeen : X → A → Type 0) (row : Row) (a : A) → slice_get items 0 ≡ Some row → ReadsRow row shown IsSeen IsSound (Ok a)
       → ((xs found : List X) (x : X) → AreFound passes Later xs found → slice_get found 0 ≡ Some x → IsSeen x a → Answers xs (Some a)) → LooksUp g old new tree columns IsSound (Ok (Some a)) Answers
   looked_some IsSeen row a is reads reports = record {
@@ -70,7 +72,8 @@ module _ {S A X : Type 0} (g : Ghosts S) (old new : Held S) (tree : ℕ) (column
       let all = recursion_from_All IsSound (y ∷ found) (All-permutation IsSound _ _ are.all (All-from_recursion IsSound _ (all-filter IsSound passes xs sound))) in
       let same : y ≡ x = cc in subst IsSound same all.0
 
-  -- A look-up whose first row can't be read returns the fault of the row's reader.
+  -- If the first result row of a look-up's query can't be read, the look-up returns the fault of
+  -- the row's reader.
   pub looked_fault : (IsSeen : X → A → Type 0) (row : Row) (e : RowFault) (r : Result (Option A) RowFault) → slice_get items 0 ≡ Some row → ReadsRow row shown IsSeen IsSound (Err e) → IsErrAnd r (λ d. d ≡ e)
       → LooksUp g old new tree columns IsSound r Answers
   looked_fault IsSeen row e (Ok a) is reads fails = absurd fails
@@ -84,7 +87,7 @@ module _ {S A X : Type 0} (g : Ghosts S) (old new : Held S) (tree : ℕ) (column
         (row_fault (state g old) (state g new) (AllByRecursion IsSound rows) (IsSound one.0) e (λ sound. one_sound rows it.0 one.0 it.1 sound one.1) (reads.fault one.0 one.2));
   }
 
--- ---- the integer in the first column of the first row
+-- ---- a look-up of one integer returns the first column of the first result row
 
 module _ {S X : Type 0} (g : Ghosts S) (old new : Held S) (tree : ℕ) (columns : X → Row) (IsSound : X → Type 0) (asks : Asks g old new) (passes : X → Bool) (Later : X → X → Type 0) (shown : X → Row)
     (items : List Row) (shows : ReportsAnswer {A = List Row} g old new tree columns (Ok items) (ShowsFirst passes Later shown)) (Answers : List X → Option ℕ → Type 0) (low high : ℕ) (of : X → ℕ)

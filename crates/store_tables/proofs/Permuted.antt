@@ -1,4 +1,4 @@
--- A permutation of a mapped list is the map of a permutation.
+-- Proof that a permutation of a mapped list is the map of a permutation of the list.
 use Rattle.std.proofs.Common.{◌≡◌, List, [], ◌∷◌, map, refl, ap₂, IsPermutation}
 use Rattle.std.proofs.lemmas.List.Sorted.{IsPermutation-refl, IsPermutation-trans, IsPermutation-cons, IsPermutation-middle}
 use Rattle.sqlite_keyed.proofs.ListLemmas.{along_permutation}

@@ -13,12 +13,14 @@ use Rattle.store_tables.specs.Failing.{IsRowFault}
 use Rattle.store_tables.specs.Columns.{whole_in, within, is_within, function_in, or_damaged, and_then}
 use Rattle.store_tables.specs.Asking.{ReadsRow}
 
--- True if an Ok value satisfies `Is`, and `Damaged` is reported only for a row out of its ranges.
+-- True if a reader's Ok value satisfies `Is`, and the reader reports `Damaged` only for a row with
+-- a value out of its range.
 pub record IsFair {A : Type 0} (Sound : Type 0) (Is : A → Type 0) (result : Result A RowFault) : Type 0 where
   pub read : IfOk result Is
   pub fault : IfErr result (IsRowFault Sound)
 
--- Damage in one part of a row justifies the fault `Damaged` for the row.
+-- If damage in one part of a row justifies the fault `Damaged`, it also justifies this fault for
+-- the complete row.
 pub less_sound : (Sound Part : Type 0) → (Sound → Part) → (e : RowFault) → IsRowFault Part e → IsRowFault Sound e
 less_sound Sound Part part (Sql e) is = is
 less_sound Sound Part part Damaged not = λ sound. not (part sound)
@@ -28,8 +30,8 @@ module _ {A B : Type 0} (Sound : Type 0) (Is : B → Type 0) (next : A → Resul
   tested true x sound rest = rest
   tested false x sound rest = record { read = tt; fault = λ is. let f = sound is in cc }
 
-  -- A row is read correctly if its first column is in range and its other columns are read
-  -- correctly.
+  -- If the first column of a row is in its range, and the other columns are read correctly, the row
+  -- is read correctly.
   pub fair_some : (o : Option A) (x : A) → o ≡ Some x → IsFair Sound Is (next x) → IsFair Sound Is (and_then (or_damaged o) next)
   fair_some o x is rest = rw is rest
 
@@ -38,8 +40,8 @@ both true b e f = f
 both false b e f = absurd (let g = e in cc)
 
 module _ {B : Type 0} (Sound : Type 0) (Is : B → Type 0) where
-  -- A row that begins with an integer from `low` to `high` is read correctly if its other columns
-  -- are.
+  -- If a row begins with an integer from `low` to `high`, and its other columns are read correctly,
+  -- the row is read correctly.
   pub fair_whole : (next : ℕ → Result B RowFault) (low high n : ℕ) → (Sound → (low ≤ n) × (n ≤ high)) → IsFair Sound Is (next n) → IsFair Sound Is (and_then (or_damaged (whole_in low high (Int (pos n)))) next)
   fair_whole next low high n sound rest = tested Sound Is next (nat_le low n && nat_le n high) n (λ is. both _ _ (le-leb low n (sound is).0) (le-leb n high (sound is).1)) rest
 
@@ -50,13 +52,13 @@ module _ {B : Type 0} (Sound : Type 0) (Is : B → Type 0) where
   if_fair true x sound is = record { read = is; fault = tt }
   if_fair false x sound is = record { read = tt; fault = λ s. let f = sound s in cc }
 
-  -- A row is read correctly if a reader of its first columns and a reader of its other columns are
-  -- correct.
+  -- If one reader of a row's first columns and one reader of its other columns are correct, both in
+  -- sequence are correct.
   pub fair_then : {A : Type 0} (Part : Type 0) (a : A) (first : Result A RowFault) (next : A → Result B RowFault) → (Sound → Part) → IsFair Part (λ x. x ≡ a) first → IsFair Sound Is (next a) → IsFair Sound Is (and_then first next)
   fair_then Part a (Ok x) next part one rest = subst (λ y. IsFair Sound Is (next y)) (sym one.read) rest
   fair_then Part a (Err e) next part one rest = record { read = tt; fault = less_sound Sound Part part e one.fault }
 
--- A row that consists of one integer from `low` to `high` is read correctly.
+-- If a row consists of one integer from `low` to `high`, the row is read correctly.
 pub fair_last : (Sound : Type 0) (Is : ℕ → Type 0) (low high n : ℕ) → (Sound → (low ≤ n) × (n ≤ high)) → Is n → IsFair Sound Is (or_damaged (whole_in low high (Int (pos n))))
 fair_last Sound Is low high n sound is = if_fair Sound Is (nat_le low n && nat_le n high) n (λ s. both _ _ (le-leb low n (sound s).0) (le-leb n high (sound s).1)) is
 
@@ -65,7 +67,7 @@ pub then_read : {A B : Type 0} (first : Result A RowFault) (next : A → Result 
 then_read (Ok a) next b e = (a, refl, e)
 then_read (Err f) next b e = absurd (let g = e in cc)
 
--- ---- bounds of the values that were read
+-- ---- if a row was read successfully, each of its values is within its bounds
 
 -- Splits a successful read of a row: `value` is from the first column, and `b` from the other
 -- columns.
@@ -115,7 +117,7 @@ pub or_is : {A : Type 0} (o : Option A) (a : A) → or_damaged o ≡ Ok a → o 
 or_is (Some b) a e = ap Some (ok_is e)
 or_is None a e = absurd (let f = e in cc)
 
--- ---- an integer in the first column
+-- ---- an integer that was read from the first column is within its bounds
 
 pub number_bounds : (low high : ℕ) (row : Row) (r : Result ℕ RowFault) → r ≡ or_damaged (whole_in low high (column row 0)) → IfOk r (λ n. (low ≤ n) × (n ≤ high))
 number_bounds low high row (Err f) is = tt
@@ -126,7 +128,7 @@ pub reads_number : {X : Type 0} (low high : ℕ) (shown : X → Row) (of : X →
 reads_number low high shown of Sound first bounds row r is = reads_row row shown (λ x n. n ≡ of x) Sound r (λ x seen.
     subst (IsFair (Sound x) (λ n. n ≡ of x)) (sym (is ∙ ap (λ v. or_damaged (whole_in low high v)) (ap (λ r. column r 0) seen ∙ first x))) (fair_last (Sound x) (λ m. m ≡ of x) low high (of x) (bounds x) refl))
 
--- ---- Modbus function codes
+-- ---- the stored code of a Modbus read function is read back as this function
 
 pub function_back : (f : ReadFunction) → function_in (Int (pos (code_of f))) ≡ Some f
 function_back HoldingRegisters = refl

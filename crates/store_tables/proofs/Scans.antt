@@ -1,4 +1,5 @@
--- The structure of a SELECT from one table, and its answer.
+-- The parsed structure of a SELECT from one table, and the result rows that SQLite computes from
+-- it.
 use Rattle.std.proofs.Common.{◌≡◌, ℕ, pos, negsuc, List, [], ◌∷◌, map, filter, Bool, true, false, ◌&&◌, None, Some, refl, sym, ap, subst, ◌∙◌, bytes_eq, IsPermutation, Ordering, flat_map, cond, nat_le, ◌^◌, inl, inr, ◌<ℤ◌, ◌==◌, eq-eqb, ne_eqb, arith, Less, Equal, Greater}
 use Rattle.std.proofs.lemmas.Bool.{cases_Bool}
 use Rattle.std.specs.List.{list_all}
@@ -53,7 +54,7 @@ scan tree tests project order limit = record {
   offset = lit (Int (pos 0));
 }
 
--- A query without common table expressions (WITH) reads the stored rows of a table.
+-- If a query has no common table expressions (WITH), it reads the stored rows of a table.
 pub overlay_none : (db : Trees) (tree : ℕ) → overlay db [] tree ≡ db tree
 overlay_none db tree = elim (cases_Bool (nat_le (2 ^ 31) tree)) [
   | inl high ↦ rw high refl
@@ -79,7 +80,8 @@ module _ (params : Row) where
     outputs_are [] = refl
     outputs_are (r ∷ rows) = ap (λ os. output query (env r) ∷ os) (outputs_are rows)
 
-    -- The rows of an answer before ORDER BY are the table's rows that pass the WHERE clause.
+    -- If a SELECT has a WHERE clause, its result before ORDER BY has exactly the rows of the table
+    -- that pass the clause.
     pub kept_are : (db : Trees) (rows : List Row) (a : IsAnswer query (overlay db []) params rows) → a.kept ≡ map (λ r. output query (env r)) (filter (passes tests) (db tree))
     kept_are db rows a = a.distinct ∙ (ap (map (output query)) (a.grouped ∙ (ap (flat_map (λ r. cond (passes tests r) (env r ∷ []) [])) (overlay_none db tree) ∙ picked (passes tests) env (db tree))) ∙ outputs_are (filter (passes tests) (db tree)))
 
@@ -87,8 +89,8 @@ module _ (params : Row) where
     shown_are [] = refl
     shown_are (r ∷ rows) = ap (λ rs. shows project r ∷ rs) (shown_are rows)
 
--- A query without ORDER BY and LIMIT, as in UPDATE and DELETE, finds all rows that pass its WHERE
--- clause.
+-- If a query has no ORDER BY and no LIMIT, as in UPDATE and DELETE, it finds all rows that pass its
+-- WHERE clause.
 pub asked : (params : Row) (tree : ℕ) (tests project : List Term) (db : Trees) (rows : List Row) → IsAnswer (scan tree tests project [] no_limit) (overlay db []) params rows
     → IsPermutation (map (shows params project) (filter (passes params tests) (db tree))) rows
 asked params tree tests project db rows a =
@@ -96,7 +98,7 @@ asked params tree tests project db rows a =
     subst (IsPermutation (map (shows params project) (filter (passes params tests) (db tree)))) (sym a.shown)
     (subst (λ xs. IsPermutation xs (map (λ (o : Output). o.1) a.ordered)) (ap (map (λ (o : Output). o.1)) (kept_are params tree tests project [] no_limit db rows a) ∙ shown_are params tree tests project [] no_limit (filter (passes params tests) (db tree))) shown)
 
--- ---- the tests of a WHERE clause
+-- ---- a test of a WHERE clause is true exactly if its Boolean value is true
 
 truth_back : (b : Bool) → is_true (from_truth (Some b)) ≡ b
 truth_back true = refl

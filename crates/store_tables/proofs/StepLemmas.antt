@@ -36,7 +36,8 @@ pub ran : (sql : List ℕ) (params : Row) (old new : State) (r : Result ℕ Erro
 ran sql params old new (Ok count) Q f h = f h.0
 ran sql params old new (Err e) Q f h = tt
 
--- An INSERT, UPDATE or DELETE inside a transaction satisfies the contract of a step.
+-- If a transaction runs one INSERT, UPDATE or DELETE, the statement satisfies `StepsTo`, the
+-- contract of a call inside a transaction.
 pub steps : (sql : List ℕ) (params : Row) (old new : State) (r : Result ℕ Error) (Goes : Database → Database → Type 0)
     → (HasCleanDisk new → IsTrue old.in_transaction → ExecutesInside 0 sql params old new r) → Survives old new (λ _. ⊥)
     → (Executes sql params old new r → OnOk r (Goes old.now new.now)) → StepsTo old new r Goes
@@ -47,7 +48,8 @@ steps sql params old new r Goes runs survives rows = record {
   survives = survives;
 }
 
--- Two calls in sequence leave the last commit unchanged if each call leaves it unchanged.
+-- If each of two calls in sequence leaves the last commit unchanged, both together leave it
+-- unchanged.
 pub kept_then : (a b c : State) → KeepsCommit a b → KeepsCommit b c → KeepsCommit a c
 kept_then a b c p q = record { was_open = λ still. p.was_open (q.was_open still); committed = λ still. q.committed still ∙ p.committed (q.was_open still) }
 
@@ -62,7 +64,8 @@ turns_then schema a b c P Q R goes one two content has =
     let second = two first.0 first.2 in
     (second.0, goes content first.0 second.0 first.1 second.1, second.2)
 
--- Two calls in sequence inside a transaction are one step if the first call is Ok.
+-- If the first of two calls inside a transaction is Ok, both together satisfy `StepsTo`, the
+-- contract of one call.
 pub goes_then : {X Y D E : Type 0} (a b c : State) (x : X) (r : Result Y E) (P Q R : Database → Database → Type 0) → StepsTo {X = X} {E = D} a b (Ok x) P → StepsTo b c r Q
     → (P a.now b.now → Q b.now c.now → R a.now c.now) → StepsTo a c r R
 goes_then a b c x r P Q R one two goes = record {
@@ -87,16 +90,17 @@ no_steps a x = record {
   survives = record { clean = omega arith; shield = λ is. is; counts = omega arith; limit = refl; closes = λ clean is. inl is; crash = λ clean db left. inl left };
 }
 
--- A failed step satisfies the contract of any step, because contracts constrain the rows only at
--- Ok.
+-- If a call inside a transaction fails, it satisfies the contract with any postcondition, because
+-- postconditions constrain the rows only at Ok.
 pub failed : {X Y D E : Type 0} (a b : State) (e : D) (d : E) (P Q : Database → Database → Type 0) → StepsTo {X = X} a b (Err e) P → StepsTo {X = Y} a b (Err d) Q
 failed a b e d P Q one = record { kept = one.kept; inside = λ clean inside. tt; rows = λ clean inside. tt; survives = one.survives }
 
--- The effect of a successful step does not depend on the Ok value that the step returns.
+-- The effect of a successful call inside a transaction does not depend on its Ok value.
 pub answered : {X Y D E : Type 0} (a b : State) (x : X) (y : Y) (P : Database → Database → Type 0) → StepsTo {X = X} {E = D} a b (Ok x) P → StepsTo {X = Y} {E = E} a b (Ok y) P
 answered a b x y P one = record { kept = one.kept; inside = one.inside; rows = one.rows; survives = one.survives }
 
--- A step that satisfies a stronger postcondition also satisfies a weaker one.
+-- If a call inside a transaction satisfies a postcondition, it also satisfies every weaker
+-- postcondition.
 pub weaker : {X E : Type 0} (a b : State) (r : Result X E) (P Q : Database → Database → Type 0) → (P a.now b.now → Q a.now b.now) → StepsTo a b r P → StepsTo a b r Q
 weaker a b r P Q reports one = record { kept = one.kept; inside = one.inside; rows = λ clean inside. on_ok r reports (one.rows clean inside); survives = one.survives }
 
@@ -145,16 +149,16 @@ module _ {S : Type 0} (g : Ghosts S) (old : Held S) (mid end : State) (Goes : Da
         survives = survives_begin g old end _ (survives_then begun mid end (λ _. ⊥) (λ _. ⊥) _ (λ _ db none. absurd none) (λ _ db none. absurd none) done.survives crash);
       }
 
--- ---- queries
+-- ---- a query inside or outside a transaction changes no row and commits nothing
 
--- A successful query leaves the database unchanged.
+-- If a query is Ok, the database stays unchanged.
 pub shown_same : (sql : List ℕ) (params : Row) (old new : State) (rows : List Row) → IsPlain (understood old.now.schema sql) → Shown sql params old new rows → IsUnchanged old new
 unfolding Shown
 shown_same sql params old new rows plain h =
     let none = (subst IsPlain h.1.is plain).0 in
     (subst (ShowsRows old new sql h.0 (timed params h.0.formats h.1.now) rows) none h.2).3
 
--- A failed query leaves the last committed rows.
+-- If a query fails, the last committed rows stay unchanged.
 pub failed_query_kept : (sql : List ℕ) (params : Row) (old new : State) (e : Error) → IsPlain (understood old.now.schema sql) → FailsToQuery sql params old new e → KeepsCommit old new
 unfolding FailsToQuery
 failed_query_kept sql params old new e plain (inl h) = not_run_kept old new sql params e h

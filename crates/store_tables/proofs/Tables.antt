@@ -1,4 +1,4 @@
--- A write to one table leaves the other tables unchanged.
+-- Proofs that a write to one table leaves the other tables unchanged.
 use Rattle.std.proofs.Common.{◌≡◌, ◌≢◌, ◌⊎◌, inl, inr, ℕ, ℤ, List, [], map, flat_map, length, ◌==◌, Bool, true, false, cond, Ok, Err, Result, refl, sym, ap, subst, ◌∙◌, IsPermutation}
 use Rattle.std.specs.List.{filter_map}
 use Rattle.std.proofs.lemmas.List.Sorted.{IsPermutation-refl}
@@ -54,7 +54,7 @@ acts_not k false olds news = refl
 pub nothing_acts : (k : ℕ) (olds news : List Row) → works books_schema Enforced 0 k olds news ≡ []
 nothing_acts k olds news = acts_not k (length news == 0) olds news
 
--- True if the databases `old` and `new` differ only in the rows of table `k`.
+-- True if the databases `old` and `new` differ only in the rows of the table with the number `k`.
 pub record Rewrites (form : Schema) (k : ℕ) (old new : Database) : Type 0 where
   pub schema : new.schema ≡ form
   pub sound : IsDatabase new

@@ -1,4 +1,4 @@
--- The effect of an UPDATE and of a DELETE.
+-- Proofs that an UPDATE or a DELETE changes exactly the rows that pass its WHERE clause.
 use Rattle.std.proofs.Common.{◌≡◌, ℕ, ℤ, List, [], ◌∷◌, map, filter, drop, Bool, not, Some, None, Ok, Err, Result, OnOk, refl, sym, ap, subst, ◌∙◌, slice_get, IsPermutation}
 use Rattle.std.proofs.lemmas.List.Sorted.{IsPermutation-map}
 use Rattle.sqlite.specs.declared.types.Value.TheVariants.{Null, Int}
@@ -101,7 +101,7 @@ module _ (t : Table) (at : ℕ) (place : slice_get books_schema.tables at ≡ So
           rows = stored;
         }
 
-    -- The effect of UPDATE .. SET .. WHERE .. on the rows of a table.
+    -- The effect of UPDATE .. SET .. WHERE .. on the values that the rows of a table encode.
     module _ {X : Type 0} (columns : X → Row) (p : X → Bool) (f : X → X) (reports : (n : ℤ) (x : X) → chosen (laid (is_numbered k) n (columns x)) ≡ p x)
         (makes : (n : ℤ) (x : X) → made (laid (is_numbered k) n (columns x)) ≡ laid (is_numbered k) n (columns (f x))) (keeps : (r : Row) → rowid r ≡ Int (id_of r) → rowid (made r) ≡ rowid r) where
       pub updates : (old new : State) (text : List ℕ) (r : Result ℕ Error) → command_of (understood books_schema text) ≡ Update at (record { lets = []; body = query }) → IsPlain (understood books_schema text)
@@ -112,7 +112,7 @@ module _ (t : Table) (at : ℕ) (place : slice_get books_schema.tables at ≡ So
           turns books_schema k columns (changed_where p f) old.now new.now (tree_at books_schema.tables at table place) does.rewrites
           (λ apart xs lies. laid_permuted (is_numbered k) columns _ (new.now.trees k) (changed_where p f xs) (does.rows apart) (laid_changed (is_numbered k) columns chosen p reports made f makes (old.now.trees k) xs lies)) content has
 
-  -- ---- DELETE
+  -- ---- DELETE: it removes the rows that pass its WHERE clause
 
   abbrev gone_query : Query
   gone_query = scan k tests (col 1 0 ∷ []) [] no_limit
@@ -155,7 +155,7 @@ module _ (t : Table) (at : ℕ) (place : slice_get books_schema.tables at ≡ So
         rows = stored;
       }
 
-  -- The effect of DELETE FROM .. WHERE .. on the rows of a table.
+  -- The effect of DELETE FROM .. WHERE .. on the values that the rows of a table encode.
   pub deletes : {X : Type 0} (columns : X → Row) (p : X → Bool) → ((n : ℤ) (x : X) → chosen (laid (is_numbered k) n (columns x)) ≡ p x) → (old new : State) (text : List ℕ) (r : Result ℕ Error)
       → command_of (understood books_schema text) ≡ Delete at (record { lets = []; body = gone_query }) → IsPlain (understood books_schema text)
       → Executes text params old new r → OnOk r (Turns (Edits k columns (without_where p)) old.now new.now)

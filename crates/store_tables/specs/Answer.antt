@@ -12,13 +12,14 @@ pub record AreFound {X : Type 0} (passes : X → Bool) (Later : X → X → Type
   pub order : IsAscending Later found
 
 module _ {X A : Type 0} (passes : X → Bool) (IsSeen : X → A → Type 0) where
-  -- True if a look-up returns the value in a row that passes its test, or None if no row passes.
+  -- True if a query for one row returns the value of a row that passes its test, or None if no row
+  -- passes.
   abbrev pub IsFound : List X → Option A → Type 0
   IsFound rows None = filter passes rows ≡ []
   IsFound rows (Some a) =
       (x : X) × IsSeen x a × (others : List X) × IsPermutation (filter passes rows) (x ∷ others)
 
-  -- True if a look-up returns the value in the passing row with the greatest key, or None if no row
+  -- True if a query returns the value of the passing row with the greatest key, or None if no row
   -- passes.
   abbrev pub IsLast : (key : X → ℕ) → List X → Option A → Type 0
   IsLast key rows None = filter passes rows ≡ []

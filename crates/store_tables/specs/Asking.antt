@@ -69,8 +69,9 @@ pub record ReadsRow {A X : Type 0} (row : Row) (shown : X → Row) (IsSeen : X �
   pub read : (x : X) → row ≡ shown x → IfOk result (IsSeen x)
   pub fault : (x : X) → row ≡ shown x → IfErr result (IsRowFault (IsSound x))
 
--- True if a look-up makes one query, and an Ok answer follows from the table's rows. `Damaged` is
--- reported only if a row is out of its ranges. Any other fault has a cause in `IsStoreError`.
+-- True if a function runs one query, and its Ok answer follows from the table's rows. It reports
+-- `Damaged` only if a row has a value out of its range. Any other fault has a cause in
+-- `IsStoreError`.
 pub record LooksUp {S A X : Type 0} (g : Ghosts S) (old new : Held S) (tree : ℕ) (columns : X → Row)
     (IsSound : X → Type 0) (result : Result A RowFault) (Answers : List X → A → Type 0) : Type 0
   where

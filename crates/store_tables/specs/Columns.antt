@@ -1,4 +1,5 @@
--- Checks of single column values of a row against their bounds.
+-- Checks that the value of a column is in its range. A value out of its range is reported as
+-- `Damaged`.
 use Rattle.std.specs.Prelude.{ℕ, suc, ℤ, pos, negsuc, Bool, nat_le, ◌&&◌, ◌==◌, if◌then◌else◌, List, Option, Some, None, Result, Ok, Err}
 use Rattle.std.specs.List.{slice_get}
 use Rattle.std.specs.Option.{option_and_then}
@@ -37,7 +38,8 @@ abbrev pub function_of : ℕ → Option ReadFunction
 function_of code =
     if code == 3 then Some HoldingRegisters else if code == 4 then Some InputRegisters else None
 
--- The Modbus read function whose function code is in a column, or None.
+-- The Modbus read function whose function code (3 or 4) is in a column, or None for any other
+-- value.
 abbrev pub function_in : Value → Option ReadFunction
 function_in v = option_and_then function_of (whole_in 3 4 v)
 
@@ -46,21 +48,21 @@ abbrev pub or_damaged : {X : Type 0} → Option X → Result X RowFault
 or_damaged None = Err Damaged
 or_damaged (Some x) = Ok x
 
--- Continues with the next column of a row if a column is Ok, and otherwise returns the column's
--- fault.
+-- Continues with the next column of a row if this column is Ok, and otherwise returns the fault of
+-- this column.
 abbrev pub and_then : {X Y : Type 0} → Result X RowFault → (X → Result Y RowFault)
     → Result Y RowFault
 and_then (Err e) next = Err e
 and_then (Ok x) next = next x
 
 -- The integer in the first column of a row, or None without a row. An integer outside `low` to
--- `high` is damage.
+-- `high` is reported as `Damaged`.
 abbrev pub first_of : (low high : ℕ) → Option Row → Result (Option ℕ) RowFault
 first_of low high None = Ok None
 first_of low high (Some row) =
     and_then (or_damaged (whole_in low high (column row 0))) (λ n. Ok (Some n))
 
 -- The integer in the first column of a result's first row, or None without rows. An integer outside
--- `low` to `high` is damage.
+-- `low` to `high` is reported as `Damaged`.
 abbrev pub first_in : (low high : ℕ) → List Row → Result (Option ℕ) RowFault
 first_in low high rows = first_of low high (slice_get rows 0)

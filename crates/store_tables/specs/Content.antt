@@ -27,16 +27,16 @@ Content = ℕ → List Row
 abbrev pub is_numbered : ℕ → Bool
 is_numbered t = list_any (λ n. n == t) (0 ∷ 1 ∷ 5 ∷ 7 ∷ 11 ∷ 12 ∷ 13 ∷ [])
 
--- The columns of a stored row, without the rowid if SQLite chose the rowid.
+-- The columns of a stored row as a query sees them: without the rowid if SQLite chose the rowid.
 abbrev pub reported : Bool → Row → Row
 reported true row = row
 reported false row = drop 1 row
 
--- The rowid of a stored row, as an integer.
+-- The rowid of a stored row. Every row begins with its rowid.
 abbrev pub id_of : Row → ℤ
 id_of r = id_in (rowid r)
 
--- True if two rowids are equal.
+-- True if two rowids are equal by SQLite's comparison of integers.
 abbrev pub same_id : ℤ → ℤ → Bool
 same_id x y = is_eq (int_cmp x y)
 

@@ -1,4 +1,4 @@
--- Why a call on the store's tables returns an error.
+-- Definitions of the permitted causes of an error of a call on the store's tables.
 use Rattle.std.specs.Prelude.{◌≡◌, ◌≤◌, ◌⊎◌, false, IsTrue, IsSome}
 use Rattle.sqlite.specs.declared.error.ErrorCode.TheVariants.{OutOfMemory, OperationInterrupted}
 use Rattle.sqlite.specs.declared.error.Error.{Error}
@@ -18,21 +18,21 @@ abbrev pub want_of_memory : Error
 want_of_memory = SqliteFailure OutOfMemory
 
 -- True if an error has a permitted cause: out of memory, a closed database, a failed disk, or
--- SQLite's limit of steps.
+-- SQLite's limit of computing steps.
 abbrev pub IsStoreError : (old new : State) → Error → Type 0
 IsStoreError old new e =
     (e ≡ want_of_memory)
     ⊎ (HasFailed old new
     ⊎ ((e ≡ SqliteFailure OperationInterrupted) × IsSome old.step_limit))
 
--- True if a look-up may fail with a fault: an error with a cause in `IsStoreError`, or `Damaged` if
--- a row is out of its ranges.
+-- True if a query may fail with a fault: an error with a cause in `IsStoreError`, or `Damaged` if a
+-- row has a value out of its range.
 abbrev pub IsFault : (old new : State) → (IsSound : Type 0) → RowFault → Type 0
 IsFault old new IsSound (Sql e) = IsStoreError old new e
 IsFault old new IsSound Damaged = ¬ IsSound
 
--- True if the reader of a row may fail with a fault: out of memory, or `Damaged` if the row is out
--- of its ranges.
+-- True if the reader of a row may fail with a fault: out of memory, or `Damaged` if the row has a
+-- value out of its range.
 abbrev pub IsRowFault : (IsSound : Type 0) → RowFault → Type 0
 IsRowFault IsSound (Sql e) = e ≡ want_of_memory
 IsRowFault IsSound Damaged = ¬ IsSound

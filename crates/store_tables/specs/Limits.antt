@@ -11,6 +11,6 @@ greatest_place = GREATEST_PLACE
 abbrev pub IsPlace : ℕ → Type 0
 IsPlace place = (1 ≤ place) × (place ≤ greatest_place)
 
--- The latest timestamp in the store, in seconds since 1970-01-01 UTC.
+-- The latest timestamp that the store accepts, in seconds since 1970-01-01 UTC.
 abbrev pub latest_moment : ℕ
 latest_moment = LAST_MOMENT

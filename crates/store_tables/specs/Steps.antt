@@ -12,14 +12,14 @@ use Rattle.store_tables.specs.Content.{Content, AreTablesIn}
 abbrev pub IsSameBorrow : {X : Type 0} → MutBor X → MutBor X → Type 0
 IsSameBorrow old new = new.ghost_name ≡ old.ghost_name
 
--- True if both databases have the schema `schema`, and `Makes` relates each old content of the
--- tables to a new content.
+-- True if both databases have the schema `schema`, and the effect `Makes` of a call relates each
+-- old content of the tables to a new content.
 abbrev pub TurnsIn : Schema → (Content → Content → Type 0) → Database → Database → Type 0
 TurnsIn schema Makes old new = (content : Content) → AreTablesIn schema old content
     → (after : Content) × Makes content after × AreTablesIn schema new after
 
--- True if both databases have the store's schema, and `Makes` relates each old content of the
--- tables to a new content.
+-- True if both databases have the store's schema, and the effect `Makes` of a call relates each old
+-- content of the tables to a new content.
 abbrev pub Turns : (Content → Content → Type 0) → Database → Database → Type 0
 Turns = TurnsIn books_schema
 

@@ -12,7 +12,7 @@ use sqlite::types::ValueRef;
 use sqlite::{Error, ErrorCode, Row};
 
 /// Reads the column at index `at` as an integer from `low` to `high`. Reports any other value as
-/// damage.
+/// `Damaged`.
 pub fn whole(row: &Row, at: usize, low: u64, high: u64) -> Result<u64, RowFault>
     ensures read { result ≡ or_damaged (whole_in low high (column row.now at)) }
     ensures bounds { IfOk result (λ n. (low ≤ n) × (n ≤ high)) }
@@ -34,7 +34,7 @@ pub fn whole(row: &Row, at: usize, low: u64, high: u64) -> Result<u64, RowFault>
 }
 
 /// Reads the first column of a result's first row as an integer from `low` to `high`. Returns None
-/// without rows.
+/// if the result has no rows.
 pub fn first_whole(rows: &[Row], low: u64, high: u64) -> Result<Option<u64>, RowFault>
     ensures read { result ≡ first_in low high rows.now }
     ensures bounds { IfOk result (λ found. IfSome found (λ n. (low ≤ n) × (n ≤ high))) }
@@ -74,7 +74,7 @@ pub fn function(row: &Row, at: usize) -> Result<ReadFunction, RowFault>
 }
 
 /// Reads the column at index `at` as a text. Reports a column of another type, or a text that is
-/// not UTF-8, as damage.
+/// not UTF-8, as `Damaged`.
 pub fn text(row: &Row, at: usize) -> Result<String, RowFault>
     ensures read { IfOk result (λ s. column row.now at ≡ Text (string_bytes s)) }
     ensures fault { (t : _) → column row.now at ≡ Text t → IfErr result (IsRowFault (IsUtf8 t)) }

@@ -1,4 +1,5 @@
-//! Statements on the tables `entries` and `voids`: the entries of meters, and the voided entries.
+//! SQL statements on the tables `entries` and `voids`: the entries of meters (readings and
+//! corrections), and the voided ones.
 
 mod columns;
 mod entries;

@@ -1,9 +1,9 @@
-//! The error type of look-ups in the tables of the store.
+//! The error type of queries on the tables of the store.
 use sqlite::Error;
 use std::fmt;
 use std::fmt::{Display, Formatter};
 
-/// Why a look-up in the tables of the store failed.
+/// Why a query on the tables of the store failed.
 #[derive(Clone, Copy, Debug, PartialEq, Eq)]
 pub enum RowFault {
     /// SQLite refused the statement or failed.

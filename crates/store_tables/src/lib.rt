@@ -1,4 +1,4 @@
-//! The schema of an office's store, and statements on the rows of meters and entries.
+//! The SQL schema of the store, and the statements on the rows of meters and of their entries.
 #![tactic(auto)]
 
 mod columns;

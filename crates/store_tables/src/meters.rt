@@ -1,4 +1,5 @@
-//! Statements on the tables `installations` and `ranges`: meters, and the ranges of their counters.
+//! SQL statements on the tables `installations` and `ranges`: meters, and how many values their
+//! counters have.
 
 mod columns;
 mod installations;

@@ -1,4 +1,4 @@
-//! Integers as parameters of SQL statements.
+//! Conversions of integers to parameters of SQL statements.
 ghost use Rattle.std.specs.Prelude.{◌≡◌, ◌<◌, ◌^◌, pos};
 ghost use Rattle.sqlite.specs.declared.types.Value.TheVariants.{Int};
 

@@ -18,16 +18,16 @@ pub(crate) enum Act {
     Prepare,
     /// Opens a file of version 1, which upgrades it to version 3.
     Bring,
-    /// Runs all steps of a metering office over a new store: it handles the events of a script, and
-    /// then the given request.
+    /// Runs all steps of a test over a new store: the events of a script, and then the given
+    /// request.
     Play(Asked),
     /// Asserts which rows the file of version 1 has after a crash during its upgrade, given the
     /// number of acknowledged steps.
     Brought(usize),
-    /// Asserts which rows the office's file has after a crash, given the request and the number of
+    /// Asserts which rows the database file has after a crash, given the request and the number of
     /// acknowledged steps.
     Played(Asked, usize),
-    /// This variant and those below each run a test that begins with an empty database.
+    /// `Damage` and the variants below each run a test that begins with an empty database.
     Damage,
     Databases,
     HeldReadings,
@@ -98,9 +98,9 @@ static TESTS: [Act; 5] = [
     Act::RefusedFacts,
 ];
 
-// Checks that a store counts its failures, and that the caller gets a database without a store
-// back. Also checks the fields of rejected readings, the days of a range, and that refused records
-// leave no row.
+// Checks that a store counts its failures, and that a database that contains no store is returned
+// to the caller. Also checks the fields of rejected readings, the days of a range, and that refused
+// records leave no row.
 #[test]
 fn stores_keep_what_they_promise(rt: HostRuntime) {
     for act in &TESTS {

@@ -10,8 +10,8 @@ static PRINTED: &[u8] =
 static SAID: &[u8] =
     b"sunreg: m1: reading rejected: more energy than the ceiling allows; compare the reading with the meter: enter a reset or an exchange if the counter was changed, or a manual reading if it is right\nsunreg: inv: the database failed; check the free disk space and the file's permissions, then restart: everything acknowledged is kept\n";
 
-// Checks that messages explain a rejected reading and a refusal. Other lines, and a polling round
-// that could not connect, have no message.
+// Checks that a rejected reading and a refusal are explained. Other lines, and a polling round that
+// could not connect, have no explanation.
 #[test]
 fn what_numbers_mean_is_said(rt: HostRuntime) {
     let mut said = Vec::new(rt.alloc());

@@ -9,8 +9,8 @@ use sqlite::{Alter, Connection};
 use std::alloc::Global;
 use std::process::Abort;
 
-/// Asserts that an office refuses a query that reads a damaged row, and that it reports damage as
-/// the cause. Returns the store.
+/// Asserts that a query that reads a damaged row is refused, with damage as the cause. Returns the
+/// store.
 fn asked<B: Books>(rt: &impl Abort, alloc: Global, books: B) -> B {
     let mut office = opened(rt, alloc, books, 5000);
     let answer = office.meter(&Name::new(b"m1"));
@@ -18,9 +18,8 @@ fn asked<B: Books>(rt: &impl Abort, alloc: Global, books: B) -> B {
     office.into_books()
 }
 
-/// Asserts which calls of a store fail, and that the store counts each failure. The store has a
-/// meter whose entries all have a counter value below zero, and already has the device that the
-/// test adds again. Returns the store.
+/// Asserts which calls of a store fail, and that the store counts each failure. One call reads a
+/// meter with damaged rows, and one adds a device that the store already has. Returns the store.
 pub(crate) fn failures_are_counted<S: Alter + Drop>(
     rt: &impl Abort,
     alloc: Global,

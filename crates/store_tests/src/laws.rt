@@ -1,5 +1,5 @@
-//! Applies the theorems about the energy of several files and about the days of a range to
-//! examples.
+//! Calls the theorems (functions whose contract states them) about the energy of several files.
+//! Also tests the days of a range.
 use crate::made::{create_store, opened};
 use crate::stops::offices::accepts;
 use carried_books::{
@@ -15,7 +15,7 @@ use sqlite::{Alter, Connection};
 use std::alloc::Global;
 use std::process::Abort;
 
-/// A sink that counts the days that a query returns.
+/// A visitor of rows that counts the days that a query returns.
 #[derive(Drop)]
 struct CountedDays {
     count: u32,
@@ -60,8 +60,8 @@ fn ranges_over<B: Books>(rt: &impl Abort, alloc: Global, books: B) -> B {
     office.into_books()
 }
 
-/// Calls the theorems about the energy over several files. Asserts the days of several ranges over
-/// an empty database, and returns its store.
+/// Calls the theorems about the energy of several files: functions whose contract states the
+/// theorem. Also asserts the days of several ranges over an empty database, and returns its store.
 pub(crate) fn files_and_ranges_have_their_days<S: Alter + Drop>(
     rt: &impl Abort,
     alloc: Global,

@@ -1,5 +1,5 @@
-//! Helpers that create a store in a new database, open a store, and open a metering office over a
-//! store.
+//! Helpers that create a store in a new database, and open a store or the `Office` (the core of
+//! `sunreg`).
 use office_books::Books;
 use office_core::Office;
 use office_store::SqlBooks;
@@ -32,7 +32,7 @@ pub(crate) fn found<S: Alter + Drop>(
     }
 }
 
-/// Opens an office over a store at the time `moment`.
+/// Opens an `Office` (the core of `sunreg`) over a store at the time `moment`.
 pub(crate) fn opened<B: Books>(rt: &impl Abort, alloc: Global, books: B, moment: u64) -> Office<B> {
     match Office::open(alloc, books, moment) {
         Ok(office) => office,

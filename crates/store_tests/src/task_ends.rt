@@ -1,5 +1,5 @@
-//! Tests the exit statuses of commands that run a metering office, and the failure messages that
-//! the commands print.
+//! Tests the exit statuses of commands that poll devices, serve HTTP or report energy, and the
+//! failure messages that they print.
 use command_io::ExitStatus;
 use office_events::Refusal;
 use office_program::{PollEnd, ServeEnd};

@@ -1,4 +1,5 @@
--- Lemmas on the timestamp of the latest record, for a store that was opened from a database file.
+-- The lemma on the latest timestamp of the records in a database file, which is read through a
+-- store that was opened from the file.
 use Rattle.std.proofs.Common.{◌≡◌, ℕ, List, Result, Ok, Err, IfOk}
 use Rattle.sqlite.specs.Store.{Ghosts}
 use Rattle.sqlite.specs.Held.{Held, state}

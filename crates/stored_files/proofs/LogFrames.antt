@@ -26,7 +26,7 @@ frame_ends page_size i =
 pub frame_at-le : (page_size i j : ℕ) → i ≤ j → frame_at page_size i ≤ frame_at page_size j
 frame_at-le page_size i j low = omega (arith, frames_len-le page_size i j low)
 
--- Frame `i` of a write-ahead log continues the checksum that is stored in frame `i` - 1.
+-- The checksum that frame `i` of a write-ahead log must continue is stored in frame `i` - 1.
 pub sum_behind : (page_size : ℕ) (log : List ℕ) (i : ℕ) → 0 < i
     → sum_before page_size log i ≡ stored_sum (frame page_size log (i - 1)) 16
 sum_behind page_size log zero some = absurd (omega arith)
@@ -99,8 +99,8 @@ low_if_fits page_size len j within =
     let some = (le-div_iff_mul-le (omega arith)).1 all in
     omega (arith, some)
 
--- If recovery can't read a log, then the check of the log is right to reject it for the same
--- reason.
+-- If recovery can't read a write-ahead log, then the reason is also a valid reason for the check to
+-- reject the log.
 pub unread_causes : (page_size : ℕ) (log : List ℕ) (fault : LogFault) → IsUnread page_size log fault
     → IsCause page_size log fault
 unread_causes page_size log Header unread = absurd unread

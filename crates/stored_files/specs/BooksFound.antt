@@ -17,6 +17,7 @@ module _ {S : Type 0} (g : Ghosts S) where
     pub is_past : IsPast past
     pub has : HasFile g zone h (facts_of past)
 
-  -- The logical model (`Ledger`) of a store in a database file.
+  -- The logical model of the store in a database file, for which the contracts of queries and
+  -- writes are stated.
   abbrev pub ledger_beneath : SqlBooks S g → Ledger
   ledger_beneath books = ledger_of g books.connection books.failures books.zone

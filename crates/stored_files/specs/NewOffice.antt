@@ -1,4 +1,4 @@
--- Defines the creation of a new office in a database.
+-- Defines the creation of the tables for metering records in an empty database.
 use Rattle.std.specs.Prelude.{◌≡◌, ℕ, List, [], Ok}
 use Rattle.std.specs.declared.result.Result.{Result}
 use Rattle.sqlite.specs.Store.{Ghosts}
@@ -9,7 +9,7 @@ use Rattle.store_files.specs.NewFile.{Makes}
 use Rattle.store_tables.specs.Steps.{TransactsTo}
 use Rattle.office_store.specs.Database.{HoldsAlone}
 
--- States that the tables of a new office were created in one transaction. Right after this
+-- States that the tables of a new store were created in one transaction. Right after this
 -- transaction, the database had no records, and would have had none after a crash.
 pub record IsMade {S : Type 0} (g : Ghosts S) (zone : List ℕ) (from : Held S) : Type 0 where
   pub made : Held S

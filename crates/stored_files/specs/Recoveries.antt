@@ -1,4 +1,4 @@
--- Defines the report on an office whose records were recovered from a damaged write-ahead log.
+-- Defines the report on metering records that were recovered from a damaged write-ahead log.
 use Rattle.std.specs.Prelude.{◌≡◌, ℕ, true, false, List, [], ◌∷◌, ◌++◌, if◌then◌else◌, codes, decimal, string_bytes}
 use Rattle.sqlite.specs.Store.{Ghosts}
 use Rattle.sqlite.specs.Held.{Held, state}
@@ -10,8 +10,8 @@ use Rattle.table_seals.specs.declared.filed.FiledMeter.{FiledMeter}
 use Rattle.stored_files.specs.BooksFound.{ledger_beneath}
 
 module _ {S : Type 0} (g : Ghosts S) where
-  -- States that `latest` is the latest timestamp of the store's records. The claim holds only if no
-  -- wrong result of the store was used.
+  -- States that `latest` is the latest timestamp of the store's records. The claim holds only if
+  -- the disk returned what was written to it.
   pub record IsLatestIn (books : SqlBooks S g) (latest : ℕ) : Type 0 where
     pub asked : SqlBooks S g
     pub clean : (ledger_beneath g asked).is_clean → (ledger_beneath g books).is_clean
@@ -40,8 +40,8 @@ abbrev pub with_open_meters : List ℕ → List FiledMeter → List ℕ
 with_open_meters text [] = text
 with_open_meters text (meter ∷ meters) = with_open_meters (with_open_meter text meter) meters
 
--- The text with the report on a recovered office appended. The report has the latest timestamp, and
--- a line for each open meter.
+-- The text with the report on recovered records appended. The report has their latest timestamp,
+-- and a line for each open meter.
 abbrev pub with_recovered : List ℕ → ℕ → List FiledMeter → List ℕ
 with_recovered text latest meters =
     with_open_meters (text ++ codes "latest " ++ decimal latest ++ codes "\n") meters

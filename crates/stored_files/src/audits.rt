@@ -1,4 +1,5 @@
-//! Audits an office in a database, and checks whether the files of an office continue each other.
+//! Audits the metering records in a database, and checks whether successive database files continue
+//! each other.
 ghost use Rattle.std.specs.Prelude.{◌≡◌, ◌↔◌, ◌⊎◌, ◌++◌, [], false, Err, Some, IsTrue, IfOk, IfErr, OnOk, option_map, string_bytes};
 ghost use Rattle.std.specs.Io.KnownBytes.{Appends};
 ghost use Rattle.sqlite.specs.Held.{state};
@@ -22,16 +23,17 @@ use sun_points::Sink;
 use table_audit::{Findings, audit_tables, write_findings};
 use table_seals::{FiledMeter, FiledOffice, Joining, append_joins, filed_meters};
 
-/// A reason why the audit of an office's file failed.
+/// A reason why the audit of a database file failed.
 #[derive(Clone, Copy, Debug, PartialEq, Eq)]
 pub enum AuditFault {
-    /// The database does not have an office's tables.
+    /// The database does not have the tables of `sunreg`.
     NotOurs,
     /// The database has the tables of an earlier version of the program.
     Earlier,
     /// The tables can't be sealed: a row has an invalid value, or a name that is not a word.
     Unsealable,
-    /// A name or the time zone is not valid text.
+    /// The file that was named as a seal does not have the text of a seal, which has digests of a
+    /// database's records.
     NoText,
     /// The file that was named as a seal does not have the text of a seal.
     NoSeal,
@@ -44,7 +46,7 @@ pub enum AuditFault {
     Output,
 }
 
-/// Checks that a database has the tables of an office in their present version, and that the
+/// Checks that a database has the tables of `sunreg` in their present version, and that the
 /// connection has no open transaction.
 pub(crate) fn check_ours<S: Alter>(connection: &Connection<S>) -> Result<(), AuditFault>
     ensures foreign { ((layout : TheLayout) → ¬ IsNamedAs connection.now.schema layout)
@@ -73,9 +75,9 @@ pub(crate) fn fault_of(fault: RowFault) -> AuditFault
     }
 }
 
-/// Audits an office in a database. Checks that the rows of each meter are a lawful journal (each
-/// item obeys the rules after those before it), and that the polls are complete and in order.
-/// Writes nothing to the database.
+/// Audits the metering records in a database. Checks that each meter's rows follow from a lawful
+/// journal (a history that the rules accept), and that the polls are complete and in order. Writes
+/// nothing to the database.
 pub fn audit_stored<S: Alter>(
     alloc: Global,
     connection: &mut Connection<S>,
@@ -114,9 +116,9 @@ pub fn write_audit<W: Write>(
     }
 }
 
-/// Returns the meters of an office in a database, so that the next file of the office can be
-/// compared with them. `NoText` means that a meter has an invalid value. If an audit found no
-/// errors, this value is a name that is not valid text. Writes nothing to the database.
+/// Returns the meters in a database, to check that the next database file continues their counts.
+/// `NoText` means that a meter has an invalid value. If an audit found no errors, this value is a
+/// name that is not valid text. Writes nothing to the database.
 pub fn meters_stored<'a, S: Alter>(
     alloc: Global,
     connection: &mut Connection<S>,
@@ -141,9 +143,9 @@ pub fn meters_stored<'a, S: Alter>(
     }
 }
 
-/// Checks whether the time zone and the meters of a file continue those of the earlier files.
-/// Appends a line to `joining` for each difference. If memory runs out, lines may be missing, and
-/// the data about the earlier files is lost.
+/// Checks whether the time zone and the meters of a database file continue those of the earlier
+/// files. Appends a line to `joining` for each difference. If memory runs out, lines may be
+/// missing, and the data about the earlier files is lost.
 pub fn hold_to_earlier<'a>(
     alloc: Global,
     joining: &mut Joining<'a>,
@@ -173,8 +175,7 @@ pub fn hold_to_earlier<'a>(
     }
 }
 
-/// Writes the differences between files of an office that should continue each other. Returns
-/// whether there are none.
+/// Writes the differences between successive database files. Returns whether there are none.
 pub fn write_joins<W: Write>(
     alloc: Global,
     lines: &[Vec<u8>],

@@ -1,4 +1,4 @@
-//! Makes backups: database files that have all records of an office, and need no log.
+//! Makes backups: database files that have all metering records, and need no write-ahead log.
 
 mod faults;
 mod whole;

@@ -1,5 +1,5 @@
-//! Rolls an office over into a new database, in which each open meter continues from its last
-//! entry.
+//! File rollovers. A file rollover begins a new database, in which each open meter continues from
+//! its last entry in the old database.
 
 mod stored;
 mod zones;

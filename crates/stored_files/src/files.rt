@@ -1,4 +1,4 @@
-//! Opens the database file of an office, and defines the errors of opening it.
+//! Opens database files, and defines the errors of opening a file.
 
 mod beside;
 mod faults;

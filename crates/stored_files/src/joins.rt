@@ -1,4 +1,5 @@
-//! Reports on an accounting register over several database files of one office.
+//! Reports on an accounting register (a named counter of a device) over several successive database
+//! files.
 
 mod stored;
 

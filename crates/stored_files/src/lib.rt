@@ -1,5 +1,6 @@
-//! The work of the commands that handle whole database files of an office: audits, backups,
-//! recoveries, file rollovers and merged reports. Also defines the exit statuses of all commands.
+//! The work of the commands that handle complete database files of metering records: audits,
+//! backups, recoveries, file rollovers and merged reports. Also defines the exit statuses of all
+//! commands.
 #![tactic(auto)]
 
 mod audits;

@@ -1,4 +1,4 @@
-//! Creates an office in a database.
+//! Creates the tables for metering records in an empty database.
 ghost use Rattle.std.specs.Prelude.{◌≡◌, ◌≢◌, ◌⊎◌, false, Err, IfErr, OnOk};
 ghost use Rattle.store_files.specs.Layouts.{no_schema};
 ghost use Rattle.store_files.specs.Zones.{IsZone};
@@ -8,8 +8,8 @@ use office_store::{OpenFault, SqlBooks};
 use sqlite::{Alter, Connection};
 use std::alloc::Global;
 
-/// Creates the tables of a new office in an empty database, by `SqlBooks::create`. `zone` is the
-/// time zone of the office's days.
+/// Creates the tables for metering records in an empty database, by `SqlBooks::create`. `zone` is
+/// the time zone in which days begin and end.
 pub fn create_stored<S: Alter + Drop>(
     alloc: Global,
     connection: Connection<S>,

@@ -1,4 +1,4 @@
-//! Reports on an office whose records were recovered from a damaged write-ahead log.
+//! Reports on metering records that were recovered from a damaged write-ahead log.
 ghost use Rattle.std.specs.Prelude.{◌≡◌, ◌++◌, ℕ, List, [], OnOk, IfOk, codes, decimal, string_bytes};
 ghost use Rattle.std.specs.Io.KnownBytes.{Appends};
 ghost use Rattle.office_events.specs.declared.facts.Fact.{Fact};
@@ -15,7 +15,7 @@ use std::io::Write;
 use sun_points::Sink;
 use table_seals::FiledMeter;
 
-// Maps a fault of opening an office's store to an `AuditFault`.
+// Maps a fault of opening the store of metering records to an `AuditFault`.
 fn opening_fault(fault: OpenFault) -> AuditFault {
     match fault {
         OpenFault::NotOurs => AuditFault::NotOurs,
@@ -94,8 +94,8 @@ fn write_open_meters(text: &mut Vec<u8>, meters: &[FiledMeter<'_>]) -> Result<()
     Ok(())
 }
 
-// Appends the latest timestamp of a recovered office to a text, and a line for each open meter.
-// Later entries of an open meter may be missing.
+// Appends the report on recovered records to a text: their latest timestamp, and a line for each
+// open meter. Later entries of an open meter may be missing.
 fn append_recovered(
     text: &mut Vec<u8>,
     latest: u64,
@@ -109,8 +109,8 @@ fn append_recovered(
     write_open_meters(text, meters)
 }
 
-/// Writes the latest timestamp of a recovered office, and a line for each open meter. Later entries
-/// of an open meter may be missing.
+/// Writes the report on recovered records: their latest timestamp, and a line for each open meter.
+/// Later entries of an open meter may be missing.
 pub fn write_recovered<W: Write>(
     alloc: Global,
     latest: u64,

@@ -1,5 +1,5 @@
-//! Makes and checks seals of an office in a database. A seal is a digest of the office's tables
-//! that a person signs off.
+//! Makes and checks seals of databases. A seal is a text with digests of a database's records at
+//! one time. It shows later whether these records were changed.
 ghost use Rattle.std.specs.Prelude.{◌≡◌, ◌≢◌, ◌↔◌, ◌⊎◌, false, Err, Some, IsTrue, IfOk, IfErr, OnOk};
 ghost use Rattle.std.specs.Io.KnownBytes.{Appends};
 ghost use Rattle.sqlite.specs.Held.{state};
@@ -23,7 +23,7 @@ use table_seals::{
     Checked, NoSeal, Seal, append_checked, append_seal, check_seal, read_seal, seal_tables,
 };
 
-/// Returns a seal of the tables of an office in a database. Writes nothing to the database.
+/// Returns a seal (digests) of the metering records in a database. Writes nothing to the database.
 pub fn seal_stored<S: Alter>(
     alloc: Global,
     connection: &mut Connection<S>,
@@ -61,9 +61,9 @@ pub fn write_seal<W: Write>(alloc: Global, seal: &Seal, output: &mut W) -> Resul
     }
 }
 
-/// Checks an office in a database against a seal, whose text is `text`. Returns the meters that
-/// don't match the seal, and whether the polls differ from the seal. Writes nothing to the
-/// database.
+/// Checks the metering records in a database against a seal (digests of earlier records), whose
+/// text is `text`. Returns the meters that don't match the seal, and whether the polls differ from
+/// the seal. Writes nothing to the database.
 pub fn check_stored_seal<S: Alter>(
     alloc: Global,
     connection: &mut Connection<S>,
@@ -92,8 +92,8 @@ pub fn check_stored_seal<S: Alter>(
     }
 }
 
-/// Writes the result of checking an office against a seal. Returns whether all meters and the polls
-/// match the seal.
+/// Writes the result of checking a database against a seal. Returns whether all meters and the
+/// polls match the seal.
 pub fn write_checked<W: Write>(
     alloc: Global,
     checked: &Checked,

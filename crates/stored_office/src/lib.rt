@@ -1,5 +1,5 @@
-//! The commands that need the office of a database file: reporting, entering, polling and serving.
-//! They work with any store, clock, sockets and writer.
+//! The commands that work on a database file: reporting, entering, polling and serving. They work
+//! with any store, clock, sockets and writer.
 #![tactic(auto)]
 
 mod advice;

@@ -1,5 +1,5 @@
-//! Runs of an office over a store in a database. Their contracts are the main theorem about an
-//! office.
+//! Runs of an office, the part of the program that checks and records events, over a store in a
+//! database. Their contracts are the main theorem about an office.
 
 mod runs;
 

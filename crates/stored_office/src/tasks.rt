@@ -1,4 +1,4 @@
-//! The tasks of commands that need the office of a database file, and their results.
+//! The tasks of commands that work on a database file, and the results of the tasks.
 
 mod ends;
 mod tasks;

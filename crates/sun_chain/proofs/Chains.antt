@@ -1,4 +1,4 @@
--- Lemmas about consecutive models and the fault after them.
+-- Lemmas about consecutive SunSpec models and the fault at the address after them.
 use Rattle.std.proofs.Common.{◌≡◌, ℕ, ◌+◌, ◌<◌, ◌≤◌, Bool, true, false, if◌then◌else◌, nat_le, nat_lt, ◌==◌, Option, Some, None, List, [], ◌∷◌, ◌++◌, length, arith, length-append, refl, sym, ◌∙◌, add-zero, zero-add, add-suc, add-one, suc-add}
 use Rattle.std.specs.List.{All}
 use Rattle.std.proofs.lemmas.List.Elements.{All-cons}
@@ -16,7 +16,7 @@ pub follow_more : (word : Words) (from : ℕ) (models : List Model) (model : Mod
 follow_more word from [] model follow stands = (sym follow, stands, refl)
 follow_more word from (first ∷ models) model follow stands = (follow.0, follow.1, follow_more word (next_after first) models model follow.2 stands)
 
--- A valid model at an address has no fault there.
+-- If a valid model begins at an address, there is no fault at that address.
 pub no_lack : (word : Words) (count : ℕ) (model : Model) → Stands word model → count < 64 → first_lack word count model.address ≡ None
 no_lack word count model stands few =
     let in_space : nat_lt 65535 model.address ≡ false = le-ltb 65535 model.address (omega (arith, stands.inside)) in
@@ -54,7 +54,8 @@ longest_from word from before (first ∷ models) (other ∷ others) next other_n
     longest_from word (next_after first) (before + 1) models others next other_next fault follow.2 other_too (omega arith) lacking in
     omega arith
 
--- The fault for a model's end is never the fault of a missing `SunS` mark.
+-- The fault of a model that ends past the last address is never `NoMark`, the fault of a missing
+-- `SunS` mark.
 no_mark_no_end : (inside : Bool) → (if inside then Some PastEnd else None) ≡ Some NoMark → ⊥
 no_mark_no_end true is = cc
 no_mark_no_end false is = cc

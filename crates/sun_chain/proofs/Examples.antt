@@ -1,4 +1,4 @@
--- The definitions evaluated at each limit: the last valid value and the first invalid value.
+-- Checks the definitions at each limit: the last valid value and the first invalid value.
 use Rattle.std.proofs.Common.{◌≡◌, ℕ, List, [], ◌∷◌, Some, None, refl}
 use Rattle.sun_chain.specs.Chain.{base_in}
 use Rattle.sun_chain.specs.Common.{device_address_in}

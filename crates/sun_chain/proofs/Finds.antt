@@ -1,4 +1,5 @@
--- Relates searches of the program's tables to searches of the defined tables.
+-- Proves that a search of the program's model tables has the same result as a search of the tables
+-- that the contracts define.
 use Rattle.std.proofs.Common.{◌≡◌, ◌∙◌, ℕ, Bool, true, false, Some, None, Option, List, [], ◌∷◌, map, refl, sym, ap, option_map}
 use Rattle.std.specs.Prelude.{◌==◌, find}
 use Rattle.std.specs.Option.{option_and_then}
@@ -14,7 +15,8 @@ find-map p f (x ∷ xs) = by (p (f x)) refl (find-map p f xs)
     by true e rest = rw e refl
     by false e rest = rw e rest
 
--- The row of a table entry that was found by name.
+-- If `found` is the first entry with a name in the program's table, the defined table has the same
+-- scale offset for that name.
 pub offset-found : (entries : List Entry) (name : List ℕ) (found : Option Entry) → found ≡ find (λ entry. bytes_eq entry.name.now name) entries
     → scale_offset_in (map row_of entries) name ≡ option_and_then (λ entry. entry.scale) found
 offset-found entries name None is = rw (find-map (λ (r : Row). bytes_eq r.name name) row_of entries, ← is) refl

@@ -27,7 +27,8 @@ same_model word first other same stands other_stands =
     ∙ ap (λ (i : ℕ). model_of other.address i first.length) ids
     ∙ ap (λ (l : ℕ). model_of other.address other.id l) lengths
 
--- Two lists of equally many models from one address are equal.
+-- If two lists of consecutive models begin at the same address and have the same length, they are
+-- equal.
 same_models : (word : Words) (from : ℕ) (models others : List Model) (next other_next : ℕ) →
     Follow word from models next → Follow word from others other_next → length models ≡ length others → (models ≡ others) × (next ≡ other_next)
 same_models word from [] [] next other_next follow other_follow as_many = (refl, sym follow ∙ other_follow)

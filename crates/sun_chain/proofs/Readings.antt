@@ -33,7 +33,7 @@ words_in-zero : (word : Words) (start : ℕ) → words_in word start 0 ≡ Some 
 unfolding words_in
 words_in-zero word start = refl
 
--- A range of the image whose words were all read is the slice of the image's words.
+-- If all words of a range of addresses were read, `words_in` returns these words.
 pub words_in-read : (read : List Bool) (words : List ℕ) (start count : ℕ) → start + count ≤ length read → length read ≤ length words →
     all_read read start count ≡ true → words_in (cell read words) start count ≡ Some (take count (drop start words))
 words_in-read read words start zero fits sized all = words_in-zero (cell read words) start
@@ -49,7 +49,7 @@ words_in-read read words start (suc count) fits sized all =
     let whole : take (suc count) (drop start words) ≡ get_or words start 0 ∷ take count (drop (start + 1) words) = rw (drop-cons words start 0, add-one) refl in
     words_in-suc (cell read words) start count ∙ unfolded ∙ sym (ap (λ (rest : List ℕ). Some rest) whole)
 
--- A range of the image with an unread word has no result.
+-- If a word of a range of addresses was not read, `words_in` returns `None`.
 pub words_in-unread : (read : List Bool) (words : List ℕ) (start count : ℕ) → start + count ≤ length read →
     all_read read start count ≡ false → words_in (cell read words) start count ≡ None
 words_in-unread read words start zero fits some = absurd (true≢false some)
@@ -63,7 +63,7 @@ words_in-unread read words start (suc count) fits some =
     ] in
     tests (get_or read start false) refl
 
--- A range of the image that extends past the last word read has no result.
+-- If a range of addresses extends past the last word of the image, `words_in` returns `None`.
 pub words_in-past : (read : List Bool) (words : List ℕ) (start count : ℕ) → 0 < count → length read < start + count →
     words_in (cell read words) start count ≡ None
 words_in-past read words start zero many past = absurd (omega arith)

@@ -17,7 +17,8 @@ data Next (word : Words) (count address : ℕ) : Type 0 where
   AtModel : (model : Model) → model.address ≡ address → Stands word model → count < 64 → Next word count address
   Lacking : (fault : ChainFault) → fault ≢ Memory → first_lack word count address ≡ Some fault → Next word count address
 
--- The checks of a model at an address, in order: first its length word.
+-- If the ID and the length of a model were read, either a valid model begins at the address, or the
+-- model has the fault `PastEnd`.
 after_length : (word : Words) (count address id size : ℕ) → nat_lt 65535 address ≡ false → word address ≡ Some id → (id == 0xFFFF) ≡ false →
     nat_le 64 count ≡ false → nat_lt 65535 (address + 1) ≡ false → word (address + 1) ≡ Some size →
     (past : Bool) → nat_lt 65536 (address + 2 + size) ≡ past → Next word count address
@@ -69,7 +70,8 @@ at_address : (word : Words) (count address : ℕ) → (past : Bool) → nat_lt 6
 at_address word count address true past = Lacking PastEnd (λ e. cc) (rw past refl)
 at_address word count address false past = in_words word count address past (word address) refl
 
--- A valid list of models can be extended to a chain or a fault within 64 models.
+-- If a valid list of models follows the `SunS` mark, the words contain a complete chain or have a
+-- fault. The induction adds models to the list, at most 64.
 found_from : (more : ℕ) (word : Words) (base : ℕ) (models : List Model) (next : ℕ) → IsLawful word base models next → 65 ≤ more + length models →
     HasChain word ⊎ HasFault word
 found_from zero word base models next lawful many =

@@ -15,22 +15,23 @@ HasChain word = (base : ℕ) × (models : List Model) × (end : ℕ) × IsChain 
 abbrev pub HasFault : Words → Type 0
 HasFault word = (fault : ChainFault) × (fault ≢ Memory) × Fails word fault
 
--- The statement that all words have a chain or a fault.
+-- The statement that the words read from a device always contain a complete chain or have a fault.
 abbrev pub ChainOrFault : Type 0
 ChainOrFault = (word : Words) → HasChain word ⊎ HasFault word
 
--- The statement that no words have two different chains.
+-- The statement that the words read from a device contain at most one complete chain.
 abbrev pub ChainIsOne : Type 0
 ChainIsOne = (word : Words) (base other_base : ℕ) (models others : List Model) (end other_end : ℕ)
     → IsChain word base models end → IsChain word other_base others other_end
     → (base ≡ other_base) × (models ≡ others) × (end ≡ other_end)
 
--- The statement that words with a chain have no fault except lack of memory.
+-- The statement that words with a complete chain have no fault except lack of memory.
 abbrev pub ChainHasNoFault : Type 0
 ChainHasNoFault = (word : Words) (base : ℕ) (models : List Model) (end : ℕ) (fault : ChainFault)
     → IsChain word base models end → Fails word fault → fault ≡ Memory
 
--- The statement that no words have two different faults, except lack of memory.
+-- The statement that the words read from a device have at most one fault, apart from lack of
+-- memory.
 abbrev pub FaultIsOne : Type 0
 FaultIsOne = (word : Words) (fault other : ChainFault) → fault ≢ Memory → other ≢ Memory
     → Fails word fault → Fails word other → fault ≡ other

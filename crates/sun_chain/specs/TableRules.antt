@@ -1,4 +1,5 @@
--- Defines the invariants of the model tables, and the order of a model's points.
+-- Defines the invariants of the model tables, which list the points of each SunSpec model, and the
+-- order of a model's points.
 use Rattle.std.specs.Prelude.{ℕ, ◌+◌, ◌≤◌, ◌==◌, ◌&&◌, nat_le, Bool, true, false, IsTrue, if◌then◌else◌, List, [], ◌∷◌, option_map, unwrap_or}
 use Rattle.std.specs.List.{list_all, list_any}
 use Rattle.sun_points.specs.PointType.{registers_of}

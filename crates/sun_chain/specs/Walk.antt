@@ -1,4 +1,5 @@
--- Defines the fault of a memory image without a chain of models.
+-- Defines the fault of a memory image (the words read from a device) without a complete chain of
+-- models.
 use Rattle.std.specs.Prelude.{◌≡◌, ℕ, ◌+◌, ◌≤◌, ◌==◌, nat_le, nat_lt, if◌then◌else◌, List, length, Some, None}
 use Rattle.std.specs.declared.option.Option.{Option}
 use Rattle.sun_chain.specs.Image.{Words}
@@ -11,14 +12,14 @@ use Rattle.sun_chain.specs.declared.fault.ChainFault.TheVariants.{NoMark, Unread
 abbrev pub end_lack : ℕ → ℕ → Option ChainFault
 end_lack address length = if nat_lt 65536 (address + 2 + length) then Some PastEnd else None
 
--- The first fault of a model, from its length word on, or `None`. A length word that was not read
--- is the fault `Unreadable`.
+-- The fault of a model's length word, or `None`. A length word that was not read is the fault
+-- `Unreadable`. A model that ends past address 65535 has the fault `PastEnd`.
 abbrev pub length_lack : ℕ → Option ℕ → Option ChainFault
 length_lack address None = Some (Unreadable (address + 1))
 length_lack address (Some length) = end_lack address length
 
--- The first fault of a model, from its ID word on, or `None`. A 65th model is reported before its
--- length is read.
+-- The first fault of a model's ID word and length word, or `None`. A 65th model is reported before
+-- its length is read.
 abbrev pub id_lack : Words → ℕ → ℕ → Option ℕ → Option ChainFault
 id_lack word count address None = Some (Unreadable address)
 id_lack word count address (Some id) =
@@ -33,7 +34,8 @@ abbrev pub first_lack : Words → ℕ → ℕ → Option ChainFault
 first_lack word count address =
     if nat_lt 65535 address then Some PastEnd else id_lack word count address (word address)
 
--- True if the fault comes directly after the longest valid list of models.
+-- True if a valid list of models follows the `SunS` mark, no valid list is longer, and the fault is
+-- at the address after its last model.
 pub record Lacks (word : Words) (fault : ChainFault) : Type 0 where
   pub base : ℕ
   pub models : List Model

@@ -8,7 +8,8 @@ pub fn tables_are_lawful()
     ensures { TablesAreLawful }
 {}
 
-/// Theorem: each memory image has exactly one chain or exactly one fault, except lack of memory.
+/// Theorem: each memory image (the words read from a device) has either exactly one complete chain
+/// of models, or exactly one fault. Lack of memory does not count as a fault.
 pub fn chain_or_fault_is_one()
     ensures chain_or_fault { ChainOrFault }
     ensures one_chain { ChainIsOne }

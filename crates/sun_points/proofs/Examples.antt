@@ -1,4 +1,4 @@
--- The definitions evaluated for example registers.
+-- Checks the definitions by examples of register values.
 use Rattle.std.proofs.Common.{◌≡◌, pos, negsuc, refl, Some, None, [], ◌∷◌}
 use Rattle.std.specs.Prelude.{codes}
 use Rattle.std.specs.Fmt.{digits}

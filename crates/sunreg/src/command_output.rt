@@ -1,13 +1,13 @@
-//! Writes the output of a command over an office's file.
+//! Writes the output of a command that works on a database file.
 use command_io::Buffered;
 use std::alloc::Global;
 use std::io::{self, LineWriter, Write};
 
-/// A writer for the output of a command over an office's file. It writes chunks of about 8 KiB, or
-/// line by line. With line output, it can also store a copy of the output.
+/// A writer for the output of a command that works on a database file. It writes chunks of about 8
+/// KiB, or line by line. With line output, it can also store a copy of the output.
 ///
-/// All ways of printing are variants of one type, so that the commands over an office's file are
-/// compiled only once.
+/// All ways of printing are variants of one type, because the generic functions that use the writer
+/// are then compiled only once.
 #[derive(Drop)]
 pub(crate) enum CommandOutput<W: Write + Drop> {
     Pieces(Buffered<W>),

@@ -27,8 +27,8 @@ use stored_files::{Ending, Failure, ending_of};
 use stored_office::{Task, ending_of_done};
 use sunspec_text::{chain_text, plan_text};
 
-/// Executes a command, reports how it ended, and returns the exit status. Passes the files of the
-/// operating system to functions that are generic over the source of files.
+/// Executes a command on the files of the operating system. Reports how the command ended, and
+/// returns its exit status.
 pub(crate) fn carry_out(rt: &HostRuntime, line: &CommandLine<'_>) -> ExitCode {
     let files = Surroundings::new(rt, line);
     carry_out_over(rt, &files, line)

@@ -1,4 +1,5 @@
-//! Executes the command lines of standard input on an office's file.
+//! Executes the lines of standard input, which are commands such as the entry of a meter reading,
+//! on a database file.
 use crate::counters::shown_at;
 use crate::offices::{OWN_HOST, over_office};
 use crate::surroundings::Surroundings;
@@ -85,8 +86,8 @@ impl NamedFiles for Surroundings<'_> {
     }
 }
 
-/// Executes the command lines of standard input on an office. If `only_read` is true, only checks
-/// these lines. The idempotency keys of the lines contain `caller`.
+/// Executes the commands in the lines of standard input on the database file at `path`. If
+/// `only_read` is true, only checks the lines. The idempotency keys of the lines contain `caller`.
 pub(crate) fn enter<'a, D: Databases + NamedFiles>(
     rt: &HostRuntime,
     files: &D,

@@ -1,4 +1,4 @@
-//! Executes the commands that open an office's file.
+//! Executes the commands that open a database file.
 ghost use Rattle.std.specs.Prelude.{IfOk};
 ghost use Rattle.stored_office.specs.Tasks.Tasks.{IsOf};
 
@@ -19,8 +19,9 @@ use stored_office::{Done, Task, carry_out_stored, ending_of_done, may_be_ahead, 
 /// The host on which the program serves HTTP.
 pub(crate) const OWN_HOST: &str = "127.0.0.1";
 
-/// Executes a task over the office in a database, and flushes the task's output. After a round of
-/// polls, explains the refusals and rejected readings that the round printed.
+/// Executes a task, such as a report or a round of polls, on a database, and flushes the task's
+/// output. After a round of polls, explains the refusals and rejected readings that the round
+/// printed.
 pub(crate) fn over_office<'a, D: Databases + NamedFiles>(
     rt: &HostRuntime,
     files: &D,
@@ -34,7 +35,7 @@ pub(crate) fn over_office<'a, D: Databases + NamedFiles>(
     over_connection(rt, files, path, connection, task, &mut clock)
 }
 
-// Executes a task over a connection to an office's database, with timestamps from `clock`.
+// Executes a task over an open connection to a database, with timestamps from `clock`.
 fn over_connection<'a, D: Databases + NamedFiles, C: Clock>(
     rt: &HostRuntime,
     files: &D,
@@ -78,7 +79,7 @@ fn over_connection<'a, D: Databases + NamedFiles, C: Clock>(
     }
 }
 
-// If an office's latest record is later than the clock, reports this with both times and a remedy.
+// If the latest record in a database is later than the clock, reports both times and a remedy.
 // Returns whether the record is later.
 fn is_said_ahead<D: Databases, C: Clock>(
     rt: &HostRuntime,
@@ -95,9 +96,9 @@ fn is_said_ahead<D: Databases, C: Clock>(
     }
 }
 
-// Returns the writer for a task's output. A round of polls and the command `run` write line by
-// line, and other tasks write in chunks. The output of a round is also stored, so that its numbers
-// can be explained.
+// Returns the writer for a task's output. A round of polls of one device and the command `run`
+// write line by line, and other tasks write in chunks. The output of a round is also stored,
+// because its error numbers are explained afterwards.
 fn output_of<'r>(
     rt: &'r HostRuntime,
     task: Task<'_>,
@@ -114,8 +115,8 @@ fn output_of<'r>(
     }
 }
 
-// Returns the number of bytes of accepted requests in a database, or 0 if the query fails. When the
-// store is opened afterwards, the failure is reported.
+// Returns the number of bytes of accepted requests in a database, or 0 if the query fails. Such a
+// failure is reported later, when the store is opened.
 fn kept_in<S: Alter + Drop>(connection: &mut Connection<S>) -> u64 {
     let Ok(row) = connection.query_row("SELECT sum(length(request)) FROM replies", &[]) else {
         return 0;
@@ -126,7 +127,7 @@ fn kept_in<S: Alter + Drop>(connection: &mut Connection<S>) -> u64 {
     }
 }
 
-// Polls devices and serves HTTP over the office in a database.
+// Polls devices on a schedule, serves HTTP, and records the energy in a database.
 fn run_over<'a, D: Databases + NamedFiles>(
     rt: &HostRuntime,
     files: &D,
@@ -139,9 +140,9 @@ fn run_over<'a, D: Databases + NamedFiles>(
     run_opened(rt, files, path, connection, sites, settings, &mut clock)
 }
 
-/// Runs an office over a connection to a database, with timestamps from `clock`. Watches the
-/// lengths of the file and its log. Counts the bytes of stored requests once, before the store is
-/// opened.
+/// Polls devices and serves HTTP over an open connection to a database, with timestamps from
+/// `clock`. Watches the lengths of the database file and its log. Counts the bytes of stored
+/// requests once, before the store is opened.
 pub(crate) fn run_opened<'a, D: Databases + NamedFiles, C: Clock>(
     rt: &HostRuntime,
     files: &D,

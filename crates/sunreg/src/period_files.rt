@@ -88,7 +88,7 @@ fn led_path<'a>(rt: &HostRuntime, file: &str, text: Option<Vec<u8>>) -> Result<L
 }
 
 // Returns the current file of a run, judged only by the file names in the folder. If the folder
-// does not exist, this is the file that the arguments name.
+// does not exist, the current file is the one that the arguments name.
 fn named_file<'a>(rt: &HostRuntime, file: &'a str, period: Period) -> Result<Led, Failure<'a>> {
     match period_beside(rt, file, period) {
         Ok(led) => led_path(rt, file, led.text),
@@ -183,8 +183,8 @@ fn paths_before<'a>(
 }
 
 /// Returns the paths of those files of `run --carry` that are older than the file at `path`, the
-/// oldest first. The file that the arguments name is the oldest, so no file is older than it. The
-/// files of earlier periods follow.
+/// oldest first. The file that the arguments name is the oldest file, followed by the files of
+/// earlier periods.
 pub(crate) fn files_before<'a>(
     rt: &HostRuntime,
     file: &'a str,

@@ -155,13 +155,13 @@ impl Asked<'_> {
     }
 }
 
-// The file over which the office runs next, and the time at which it must change to another file,
-// in seconds since 1970-01-01 UTC.
+// The database file that the command uses next, and the time at which it must change to another
+// file, in seconds since 1970-01-01 UTC.
 #[derive(Drop)]
 enum Course {
-    // The office runs over the current file.
+    // The command continues with the current file.
     Stay(Option<u64>),
-    // The office runs over a new file at this path.
+    // The command changes to a new file at this path.
     Carry(String, Option<u64>),
 }
 
@@ -176,7 +176,7 @@ fn zone_in<S: Alter>(connection: &mut Connection<S>) -> Result<Zone, OpenFault> 
 }
 
 // Returns the timestamp of the latest meter entry in a database. Returns 0 if there is no meter
-// entry, or if the query fails. When the store is opened afterwards, the failure is reported.
+// entry, or if the query fails. Such a failure is reported later, when the store is opened.
 fn latest_entry<S: Alter + Drop>(connection: &mut Connection<S>) -> u64 {
     let Ok(row) = connection.query_row("SELECT max(last_moment) FROM installations", &[]) else {
         return 0;
@@ -187,7 +187,7 @@ fn latest_entry<S: Alter + Drop>(connection: &mut Connection<S>) -> u64 {
     }
 }
 
-// Returns the file over which the office runs on a given day in a time zone.
+// Returns the database file that the command uses on a given day in a time zone.
 fn course_on<'a, S: Alter + Drop>(
     asked: &Asked<'a>,
     led: &Led,
@@ -217,8 +217,8 @@ fn course_on<'a, S: Alter + Drop>(
     }
 }
 
-// Returns the file over which the office runs at a given time. After the greatest valid timestamp
-// there are no days, so the office stays in the current file.
+// Returns the database file that the command uses at a given time. After the greatest valid
+// timestamp there are no days, so the command continues with the current file.
 fn course_at<'a, S: Alter + Drop>(
     asked: &Asked<'a>,
     led: &Led,
@@ -281,8 +281,9 @@ fn registers_before<'a, D: OfficeFiles>(
     }
 }
 
-// Handles earlier files that cannot be read, or do not continue each other. The first run ends. A
-// later run continues, and reports only the energy of its current file.
+// Handles earlier files that cannot be read, or do not continue each other. Ends the command if it
+// has just begun (`is_first`). Otherwise the command continues, and reports only the energy of its
+// current file.
 fn untold(
     rt: &HostRuntime,
     path: &str,
@@ -331,8 +332,8 @@ fn requested_registers<D: OfficeFiles>(
     }
 }
 
-// Runs an office over a connection to the file at `path`, until a given time. Returns `None` if
-// this time was reached, or if the requested duration of the command has passed.
+// Polls devices and serves HTTP over a connection to the file at `path`, until a given time.
+// Returns `None` if this time was reached, or if the requested duration of the command has passed.
 fn run_in<D: Databases + NamedFiles, C: Clock + Drop>(
     asked: &Asked<'_>,
     files: &D,
@@ -400,8 +401,8 @@ fn open_again<'a, D: Databases>(
     open_once(rt, files, path, is_new)
 }
 
-// Reads the energy of earlier files, opens the file at `path`, and runs an office over this file.
-// The file is new, or this process had it open before.
+// Reads the energy of earlier files, opens the file at `path`, and polls devices and serves HTTP
+// over this file. The file is new, or this process had it open before.
 fn run_at<D: OfficeFiles + NamedFiles, C: Clock + Drop>(
     asked: &Asked<'_>,
     files: &D,
@@ -456,8 +457,8 @@ fn is_made(rt: &HostRuntime, to: &str, why: &NotCarried<'_>) -> bool {
     is_there(rt, to)
 }
 
-// Rolls a file over into a new file, and runs an office over the new file. If the file rollover
-// fails, the office runs over the old file until the next full hour, and then tries again.
+// Rolls a file over into a new file, and continues with the new file. If the file rollover fails,
+// continues with the old file until the next full hour, and then tries again.
 fn carry_on<D: OfficeFiles + NamedFiles, C: Clock + Drop>(
     asked: &Asked<'_>,
     files: &D,
@@ -501,7 +502,8 @@ fn open_led<'a, D: Databases>(
     }
 }
 
-// Runs an office over the current file, or over a new file if a new period has begun.
+// Polls devices and serves HTTP over the current file, or over a new file if a new period has
+// begun.
 fn turn<D: OfficeFiles + NamedFiles, C: Clock + Drop>(
     asked: &Asked<'_>,
     files: &D,

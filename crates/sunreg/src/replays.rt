@@ -1,4 +1,4 @@
-//! Executes scripts with a store in memory, or with an office's file as the store.
+//! Executes scripts with a store in memory, or with a database file as the store.
 use file_commands::open_in;
 use interval_core::Zone;
 use kept_books::CachedBooks;
@@ -18,7 +18,7 @@ pub(crate) fn replay_memory<'a>(rt: &HostRuntime, zone: &'a str) -> Ending<'a> {
     ending_of(run.status)
 }
 
-/// Executes the script on standard input with the office's file at `path` as the store.
+/// Executes the script on standard input with the database file at `path` as the store.
 pub(crate) fn replay_file<'a, D: Databases>(
     rt: &HostRuntime,
     files: &D,

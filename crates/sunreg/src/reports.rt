@@ -14,7 +14,7 @@ fn is_plain(words: &FormWords<'_>) -> bool {
     !has_range && !has_layout
 }
 
-// Opens the office's file at `path`, and executes a task that prints a report. If the file cannot
+// Opens the database file at `path`, and executes a task that prints a report. If the file cannot
 // be opened for writing, reads a temporary copy of it.
 fn report_by<'a, D: OfficeFiles + NamedFiles>(
     rt: &HostRuntime,

@@ -1,4 +1,4 @@
-//! The files and devices that a command over an office's file can access.
+//! The files and devices that a command can access.
 use command_words::{CommandLine, Device};
 use file_commands::{Files, OfficeFiles, Opening};
 use sqlite::{Connection, FileFrom, FileStore, Unknown};
@@ -14,8 +14,8 @@ pub(crate) struct Surroundings<'r> {
 }
 
 impl<'r> Surroundings<'r> {
-    /// Returns the surroundings of a command: the devices that its arguments list, and the files of
-    /// the operating system.
+    /// Returns the files and devices that a command can access: the devices that its arguments
+    /// list, and the files of the operating system.
     pub(crate) fn new(rt: &'r HostRuntime, line: &'r CommandLine<'r>) -> Surroundings<'r> {
         let places = match line {
             CommandLine::Enter { devices, .. } => devices.as_slice(),

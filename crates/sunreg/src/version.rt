@@ -11,7 +11,7 @@ use stored_files::{Ending, Failure};
 static BUILD: &str =
     "not proved: compiled without ./sunreg-build, which proves the sources and marks the result";
 
-/// Prints the program's version, and the logic and sources with which the program was proved.
+/// Prints the program's version, and the proof logic and sources with which the program was proved.
 pub(crate) fn version(rt: &HostRuntime) -> Ending<'static> {
     let text = program();
     let mut output = io::writer(rt);

@@ -1,4 +1,4 @@
-//! Prints the chain of SunSpec models in a device's words, which are read from lines of text.
+//! Prints the chain of SunSpec models in Modbus registers, which are read from lines of text.
 
 mod chain_printout;
 mod image_lines;

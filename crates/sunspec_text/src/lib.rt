@@ -1,4 +1,4 @@
-//! Prints the chain of SunSpec models in a device's words, which come from lines of text or from a
+//! Prints the chain of SunSpec models in Modbus registers, which come from lines of text or from a
 //! live device. Also prints the read plan of a point list.
 #![tactic(auto)]
 

@@ -1,5 +1,5 @@
--- Lemmas that a meter's rows are those of a lawful journal if and only if they agree with a check
--- of all entries.
+-- Lemmas that a meter's rows follow from a lawful journal (a history that the rules accept) if and
+-- only if they agree with a check of all entries.
 use Rattle.std.proofs.Common.{◌≡◌, ℕ, ◌+◌, ◌-◌, ◌<◌, List, [], ◌∷◌, ◌++◌, reverse, take, drop, length, get_or, Option, Some, None, MatchOption, Err, refl, sym, ap, subst, ◌∙◌, arith}
 use Rattle.std.proofs.lemmas.List.{reverse-append, take_all, take-append-drop, append_cancel_right}
 use Rattle.energy_core.specs.declared.entries.Last.{Last}
@@ -44,8 +44,8 @@ pub refused_so : RefusedIsNotFine → (meter : Installed) (rows : List TableRow)
 refused_so law meter rows i d old new o fault may lt gone is goes =
     refused_there law meter rows i d old fault may lt gone (subst (GoesOver meter old (get_or rows i d) new) is goes)
 
--- If a list's first row is dropped, then taking the length minus one of the rest takes all of the
--- rest.
+-- Taking one element less than a list's length from the list without its first row takes all of its
+-- rows.
 pub all_later : (rows : List TableRow) → take (length rows - 1) (drop 1 rows) ≡ drop 1 rows
 all_later [] = refl
 all_later (row ∷ rows) = take_all (length (row ∷ rows) - 1) rows (omega (arith))
@@ -79,7 +79,7 @@ opening_last entries opening later last first is =
     ap (λ (rs : List TableRow). reverse rs) first ∙ reverse-append (opening ∷ []) later
     ∙ ap (λ (r : TableRow). reverse later ++ r ∷ []) is
 
--- The meter's rows are fine, and the first of its entries is the opening of this meter.
+-- The meter's rows are fine, and the first of its entries is the opening, which installs the meter.
 record HasOpened (range : ℕ) (row : InstallationRow) (voids : List ℕ) (entries : List TableRow) (shares : List Share) (meter : Installed)
     (later : List TableRow) : Type 0 where
   fine : AreFine meter (tables_from entries shares row)
@@ -112,7 +112,8 @@ pub no_entry : (range : ℕ) (row : InstallationRow) (voids : List ℕ) (entries
 no_entry range row voids entries shares none lawful =
     let both : [] ≡ lawful.opening ∷ lawful.later = sym none ∙ lawful.first in absurd (cc)
 
--- If no journal gives the entries after the opening, then the meter's rows are not lawful.
+-- If no journal (history of a meter) that the rules accept gives the entries after the opening,
+-- then the meter's rows are not lawful.
 pub not_reported : (range : ℕ) (row : InstallationRow) (voids : List ℕ) (entries : List TableRow) (shares : List Share) (meter : Installed)
     (opening : TableRow) (later : List TableRow) → entries ≡ opening ∷ later → IsOpenedBy range row.ceiling opening meter
     → (AreReported meter (reverse later) → ⊥) → IsLawful range row voids entries shares → ⊥

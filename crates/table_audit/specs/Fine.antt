@@ -10,7 +10,7 @@ use Rattle.table_audit.specs.Lawful.{IsLawful}
 use Rattle.table_audit.specs.Showing.{AreRowsOf}
 
 -- All values in the meter's rows are in their ranges, and the meter has exactly one counter range.
--- The rows are exactly those that a lawful journal of the meter produces.
+-- The rows follow from a lawful journal, a history of the meter that the rules accept.
 pub record IsFine (installation : InstallationRow) (rows : MeterRows) : Type 0 where
   pub range : ℕ
   pub voids : List ℕ
@@ -22,8 +22,8 @@ pub record IsFine (installation : InstallationRow) (rows : MeterRows) : Type 0 w
   pub shares_read : all_in share_in rows.intervals.items ≡ Ok shares
   pub lawful : IsLawful range installation voids entries shares
 
--- `fine` is true if and only if the meter's rows in the tables are the rows that a lawful journal
--- produces.
+-- `fine` is true if and only if the meter's rows in the tables follow from a lawful journal, a
+-- history that the rules accept.
 pub record ReportsFine (meter : List ℕ) (installation : InstallationRow) (content : Content)
     (fine : Bool) : Type 0 where
   pub rows : MeterRows

@@ -20,11 +20,12 @@ pub record IsOpenedBy (range ceiling : ℕ) (row : TableRow) (meter : Installed)
   pub ceiling_is : meter.ceiling ≡ ceiling
   pub opening_is : row ≡ opening_row meter.opening
 
--- The timestamp, raw counter value and scale factor of an opening entry.
+-- The timestamp, raw counter value and scale factor of an opening, a meter's first entry.
 abbrev pub last_shown : TableRow → Last
 last_shown row = record { at = row.moment; raw = row.raw; sf = row.sf }
 
 -- Whether the indices in a list are strictly increasing, greater than `after`, and at most `most`.
+-- The indices of a meter's voided entries must be so ordered.
 abbrev pub rises : (after most : ℕ) → List ℕ → Bool
 rises after most [] = true
 rises after most (place ∷ places) =
@@ -46,9 +47,9 @@ tables_from entries shares row = record {
   ended = row.is_ended;
 }
 
--- The values read for a meter are those that a lawful journal produces. This journal begins with
--- the meter's opening entry. Each void record names an entry after the opening, and no entry has
--- two void records.
+-- The values read for a meter follow from a lawful journal, a history that the rules accept. The
+-- journal begins with the meter's opening (first entry). Each void record names an entry after the
+-- opening, and no entry has two void records.
 pub record IsLawful (range : ℕ) (row : InstallationRow) (voids : List ℕ)
     (entries : List TableRow) (shares : List Share) : Type 0 where
   pub opening : TableRow

@@ -21,7 +21,8 @@ module _ {S : Type 0} (g : Ghosts S) where
       HasCleanDisk (state g h) → IsTrue (state g h).is_open
       → AreTables (state g h).committed content
 
-  -- A query outside a transaction. It commits nothing, and adds no state that a crash can leave.
+  -- A query outside a transaction. It commits nothing, and a crash after it leaves the same data as
+  -- a crash before it.
   pub record OnlyLooks (old new : Held S) : Type 0 where
     pub clean : HasCleanDisk (state g new) → HasCleanDisk (state g old)
     pub mode : old.in_transaction ≡ false → new.in_transaction ≡ false

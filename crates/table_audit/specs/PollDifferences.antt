@@ -1,4 +1,5 @@
--- Defines the differences of one run of polls, in order. A run has `RUN` consecutive poll numbers.
+-- Defines the differences between one run of polls and valid polls, in order. A run has `RUN`
+-- consecutive poll numbers.
 use Rattle.std.specs.Prelude.{ℕ, suc, min, ◌+◌, ◌-◌, ◌*◌, ◌==◌, Bool, false, nat_lt, nat_le, ◌&&◌, List, [], ◌∷◌, ◌++◌, Option, Some, None, Result, Ok, Err, if◌then◌else◌, unwrap_or}
 use Rattle.std.specs.List.{list_any}
 use Rattle.std.specs.Option.{option_map_or}

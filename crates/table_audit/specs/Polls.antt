@@ -61,13 +61,14 @@ AreFineRuns run last (rows ∷ others) = IsFineRun run last rows × AreFineRuns 
 
 -- ---- the findings of an audit of polls
 
--- The audit may end after the run of polls with these rows. The run has no poll, and `MOST`
--- differences are already stored.
+-- The audit may end after a run of polls with these rows, because the run has no poll, and `MOST`
+-- differences are already stored. This bounds the time for a damaged file with a very large poll
+-- number.
 abbrev pub Stops : RunRows → Findings → Type 0
 Stops rows found = (rows.polls.items ≡ []) × (MOST ≤ length found.first.items)
 
 -- The audit of one run of polls reports the run's differences. If `goes_on` is false, the audit
--- ends, and `Stops` is true of the run.
+-- ends, because this run has no poll and `MOST` differences are already stored.
 pub record ReportsRun (run last : ℕ) (old new : Findings) (content : Content) (goes_on : Bool) :
     Type 0 where
   pub rows : RunRows
@@ -75,7 +76,8 @@ pub record ReportsRun (run last : ℕ) (old new : Findings) (content : Content) 
   pub reported : IsReported (differences_of_run run last rows) old new
   pub stops : goes_on ≡ false → Stops rows new
 
--- The audit may end after the last run of polls in the list, because `Stops` is true of this run.
+-- The audit may end after the last run of polls in the list, because this run has no poll and
+-- `MOST` differences are already stored.
 abbrev pub StopsAfter : List RunRows → Findings → Type 0
 StopsAfter [] found = ⊥
 StopsAfter (rows ∷ []) found = Stops rows found

@@ -16,7 +16,7 @@ pub enum Table {
     Intervals,
 }
 
-/// How a poll in the tables differs from the polls that an office records.
+/// How a poll in the tables differs from the polls that the program records.
 #[derive(Clone, Copy, Debug, PartialEq, Eq)]
 pub enum PollFault {
     /// The row of the poll has a value out of its range.
@@ -24,25 +24,27 @@ pub enum PollFault {
     /// The row of the poll's outcome has a value out of its range.
     EndOutOfRange,
     /// The poll's number is not greater than the previous poll's number, or exceeds the last
-    /// number.
+    /// expected number.
     OutOfOrder,
     /// The poll's outcome is earlier than the poll's start.
     EndedBefore,
 }
 
-/// A difference that an audit reports. A meter's rows differ from those of a lawful journal, or a
-/// poll differs from the polls that an office records.
+/// A difference that an audit reports. A meter's rows differ from those of a lawful journal (a
+/// history that the rules accept), or a poll differs from the polls that the program records.
 #[derive(Clone, Copy, Debug, PartialEq, Eq)]
 pub enum Difference {
     /// A row of the meter in the given table has a value out of its range.
     OutOfRange(Table),
     /// The row of `installations` at the index `place` names no meter.
     Unnamed { place: u64 },
-    /// A row of `installations` has the index `has`, but `wanted` is the next index.
+    /// The meter has no entry, or its first entry is not a valid opening, the entry that installs a
+    /// meter.
     Installation { has: u64, wanted: u64 },
     /// The meter has no entry, or its first entry is not a lawful opening.
     NotOpened,
-    /// The rules for meter entries reject the entry at index `place`, given the earlier entries.
+    /// A void record, which cancels a false reading, names no entry after the opening, or names an
+    /// entry that already has a void record.
     Entry { place: u64, fault: RowFault },
     /// A void record names no entry after the opening, or names an entry that already has a void
     /// record.

@@ -19,8 +19,8 @@ use meter_journal::Installed;
 use std::alloc::{AllocError, Global};
 use store_tables::InstallationRow;
 
-/// Checks a meter's entries after its opening, up to the first entry that the rules for entries
-/// reject.
+/// Checks a meter's entries after its opening (the first entry), up to the first entry that the
+/// rules for entries reject.
 fn go_over(
     meter: &Installed,
     progress: &mut Progress,
@@ -76,7 +76,7 @@ fn print_refused(
 }
 
 /// Returns the first index in `places` that is not greater than the previous index, or is not from
-/// 2 to `last`.
+/// 2 to `last`. A meter's void records must name such entries in ascending order.
 fn first_astray(last: u64, places: &[u64]) -> Option<u64>
     ensures { IsNone result ↔ (agreeing.rises 1 last places.now ≡ true) }
 {
@@ -90,8 +90,8 @@ fn first_astray(last: u64, places: &[u64]) -> Option<u64>
     None
 }
 
-/// Reports the first void record that names no entry after the opening, or names an entry twice.
-/// Returns whether no such void record exists.
+/// Reports the first void record that names no entry after the opening, or names an entry twice. A
+/// void record cancels a false reading. Returns whether no such void record exists.
 fn append_voids(last: u64, voids: &[u64], found: &mut Differences) -> Result<bool, AllocError>
     requires few { length found.old.first.items ≤ MOST }
     ensures named { IfOk result (λ named. IsTrue named ↔ (agreeing.rises 1 last voids.now ≡ true)) }
@@ -250,8 +250,8 @@ fn append_rest(
     Ok(named && same && stands)
 }
 
-/// Returns whether the values read for a meter are the values that a lawful journal produces. Adds
-/// each difference to `found`.
+/// Returns whether the values read for a meter follow from a lawful journal, a history of the meter
+/// that the rules accept. Adds each difference to `found`.
 pub(crate) fn audit_read(
     alloc: Global,
     range: u64,

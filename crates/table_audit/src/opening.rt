@@ -1,4 +1,4 @@
-//! Builds the installed meter from its opening entry.
+//! Builds the description of an installed meter from its opening, the first entry.
 ghost use Rattle.std.specs.Prelude.{◌≡◌, ◌↔◌, IsTrue, IsSome, IfSome};
 ghost use Rattle.meter_journal.specs.declared.lines.Installed.{Installed as TheMeter};
 ghost use Rattle.meter_audit.specs.Rows.{opening_row};
@@ -9,7 +9,7 @@ use energy_core::{Last, MAX_CEILING, MAX_SCALE, MIN_SCALE, Ranged};
 use meter_audit::{RowKind, TableRow};
 use meter_journal::Installed;
 
-/// Returns whether a row of a meter's entries is a valid opening entry.
+/// Returns whether a row of `entries` is a valid opening, the first entry of a meter.
 fn is_opening(row: &TableRow) -> bool
     ensures { IsTrue result ↔ (row.now ≡ opening_row (last_shown row.now)) }
 {
@@ -20,7 +20,7 @@ fn is_opening(row: &TableRow) -> bool
         && !row.is_voided
 }
 
-/// Returns whether a meter's counter range, ceiling and opening have valid values.
+/// Returns whether a meter's counter range, ceiling (maximum power) and opening have valid values.
 fn may_be_checked(meter: &Installed) -> bool
     ensures { IsTrue result ↔ MayBeChecked meter.now }
 {
@@ -32,8 +32,8 @@ fn may_be_checked(meter: &Installed) -> bool
         && meter.opening.sf <= MAX_SCALE
 }
 
-/// Builds the meter that the opening entry `row` installs. Returns None if the entry is no opening
-/// or has invalid values.
+/// Builds the meter that the opening entry `row` installs. Returns None if the entry is no opening,
+/// or if the meter has invalid values.
 pub(crate) fn opened(range: u64, ceiling: u64, row: &TableRow) -> Option<Installed>
     ensures may { IfSome result MayBeChecked }
     ensures opened { IfSome result (IsOpenedBy range ceiling row.now) }

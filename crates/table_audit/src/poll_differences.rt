@@ -1,4 +1,5 @@
-//! Finds the differences of one run of polls, in order. A run is `RUN` consecutive poll numbers.
+//! Finds the differences between one run of polls and valid polls, in order. A run is `RUN`
+//! consecutive poll numbers.
 ghost use Rattle.std.specs.Prelude.{◌≡◌, ◌≤◌, ◌<◌, ◌^◌, ◌++◌, ◌∷◌, [], true, IsTrue, IfOk, OnOk};
 ghost use Rattle.std.specs.List.{list_any};
 ghost use Rattle.store_tables.specs.Limits.{greatest_place};
@@ -248,7 +249,8 @@ fn append_values(rows: &RunRows, found: &mut Vec<Difference>) -> Result<(), Allo
     write_unread_outcomes(rows.outcomes.as_slice(), found)
 }
 
-/// Returns the differences of a run of polls. `last` is the greatest number of all polls.
+/// Returns the differences between a run of polls and valid polls. `last` is the greatest number of
+/// all polls.
 pub(crate) fn run_differences(
     alloc: Global,
     run: u64,

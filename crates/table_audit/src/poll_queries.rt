@@ -14,7 +14,7 @@ use sqlite::{Alter, Connection, Error, Row, params};
 use store_tables::{RowFault, check_open, number};
 
 /// Returns the least poll number of a run of polls as an SQL integer. The first run includes all
-/// numbers below 1.
+/// numbers below 1, so an audit also reads polls with such invalid numbers.
 fn low(run: u64) -> Value
     requires { run < 2 ^ 50 }
     ensures { result ≡ Int (showing.low_of run) }
@@ -42,7 +42,7 @@ fn ask_last<S: Alter>(conn: &mut Connection<S>) -> Result<Vec<Row>, Error>
     conn.query_all("SELECT poll FROM polls ORDER BY poll DESC LIMIT 1", &[])
 }
 
-/// Queries the polls of a run, in ascending order of their numbers.
+/// Queries the polls of a run (`RUN` consecutive numbers), in ascending order of their numbers.
 fn ask_polls<S: Alter>(conn: &mut Connection<S>, run: u64) -> Result<Vec<Row>, Error>
     requires { run < 2 ^ 50 }
     ensures asks { Asks S.Store conn.old conn.new }
@@ -84,7 +84,8 @@ pub fn last_poll<S: Alter>(conn: &mut Connection<S>) -> Result<Vec<Row>, RowFaul
     Ok(rows)
 }
 
-/// Queries the polls of a run, after checking that the database is open.
+/// Queries the polls of a run (`RUN` consecutive numbers), after checking that the database is
+/// open.
 fn polls<S: Alter>(conn: &mut Connection<S>, run: u64) -> Result<Vec<Row>, RowFault>
     requires mode { conn.old.in_transaction ≡ false }
     requires run { run < 2 ^ 50 }

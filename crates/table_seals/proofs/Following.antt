@@ -26,8 +26,8 @@ no_more_voids meter [] rest text none h = (refl, h.is)
 no_more_voids meter (p ∷ ps) rest text none h =
     absurd (none meter (decimal p ++ 10 ∷ (flat_map (void_line meter) ps ++ rest)) h.word (void_first meter p ps rest text h))
 
--- After the name in a `void` line is parsed, the name is the meter's, and the entry's index
--- follows.
+-- If a word was parsed after `void ` in a text of `void` lines, then the word is the meter's name,
+-- and the index of the voided entry follows.
 pub void_number : (meter after rest text word following : List ℕ)
     → ((w r : List ℕ) → is_word w ≡ true → text ≡ codes "void " ++ (w ++ 32 ∷ r) → (word ≡ w) × (following ≡ r))
     → text ≡ codes "void " ++ (word ++ 32 ∷ following) → AreVoids meter after rest text
@@ -63,8 +63,8 @@ next_void meter after rest text word following number follows reads is numbers h
       record { word = h.word; fit = all.1; ends = h.ends; is = two.1 },
     )
 
--- If the next index is moved from the unread to the parsed indices, then their concatenation is
--- unchanged.
+-- If the next index is moved from the unread indices to the parsed indices, then the concatenation
+-- of both lists is unchanged.
 pub places_so_far : (places next after ps all : List ℕ) (number : ℕ) → next ≡ places ++ number ∷ [] → after ≡ number ∷ ps → places ++ after ≡ all
     → next ++ ps ≡ all
 places_so_far places next after ps all number put is so_far =
@@ -81,8 +81,8 @@ no_more_meters (s ∷ ss) rest text none h =
     (h.is ∙ append_assoc (meter_text s) (flat_map meter_text ss) rest
     ∙ append_assoc (meter_line s) (flat_map (void_line s.meter) s.voids) (flat_map meter_text ss ++ rest)))
 
--- The values parsed from a `meter` line belong to the first of the seals, and the other seals
--- follow.
+-- A parsed `meter` line has the values of the first seal in the list, and the remaining text has
+-- the other seals.
 pub record FirstMeter (after : List Sealed) (rest : List ℕ) (line : MeterLine) (following : List ℕ) : Type 0 where
   pub seal : Sealed
   pub others : List Sealed

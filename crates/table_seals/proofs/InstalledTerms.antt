@@ -1,4 +1,4 @@
--- Lemmas on the ordered set of the terms of all rows of `installations`.
+-- Lemmas on the ordered set of the terms (name, register, ceiling) of all rows of `installations`.
 use Rattle.std.proofs.Common.{◌≡◌, ◌↔◌, ◌⊎◌, ◌&&◌, ℕ, ◌+◌, ◌-◌, ◌<◌, Bool, true, false, cond, List, [], ◌∷◌, ◌++◌, take, length, get_or, Some, None, inl, inr, refl, sym, ap, subst, ◌∙◌, length-append, string_bytes, arith}
 use Rattle.std.specs.Prelude.{IsTrue, Any}
 use Rattle.std.specs.BTreeSet.{BTreeSet}
@@ -142,7 +142,7 @@ without_terms row known none rows are other =
     )
 
 -- Adding the terms of row `i` to a set with the terms of the first `i` rows gives the terms of the
--- first `i` + 1 rows.
+-- first `i` + 1 rows. The terms of a row are its meter's name, register and ceiling.
 pub terms_of_next : (rows : List Row) (i : ℕ) (row : Row) (old new : BTreeSet Terms) → i < length rows → row ≡ get_or rows i row
     → AddsTermsOf row old new → AreTermsOf (take i rows) old → AreTermsOf (take (i + 1) rows) new
 terms_of_next rows i row old new lt is adds are =

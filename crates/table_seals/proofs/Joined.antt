@@ -1,4 +1,4 @@
--- Lemmas on the check that files continue each other.
+-- Lemmas on the check that successive database files continue each other.
 use Rattle.std.proofs.Common.{◌≡◌, ℕ, ◌+◌, ◌-◌, ◌<◌, ◌≤◌, ◌==◌, Bool, true, false, not, ◌&&◌, if◌then◌else◌, List, [], ◌∷◌, ◌++◌, map, take, drop, length, get_or, Option, Some, None, Vec, refl, sym, ap, ◌∙◌, append_assoc, eq-eqb}
 use Rattle.std.specs.Prelude.{string_bytes, bytes_eq}
 use Rattle.std.specs.List.{flat_map}
@@ -24,8 +24,8 @@ lines_of_each f [] = refl
 lines_of_each f (x ∷ xs) =
     ap (λ ls. map join_line (f x) ++ ls) (lines_of_each f xs) ∙ sym (map-append join_line (f x) (flat_map f xs))
 
--- If the lines of three lists are appended in order, then the lines of the concatenated list are
--- appended.
+-- Appending the lines of three lists of differences, one list after another, appends the lines of
+-- the concatenated list.
 pub all_reported : (old one two three : List (List ℕ)) (a b c : List Join) → one ≡ old ++ map join_line a → two ≡ one ++ map join_line b
     → three ≡ two ++ map join_line c → three ≡ old ++ map join_line (a ++ b ++ c)
 all_reported old one two three a b c first second third =
@@ -47,8 +47,8 @@ joins_reported known next meters news latest old one two three meters_are news_a
     (third ∙ ap (λ (ms : List FiledMeter). two ++ flat_map (λ o. lines_of (missing_of next o)) ms) latest_are
     ∙ ap (λ ls. two ++ ls) (lines_of_each (missing_of next) (take known.latest known.meters)))
 
--- After three appended texts, the text has the first lines, the number of omitted lines, and the
--- last line.
+-- If the first lines, the number of omitted lines and the last line are appended in this order,
+-- then the complete text of the check is appended.
 pub lines_put : {Z : Type 0} (lines shown : List (Vec ℕ Z)) (old one two three : List ℕ) (more : ℕ) → shown ≡ take MOST lines
     → more ≡ length lines - MOST → one ≡ old ++ flat_map text_in shown → two ≡ one ++ more_lines more
     → three ≡ two ++ all_lines (length lines) → three ≡ old ++ joined_text lines

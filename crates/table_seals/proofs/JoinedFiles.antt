@@ -1,4 +1,4 @@
--- Lemmas on files for which the check of files reports no difference.
+-- Lemmas on successive database files between which the check reports no difference.
 use Rattle.std.proofs.Common.{◌≡◌, ℕ, ◌+◌, ◌-◌, ◌≤◌, Bool, true, false, cond, List, [], ◌∷◌, ◌++◌, length, Some, None, refl, sym, ap, subst, ◌∙◌, inl, inr, arith}
 use Rattle.std.specs.Prelude.{string_bytes, nat_le}
 use Rattle.std.specs.List.{AllByRecursion, filter, find, flat_map}
@@ -51,8 +51,8 @@ module _ (passes : FiledMeter → Bool) where
         | inr off ↦ first_holds P meters older new (sym (cond-false _ _ _ off) ∙ h) all.1
       ]
 
--- If the check of files reports no difference for a list of meters, then it reports none for each
--- meter in the list.
+-- If the check of successive files reports no difference for a list of meters, then it reports none
+-- for each meter in the list.
 nothing_of_each : (known meters : List FiledMeter) → flat_map (joins_of known) meters ≡ [] → AllByRecursion (λ new. joins_of known new ≡ []) meters
 nothing_of_each known [] h = tt
 nothing_of_each known (meter ∷ meters) h =

@@ -1,4 +1,4 @@
--- Lemmas on the tables of files for which the check of files reports no difference.
+-- Lemmas on the tables of successive database files between which the check reports no difference.
 use Rattle.std.proofs.Common.{◌≡◌, ◌+◌, List, [], ◌∷◌, ◌++◌, refl, sym, ap, subst, ◌∙◌, arith}
 use Rattle.std.specs.List.{AllByRecursion}
 use Rattle.energy_core.specs.declared.entries.Last.{Last}

@@ -1,4 +1,4 @@
--- Lemmas on reading the polls of a run row by row, and appending their texts.
+-- Lemmas on reading a run of `RUN` polls row by row, and appending their texts.
 use Rattle.std.proofs.Common.{◌≡◌, ℕ, suc, ◌+◌, ◌<◌, ◌≤◌, Bool, true, false, List, [], ◌∷◌, ◌++◌, length, drop, get_or, Option, Some, None, refl, sym, ap, ◌∙◌, append_assoc, arith}
 use Rattle.std.proofs.lemmas.List.{append-nil, length-append, drop_more, drop_all}
 use Rattle.std.proofs.lemmas.Grind.{flat_map-append}
@@ -17,8 +17,8 @@ one_before : (done : List ReadPoll) (poll : ReadPoll) (more : Option (List ReadP
 one_before done poll None = refl
 one_before done poll (Some more) = ap (λ (ps : List ReadPoll). let o : Option (List ReadPoll) = Some ps in o) (sym (append_assoc done (poll ∷ []) more))
 
--- The state of a loop after the first rows of a run of polls. The polls in these rows were read,
--- and their texts were appended.
+-- The state of a loop after the first rows of a run of `RUN` polls. The polls in these rows were
+-- read, and their texts were appended.
 pub record RowsSoFar (last : ℕ) (hidden : List ℕ) (first next : ℕ) (all outcomes rows left : List Row) (old new old_pending new_pending : List ℕ) : Type 0 where
   pub done : List ReadPoll
   pub read : polls_in first all outcomes ≡ after done (polls_in next rows left)

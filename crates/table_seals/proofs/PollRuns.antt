@@ -1,4 +1,4 @@
--- Lemmas on reading and digesting the polls of consecutive runs of polls.
+-- Lemmas on reading and digesting consecutive runs of `RUN` polls.
 use Rattle.std.proofs.Common.{◌≡◌, ℕ, suc, ◌+◌, ◌*◌, ◌<◌, ◌≤◌, ◌/◌, ◌%◌, min, List, [], ◌∷◌, ◌++◌, length, Option, Some, None, refl, sym, ap, subst, ◌∙◌, arith}
 use Rattle.std.specs.List.{fold}
 use Rattle.std.proofs.lemmas.Grind.{flat_map-append, div_ceil_times}
@@ -29,8 +29,8 @@ fold_more : (o : Option (List ReadPoll)) (xs : List RunRows) (x : RunRows) → f
 fold_more o [] x = refl
 fold_more o (y ∷ ys) x = fold_more (with_run o y) ys x
 
--- The state of a loop after the first `n` runs of polls. The hasher has the text that the polls of
--- these runs had at sealing time.
+-- The state of a loop after the first `n` runs of `RUN` polls. The hasher has the text that the
+-- polls of these runs had at sealing time.
 pub record RunsSoFar (last : ℕ) (hidden : List ℕ) (n next : ℕ) (hasher : Sha256) (pending : List ℕ) (content : Content) : Type 0 where
   pub runs : List RunRows
   pub long : length runs ≡ n
@@ -62,8 +62,8 @@ module _ (last : ℕ) (hidden : List ℕ) (n first : ℕ) (old new : Sha256) (ol
   looked : (rows : RunRows) → AreRowsOfRun n content rows → AreRuns content 0 (before.runs ++ rows ∷ [])
   looked rows theirs = runs_more content 0 before.runs rows before.theirs (subst (λ (k : ℕ). AreRowsOfRun k content rows) (sym there) theirs)
 
-  -- After one more run of polls is read, the polls are those of the earlier runs followed by those
-  -- of this run.
+  -- After one more run of `RUN` polls is read, the polls are those of the earlier runs followed by
+  -- those of this run.
   read_more : (rows : RunRows) → polls_of (before.runs ++ rows ∷ []) ≡ after before.polls (polls_in first rows.polls.items rows.outcomes.items)
   read_more rows =
       fold_more (Some []) before.runs rows ∙ ap (λ (o : Option (List ReadPoll)). with_run o rows) before.read
@@ -99,7 +99,7 @@ module _ (last : ℕ) (hidden : List ℕ) (n first : ℕ) (old new : Sha256) (ol
             one.adds.pending ∙ ap (λ (t : List ℕ). t ++ pending_among more) before.pending_are ∙ sym (flat_map-append pending_of before.polls more);
       }
 
--- If the polls of one run can't be read, then digesting the runs returns None.
+-- If the polls of one run can't be read, then digesting all runs returns None.
 pub run_unread : (last : ℕ) (hidden : List ℕ) (n first : ℕ) (old new : Sha256) (old_pending new_pending : List ℕ) (content : Content) (greatest : ℕ)
     (found : Option ℕ) → found ≡ None → RunsSoFar last hidden n first old old_pending content
     → LooksAtRun n last hidden first old new old_pending new_pending content found → DigestsRuns greatest last hidden content None

@@ -52,7 +52,7 @@ abbrev is_pending : Option Ending → Bool
 is_pending None = true
 is_pending (Some ending) = false
 
--- The list of pending numbers contains the poll's number if and only if the poll has no outcome.
+-- The list `pending` contains the poll's number if and only if the poll has no outcome.
 abbrev Names : List ℕ → ReadPoll → Type 0
 Names pending poll = is_named pending poll.numbers.number ≡ is_pending poll.ending
 

@@ -1,5 +1,5 @@
--- Lemmas that the text of a meter's earlier entries is unchanged after later lines are added to its
--- journal.
+-- Lemmas that the digested text of a meter's earlier entries is unchanged after later lines are
+-- added to its journal (its history).
 use Rattle.std.proofs.Common.{◌≡◌, ℕ, ◌==◌, Bool, true, false, not, ◌&&◌, ◌||◌, List, [], ◌∷◌, ◌++◌, map, reverse, take, length, ◌+◌, Some, None, append_assoc, refl, sym, ap, subst, ◌∙◌, inl, inr}
 use Rattle.std.specs.Prelude.{ℤ}
 use Rattle.std.specs.List.{flat_map, list_any}

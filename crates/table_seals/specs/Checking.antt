@@ -1,4 +1,5 @@
--- Defines whether a file's tables still match its seal, a signed-off digest of the file's past.
+-- Defines whether a database file still matches its seal, a text with digests of the records that
+-- the file had at an earlier time.
 use Rattle.std.specs.Prelude.{⊤, ◌≡◌, ◌↔◌, ◌≤◌, ℕ, Bool, true, false, List, [], ◌∷◌, ◌++◌, map, take, length, string_bytes, IsTrue, Any}
 use Rattle.std.specs.List.{list_all}
 use Rattle.sha2.specs.Sha256.{sha256}
@@ -84,8 +85,8 @@ pub record ReportsMeters (seals : List Sealed) (content : Content) (names : List
     pub shown : ShowsInstallations content installed
     pub reports : ReportsNames installed seals content names
 
--- The result of checking a file's seal. It has the meters that don't match the seal, whether the
--- polls differ from it, and the number of sealed meters.
+-- The result of checking a file against its seal. It has the meters that don't match the seal,
+-- whether the polls differ from it, and the number of sealed meters.
 pub record ReportsTables (seal : SealedTables) (content : Content) (checked : Checked) : Type 0 where
   pub meters : ReportsMeters seal.meters content (map string_bytes checked.differing.items)
   pub polls : ReportsPolls seal.polls content checked.polls_differ

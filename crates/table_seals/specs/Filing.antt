@@ -1,4 +1,5 @@
--- Defines the data read about a file's meters, to check whether the next file continues this file.
+-- Defines the data read about the meters of a database file, to check whether the next file
+-- continues their counts.
 use Rattle.std.specs.Prelude.{⊤, ◌≡◌, ℕ, List, [], ◌∷◌, Option, Some, None, Ok, Vec, string_bytes}
 use Rattle.std.specs.List.{slice_get}
 use Rattle.meter_audit.specs.declared.rows.TableRow.{TableRow}
@@ -24,8 +25,8 @@ standing_in row = record {
   is_ended = row.is_ended;
 }
 
--- `filed` has the data of a meter in `installations`: its names, range, ceiling and state, and its
--- opening entry.
+-- `filed` has the data of a meter in `installations`: its names, range, ceiling (maximum power) and
+-- state, and its opening (the first entry).
 pub record IsFiledAs (row : Row) (rows : MeterRows) (filed : FiledMeter) : Type 0 where
   pub meter_is : column row 1 ≡ Text (string_bytes filed.meter)
   pub register_is : column row 2 ≡ Text (string_bytes filed.register)

@@ -1,5 +1,5 @@
 -- Defines an ordered set of the terms of all installed meters, which makes looking up a sealed
--- meter fast. The terms are a meter's name, accounting register and ceiling.
+-- meter fast. The terms are a meter's name, accounting register and ceiling (maximum power).
 use Rattle.std.specs.Prelude.{◌≡◌, ◌↔◌, ◌⊎◌, ◌++◌, ◌∷◌, [], Bool, ℕ, List, Some, IsTrue, Any, string_bytes}
 use Rattle.std.specs.BTreeSet.{BTreeSet, contains}
 use Rattle.std.specs.Cmp.Lexicographic.{slice_cmp}
@@ -37,7 +37,7 @@ abbrev pub AddsTerms : Terms → (old new : BTreeSet Terms) → Type 0
 AddsTerms terms old new = (other : Terms)
     → IsTrue (has_terms new other) ↔ (AreSame terms other ⊎ IsTrue (has_terms old other))
 
--- The set has exactly the terms of these rows of `installations`.
+-- The set has exactly the terms (name, register, ceiling) of these rows of `installations`.
 abbrev pub AreTermsOf : List Row → BTreeSet Terms → Type 0
 AreTermsOf rows known = (terms : Terms)
     → IsTrue (has_terms known terms) ↔ Any (λ row. TermsAreRead row (Some terms)) rows
@@ -61,17 +61,20 @@ abbrev pub KeepsAt : BTreeSet Terms → MeterRows → Sealed → (kept : Bool) �
 KeepsAt known rows seal kept = (installed : List Row) → AreTermsOf installed known
     → IsTrue kept ↔ Keeps installed rows seal
 
--- True if `ReportsKept` holds, given a set that has the terms of the rows of `installations`.
+-- `kept` is true if and only if the tables match a meter's seal. The set `known` has the terms
+-- (name, register, ceiling) of all rows of `installations`.
 abbrev pub ReportsKeptAt : BTreeSet Terms → Sealed → Content → (kept : Bool) → Type 0
 ReportsKeptAt known seal content kept = (installed : List Row) → AreTermsOf installed known
     → ReportsKept installed seal content kept
 
--- True if `ReportsMeter` holds, given a set that has the terms of the rows of `installations`.
+-- Checking a meter appends the meter's name to a list if and only if the tables don't match its
+-- seal. The set `known` has the terms (name, register, ceiling) of all rows of `installations`.
 abbrev pub ReportsMeterAt : BTreeSet Terms → Sealed → Content → (old new : List (List ℕ)) → Type 0
 ReportsMeterAt known seal content old new = (installed : List Row) → AreTermsOf installed known
     → ReportsMeter installed seal content old new
 
--- True if `ReportsNames` holds, given a set that has the terms of the rows of `installations`.
+-- `names` has the names of the meters that don't match their seals. The set `known` has the terms
+-- (name, register, ceiling) of all rows of `installations`.
 abbrev pub ReportsNamesAt : BTreeSet Terms → List Sealed → Content → (names : List (List ℕ))
     → Type 0
 ReportsNamesAt known seals content names = (installed : List Row) → AreTermsOf installed known

@@ -1,4 +1,4 @@
--- Theorems about consecutive files of one office. The check of files prints a line for each
+-- Theorems about successive database files. The check of successive files prints a line for each
 -- difference between a file and the earlier files.
 use Rattle.std.specs.Prelude.{⊤, ◌≡◌, ◌↔◌, ◌≤◌, ◌+◌, ℕ, true, List, [], ◌∷◌, ◌++◌, length, Some, Ok, string_bytes}
 use Rattle.std.specs.List.{AllByRecursion, filter}
@@ -60,13 +60,13 @@ pub record IsOneMeter (name : List ℕ) (known : Known) : Type 0 where
   pub goes_on : EachGoesOn (named name known.meters)
   pub energy : energy_of (named name known.meters) ≤ MAX_TOTAL
 
--- Adds the data of all later files to the data of the earlier file.
+-- The data about all files, from the data about the first file and each later file.
 abbrev pub known_with_all : Known → (later : List Known) → Known
 known_with_all known [] = known
 known_with_all known (next ∷ later) = known_with_all (known_with known next) later
 
--- Theorem: if each file satisfies `IsOfMeters` and the check reports no difference, then the meters
--- of each name continue from file to file.
+-- Theorem: if the check reports no difference between successive files, then the meters of each
+-- name continue from file to file. Each file must satisfy `IsOfMeters`.
 abbrev pub JoinedFilesAreOne : Type 0
 JoinedFilesAreOne = (first : Known) (later : List Known) → IsOfMeters first
     → AllByRecursion IsOfMeters later
@@ -75,7 +75,8 @@ JoinedFilesAreOne = (first : Known) (later : List Known) → IsOfMeters first
 
 -- ---- the tables of a meter in several files
 
--- A meter's tables are fine in an audit, and result in the recorded state of the meter.
+-- An audit finds no difference in a meter's tables. The last entry, the total energy and the closed
+-- flag in these tables equal the meter's recorded state.
 pub record IsReportedBy (meter : FiledMeter) (tables : Tables) : Type 0 where
   pub well : IsWellInstalled meter.installed
   pub fine : AreFine meter.installed tables
@@ -100,16 +101,17 @@ abbrev pub in_files : (tables : FiledMeter → Tables) → List FiledMeter → L
 in_files tables [] = []
 in_files tables (meter ∷ older) = in_files tables older ++ in_file tables meter ∷ []
 
--- All files of a meter together have the numbers of one lawful journal. This journal begins with
--- the meter's opening in the first file.
+-- All files of a meter together have the numbers of one lawful journal, a history that the rules
+-- accept. This journal begins with the meter's opening (first entry) in the first file.
 pub record HasOneJournal (tables : FiledMeter → Tables) (meters : List FiledMeter) : Type 0 where
   pub first : InFile
   pub later : List InFile
   pub are : in_files tables meters ≡ first ∷ later
   pub lawful : AreLawful first.meter (entry_from_all_rows first.tables later)
 
--- Theorem: if a meter's files continue each other, then they together have one lawful journal. The
--- tables of each file must be fine, and the total energy must be within the limit.
+-- Theorem: if a meter's files continue each other, they together match one lawful journal, a
+-- history that the rules accept. Each file must pass an audit, and the total energy must be within
+-- the limit.
 abbrev pub JoinedFilesAreLawful : Type 0
 JoinedFilesAreLawful = (tables : FiledMeter → Tables) (meter : FiledMeter)
     (older : List FiledMeter) → AllByRecursion (λ m. IsReportedBy m (tables m)) (meter ∷ older)

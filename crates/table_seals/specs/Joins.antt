@@ -1,6 +1,5 @@
--- Defines whether the files of an office continue each other, so that each meter has one history.
--- An audit checks each file separately. In each list of meters, the meters of the latest file come
--- first.
+-- Defines whether successive database files continue each other, which means that each meter has
+-- one history. In each list of meters, the meters of the latest file come first.
 use Rattle.std.specs.Prelude.{ℕ, ◌-◌, ◌==◌, nat_lt, nat_le, Bool, true, false, not, ◌&&◌, List, [], ◌∷◌, ◌++◌, take, length, flat_map, Option, Some, None, if◌then◌else◌, bytes_eq, string_bytes}
 use Rattle.std.specs.List.{find, list_any}
 use Rattle.std.specs.Option.{option_map, option_map_or, option_to_list}
@@ -12,9 +11,9 @@ use Rattle.table_seals.specs.declared.filed.FiledOffice.{FiledOffice}
 use Rattle.table_seals.specs.declared.join_faults.JoinFault.{JoinFault}
 use Rattle.table_seals.specs.declared.join_faults.JoinFault.TheVariants.{Closed, Register, Range, Ceiling, Opening, Energy}
 
--- The data about one file or several files. `file` and `zone` are the name and the time zone of the
--- latest file. `meters` begins with the `latest` meters of the latest file, and the meters of
--- earlier files follow.
+-- The data about one database file, or about several successive files. `file` and `zone` are the
+-- name and the time zone of the latest file. `meters` begins with the `latest` meters of the latest
+-- file, and the meters of earlier files follow.
 pub record Known : Type 0 where
   pub file : List ℕ
   pub zone : List ℕ
@@ -90,8 +89,8 @@ fault_between within old new =
     if not (is_same new.installed.opening old.standing.last) then Some Opening else
     if not within then Some Energy else None
 
--- Whether a new meter's opening is earlier than the last entry of an earlier meter at the same
--- accounting register.
+-- Whether a new meter overlaps an earlier meter at the same accounting register: the new meter's
+-- opening is earlier than the last entry of the earlier meter.
 abbrev pub is_beyond : (new old : FiledMeter) → Bool
 is_beyond new old =
     bytes_eq (string_bytes old.register) (string_bytes new.register)
@@ -106,8 +105,8 @@ pub data Join : Type 0 where
   Overlaps : (old new : FiledMeter) → Join
   Missing : (old : FiledMeter) → (file : List ℕ) → Join
 
--- The differences of a meter in the next file. A meter that earlier files have is compared with the
--- latest of them. A new meter is compared with all other meters.
+-- The differences of a meter in the next file. If an earlier file has a meter of this name, only
+-- the latest such meter is compared. A new meter is compared with all other meters.
 abbrev pub joins_by : (known : List FiledMeter) → (new : FiledMeter) → Option FiledMeter
     → List Join
 joins_by known new (Some old) =

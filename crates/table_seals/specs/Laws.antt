@@ -1,4 +1,5 @@
--- Theorems that a seal depends on: after later records are added, the sealed text is unchanged.
+-- Theorems on which the check of a seal depends: after later records are added, the text that the
+-- seal digested is unchanged.
 use Rattle.std.specs.Prelude.{⊤, ◌≡◌, ◌⊎◌, [], ◌∷◌, Some, None, ℕ, ◌==◌, Bool, true, ◌&&◌, List, ◌++◌, take, length, reverse}
 use Rattle.std.specs.List.{list_any}
 use Rattle.meter_journal.specs.declared.lines.Installed.{Installed}
@@ -12,7 +13,8 @@ use Rattle.table_seals.specs.PollReading.{ReadPoll, polls_of}
 use Rattle.table_seals.specs.PollTexts.{polls_text, polls_text_then, pending_among}
 use Rattle.table_seals.specs.Texts.{entries_text}
 
--- The entries that the tables have for a meter with the journal `lines`, the opening first.
+-- The rows of `entries` for a meter whose journal (history) is `lines`. The opening, the first
+-- entry, comes first.
 abbrev pub entries_by : Installed → Journal → List TableRow
 entries_by meter lines = reverse (table_rows meter (rows_of meter.opening lines))
 
@@ -20,15 +22,16 @@ entries_by meter lines = reverse (table_rows meter (rows_of meter.opening lines)
 abbrev pub is_voided_at : (place : ℕ) → List TableRow → Bool
 is_voided_at place entries = list_any (λ entry. (entry.place == place) && entry.is_voided) entries
 
--- Theorem: after lines are added to a lawful journal, its earlier entries are still the first
--- entries, with the same sealed text.
+-- Theorem: if lines are added to a meter's journal (its history), the earlier entries are still its
+-- first entries, and a seal digests them as the same text.
 abbrev pub FirstEntriesStay : Type 0
 FirstEntriesStay = (meter : Installed) (more lines : Journal) → IsWellInstalled meter
     → AreFitting meter (more ++ lines)
     → entries_text (take (length (entries_by meter lines)) (entries_by meter (more ++ lines)))
     ≡ entries_text (entries_by meter lines)
 
--- Theorem: after lines are added to a lawful journal, every voided entry is still voided.
+-- Theorem: if lines are added to a meter's journal (its history), every voided entry is still
+-- voided.
 abbrev pub VoidsStay : Type 0
 VoidsStay = (meter : Installed) (more lines : Journal) → IsWellInstalled meter
     → AreFitting meter (more ++ lines) → (place : ℕ)
@@ -48,8 +51,8 @@ AreLater [] more = ⊤
 AreLater (poll ∷ polls) [] = ⊥
 AreLater (poll ∷ polls) (other ∷ later) = IsLater poll other × AreLater polls later
 
--- Theorem: after further polls and outcomes of pending polls are recorded, the sealed text of the
--- polls can still be computed.
+-- Theorem: after further polls and outcomes of pending polls are recorded, the text that a seal
+-- digested for the earlier polls can still be computed.
 abbrev pub PollsStay : Type 0
 PollsStay = (rows later_rows : List RunRows) (polls later : List ReadPoll)
     → polls_of rows ≡ Some polls → polls_of later_rows ≡ Some later → AreLater polls later

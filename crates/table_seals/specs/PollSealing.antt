@@ -1,4 +1,5 @@
--- Defines the seal of the polls in the tables. A run of polls has `RUN` consecutive poll numbers.
+-- Defines the seal of the polls in the tables, and the check of the polls against a seal. A run of
+-- polls has `RUN` consecutive poll numbers.
 use Rattle.std.specs.Prelude.{⊤, ◌≡◌, ◌≤◌, ◌↔◌, ◌+◌, ◌*◌, ◌++◌, ℕ, Bool, true, false, List, length, Option, Some, None, Ok, Err, Result, IfSome, unwrap_or}
 use Rattle.sha2.specs.declared.Sha256.{Sha256}
 use Rattle.sha2.specs.Hashers.{Holds256}
@@ -19,8 +20,8 @@ use Rattle.table_seals.specs.Sealed.{SealedPolls, sealed_polls_of}
 
 -- ---- the polls in the tables
 
--- `polls` are the polls of all runs up to the run of the last poll. None means that a row is
--- invalid.
+-- `polls` are the polls of all runs of `RUN` numbers, up to the run of the last poll. None means
+-- that a row is invalid.
 pub record ReadsRuns (last : ℕ) (content : Content) (polls : Option (List ReadPoll)) : Type 0 where
   pub runs : List RunRows
   pub theirs : AreRuns content 0 runs
@@ -92,8 +93,8 @@ PutsPoll last hidden poll old new old_pending new_pending true =
     (read : ReadPoll) × (poll ≡ Some read) × (new ≡ old ++ text_then last hidden read)
     × (new_pending ≡ old_pending ++ pending_of read)
 
--- The texts that the polls in a run's rows had at sealing time were appended. The numbers of the
--- polls pending now were appended too.
+-- The texts that a run of `RUN` polls had at sealing time were appended. The numbers of the polls
+-- pending now were appended too.
 pub record PutsPolls (last : ℕ) (hidden : List ℕ) (first next : ℕ) (rows outcomes : List Row)
     (old new old_pending new_pending : List ℕ) : Type 0 where
   pub polls : List ReadPoll
@@ -102,8 +103,8 @@ pub record PutsPolls (last : ℕ) (hidden : List ℕ) (first next : ℕ) (rows o
   pub text : new ≡ old ++ polls_text_then last hidden polls
   pub pending : new_pending ≡ old_pending ++ pending_among polls
 
--- After the texts of a run of polls are appended, the next poll number is returned. None means that
--- a row is invalid.
+-- Appending the texts of a run of `RUN` polls returns the next poll number. None means that a row
+-- is invalid.
 abbrev pub PutsRows : (last : ℕ) → (hidden : List ℕ) → (first : ℕ) → (rows outcomes : List Row)
     → (old new old_pending new_pending : List ℕ) → Option ℕ → Type 0
 PutsRows last hidden first rows outcomes old new old_pending new_pending None =
@@ -111,8 +112,8 @@ PutsRows last hidden first rows outcomes old new old_pending new_pending None =
 PutsRows last hidden first rows outcomes old new old_pending new_pending (Some next) =
     PutsPolls last hidden first next rows outcomes old new old_pending new_pending
 
--- The texts that a run's polls had at sealing time were added to a SHA-256 hasher. The numbers of
--- the polls pending now were appended to a list.
+-- The texts that a run of `RUN` polls had at sealing time were added to a SHA-256 hasher. The
+-- numbers of the polls pending now were appended to a list.
 pub record AddsPolls (last : ℕ) (hidden : List ℕ) (first next : ℕ) (rows : RunRows)
     (old new : Sha256) (old_pending new_pending : List ℕ) : Type 0 where
   pub polls : List ReadPoll
@@ -121,8 +122,8 @@ pub record AddsPolls (last : ℕ) (hidden : List ℕ) (first next : ℕ) (rows :
   pub text : (m : List ℕ) → Holds256 old m → Holds256 new (m ++ polls_text_then last hidden polls)
   pub pending : new_pending ≡ old_pending ++ pending_among polls
 
--- After the text of a run of polls is added to a SHA-256 hasher, the next poll number is returned.
--- None means that a row is invalid.
+-- Adding the text of a run of `RUN` polls to a SHA-256 hasher returns the next poll number. None
+-- means that a row is invalid.
 abbrev pub AddsRun : (last : ℕ) → (hidden : List ℕ) → (first : ℕ) → RunRows → (old new : Sha256)
     → (old_pending new_pending : List ℕ) → Option ℕ → Type 0
 AddsRun last hidden first rows old new old_pending new_pending None =
@@ -130,7 +131,8 @@ AddsRun last hidden first rows old new old_pending new_pending None =
 AddsRun last hidden first rows old new old_pending new_pending (Some next) =
     AddsPolls last hidden first next rows old new old_pending new_pending
 
--- The contract `AddsRun`, for the rows that the tables have for a run of polls.
+-- The polls of the run with the index `run` were read from the tables, and their text was added to
+-- a SHA-256 hasher as `AddsRun` defines.
 pub record LooksAtRun (run last : ℕ) (hidden : List ℕ) (first : ℕ) (old new : Sha256)
     (old_pending new_pending : List ℕ) (content : Content) (found : Option ℕ) : Type 0 where
   pub rows : RunRows

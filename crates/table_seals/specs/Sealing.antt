@@ -1,4 +1,4 @@
--- Defines the seal of a file's tables, which is a digest of their past.
+-- Defines the seal of a file's tables, which has digests of the meters' entries and of the polls.
 use Rattle.std.specs.Prelude.{⊤, ◌≡◌, ◌⊎◌, ℕ, true, List, [], ◌∷◌, Option, Some, None, Vec, length}
 use Rattle.std.specs.List.{slice_get}
 use Rattle.sha2.specs.Sha256.{sha256}

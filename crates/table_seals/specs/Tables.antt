@@ -19,7 +19,8 @@ pub record HasTerms (row : Row) (meter register : List ℕ) (ceiling : ℕ) : Ty
   pub meter_text : IsUtf8 meter
   pub register_text : IsUtf8 register
 
--- The result has the terms of an `installations` row. None means that one of its values is invalid.
+-- The result has the terms (name, register, ceiling) of an `installations` row. None means that one
+-- of its values is invalid.
 abbrev pub TermsAreRead : Row → Option Terms → Type 0
 TermsAreRead row None = (meter register : List ℕ) (ceiling : ℕ)
     → HasTerms row meter register ceiling → ⊥

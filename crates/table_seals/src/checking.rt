@@ -1,4 +1,5 @@
-//! Checks whether a file's tables still match its seal, a signed-off digest of the file's past.
+//! Checks whether a database file still matches its seal, a text with digests of the records that
+//! the file had at an earlier time.
 ghost use Rattle.std.specs.Prelude.{◌≡◌, ◌↔◌, ◌++◌, false, map, IsTrue, IfOk, OnOk, string_bytes};
 ghost use Rattle.std.specs.List.{list_all};
 ghost use Rattle.table_audit.specs.Looking.{Finds};
@@ -34,8 +35,8 @@ fn are_named(voids: &[u64], places: &[u64]) -> bool
     places.iter().all(|place| is_named(voids, *place))
 }
 
-/// Returns whether a meter's rows still match the counter range, entries and voids in the meter's
-/// seal.
+/// Returns whether a meter still has the counter range, the first entries and the void records that
+/// its seal covers.
 fn has_sealed(alloc: Global, rows: &MeterRows, seal: &MeterSeal) -> Result<bool, AllocError>
     ensures { IfOk result (λ has. IsTrue has ↔ HasSealed rows.now (sealed_of seal.now)) }
 {
@@ -151,7 +152,8 @@ fn check_each<S: Alter>(
     Ok(differing)
 }
 
-/// Reads the terms of all meters, and returns the names of the meters that don't match their seals.
+/// Reads the terms (name, register, ceiling) of all meters, and returns the names of the meters
+/// that don't match their seals.
 fn check_meters<S: Alter>(
     alloc: Global,
     conn: &mut Connection<S>,
@@ -169,11 +171,11 @@ fn check_meters<S: Alter>(
 }
 
 /// Checks a file's tables against a seal. Returns the names of the meters that don't match the
-/// seal, and whether the polls differ from it. Later meters, entries, voids and polls are no
-/// differences. Later outcomes of pending polls are no differences either.
+/// seal, and whether the polls differ from it. Records that were added after the sealing, such as
+/// the outcome of a pending poll, are not differences.
 ///
-/// Memory holds all rows of `installations`, and the rows and the text of one meter or one run of
-/// polls at a time.
+/// Memory holds all rows of `installations`. It also holds the rows and the text of one meter, or
+/// of one run of `RUN` polls, at a time.
 pub fn check_seal<S: Alter>(
     alloc: Global,
     conn: &mut Connection<S>,

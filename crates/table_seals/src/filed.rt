@@ -1,8 +1,10 @@
-//! The data read from the file of an office, to check whether the next file continues this file.
+//! The data that the check of successive database files reads from each file. The check decides
+//! whether each file continues the previous file.
 use meter_audit::Standing;
 use meter_journal::Installed;
 
-/// A meter in a file: its accounting register, its opening, and its state at the end of the file.
+/// A meter in a database file: its accounting register (a named counter of a device), its opening
+/// (the first entry), and its state after its last entry.
 #[derive(Debug, Drop)]
 pub struct FiledMeter<'a> {
     /// The name of the file, for messages.
@@ -13,9 +15,9 @@ pub struct FiledMeter<'a> {
     pub standing: Standing,
 }
 
-/// The time zone and the meters of one file or several files of an office. `file` and `zone` are
-/// the name and the time zone of the latest file. The first `latest` meters belong to the latest
-/// file, and the meters of earlier files follow.
+/// The time zone and the meters of one database file, or of several successive files. `file` and
+/// `zone` are the name and the time zone of the latest file. The first `latest` meters belong to
+/// the latest file, and the meters of earlier files follow.
 #[derive(Debug, Drop)]
 pub struct FiledOffice<'a> {
     pub file: &'a str,

@@ -1,4 +1,4 @@
-//! Reads the meters in a file's tables, to check whether the next file continues this file.
+//! Reads the meters in a database file, to check whether the next file continues their counts.
 ghost use Rattle.std.specs.Prelude.{◌≡◌, ◌++◌, ◌∷◌, [], false, IfOk, IfErr, OnOk};
 ghost use Rattle.store_tables.specs.Failing.{want_of_memory};
 ghost use Rattle.table_audit.specs.Looking.{Finds};
@@ -32,7 +32,7 @@ fn standing_of(row: &InstallationRow) -> Standing
     }
 }
 
-/// Returns the timestamp, raw counter value and scale factor of an opening entry.
+/// Returns the timestamp, raw counter value and scale factor of a meter's opening, its first entry.
 fn shown_by(opening: &TableRow) -> Last
     ensures { result ≡ last_shown opening.now }
 {

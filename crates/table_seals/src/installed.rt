@@ -1,5 +1,5 @@
-//! The set of the terms of all installed meters. The terms are a meter's name, accounting register
-//! and ceiling.
+//! A set of the terms of all installed meters, in which a sealed meter is looked up. The terms are
+//! a meter's name, accounting register and ceiling (maximum power).
 ghost use Rattle.std.specs.Prelude.{IfOk, OnOk};
 ghost use Rattle.table_seals.specs.Installed.{AddsTerms, AddsTermsOf, AreTermsOf, ReportsInstalled};
 ghost use Rattle.table_seals.specs.Sealed.{sealed_of};
@@ -10,7 +10,7 @@ use sqlite::Row;
 use std::alloc::{AllocError, Global};
 use std::collections::BTreeSet;
 
-/// Adds a meter's terms to the set `known`.
+/// Adds a meter's terms (name, register, ceiling) to the set `known`.
 fn add(known: &mut BTreeSet<Terms>, terms: Terms) -> Result<(), AllocError>
     ensures { OnOk result (AddsTerms terms known.old known.new) }
 {
@@ -18,8 +18,8 @@ fn add(known: &mut BTreeSet<Terms>, terms: Terms) -> Result<(), AllocError>
     Ok(())
 }
 
-/// Adds the terms of an `installations` row to the set `known`. Adds nothing if the terms are
-/// invalid.
+/// Adds the terms (name, register, ceiling) of an `installations` row to the set `known`. Adds
+/// nothing if the terms are invalid.
 fn add_row(known: &mut BTreeSet<Terms>, row: &Row) -> Result<(), AllocError>
     ensures { OnOk result (AddsTermsOf row.now known.old known.new) }
 {
@@ -32,7 +32,8 @@ fn add_row(known: &mut BTreeSet<Terms>, row: &Row) -> Result<(), AllocError>
     }
 }
 
-/// Collects the terms of all rows of `installations` in an ordered set.
+/// Collects the terms (name, register, ceiling) of all rows of `installations`. The ordered set
+/// makes looking up a sealed meter fast.
 pub(crate) fn terms_in(alloc: Global, installed: &[Row]) -> Result<BTreeSet<Terms>, AllocError>
     ensures { IfOk result (AreTermsOf installed.now) }
 {

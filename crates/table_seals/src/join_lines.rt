@@ -1,4 +1,4 @@
-//! Writes the printed lines of the check that the files of an office continue each other.
+//! Writes the printed lines of the check that successive database files continue each other.
 ghost use Rattle.std.specs.Prelude.{◌≡◌, ◌++◌, OnOk, IfOk, flat_map, decimal};
 ghost use Rattle.table_seals.specs.Joins as joins;
 ghost use Rattle.table_seals.specs.JoinTexts as say;
@@ -261,8 +261,8 @@ fn put_all(text: &mut Vec<u8>, all: u64) -> Result<(), AllocError>
     append_bytes(text, b" differences between files\n")
 }
 
-/// Appends the printed text of a check of files: the first lines, the number of omitted lines, and
-/// the total number of lines. If memory runs out, the text is incomplete.
+/// Appends the printed text of a check of successive files: the first `MOST` lines, the number of
+/// omitted lines, and the total number of lines. If memory runs out, the text is incomplete.
 pub fn append_joins(text: &mut Vec<u8>, lines: &[Vec<u8>]) -> Result<(), AllocError>
     ensures { OnOk result (text.new.items ≡ text.old.items ++ say.joined_text lines.now) }
 {

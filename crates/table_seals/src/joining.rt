@@ -1,4 +1,4 @@
-//! Adds the files of an office one by one, and checks that each file continues the earlier files.
+//! Checks successive database files, the oldest first. Each file must continue the earlier files.
 ghost use Rattle.std.specs.Prelude.{◌≡◌, ◌++◌, [], Some, None, IfOk, OnOk, option_map};
 ghost use Rattle.table_seals.specs.Joins.{known_of, known_with};
 
@@ -7,7 +7,7 @@ use crate::joins::append_join_lines;
 use std::alloc::{AllocError, Global};
 
 /// Merges the data of the earlier files and of the next file. The meters of the next file come
-/// first.
+/// first in the merged list.
 fn with_next<'a>(
     known: FiledOffice<'a>,
     next: FiledOffice<'a>,
@@ -27,8 +27,8 @@ fn with_next<'a>(
     })
 }
 
-/// The result of adding files of an office, the oldest first. It has the meters of these files, and
-/// a line for each difference between a file and the earlier files.
+/// The result of checking successive database files, the oldest first. It has the meters of these
+/// files, and a line for each difference between a file and the earlier files.
 #[derive(Debug, Drop)]
 pub struct Joining<'a> {
     pub known: Option<FiledOffice<'a>>,
@@ -39,8 +39,7 @@ impl<'a> Joining<'a> {
     ghost use Rattle.table_seals.specs.Joins.{after_next, joins_after};
     ghost use Rattle.table_seals.specs.JoinTexts.{lines_of, texts_of};
 
-    /// Creates a check to which no file was added yet. The function stores the allocator, and
-    /// allocates no memory.
+    /// Creates a check without files. The function stores the allocator, and allocates no memory.
     pub fn new(alloc: Global) -> Joining<'a>
         ensures none { result.known ≡ None }
         ensures lines { result.lines.items ≡ [] }

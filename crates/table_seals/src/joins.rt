@@ -1,4 +1,5 @@
-//! Checks whether the files of an office continue each other.
+//! Checks whether successive database files continue each other: each meter must begin in the next
+//! file with its last entry in the earlier file.
 ghost use Rattle.std.specs.Prelude.{◌≡◌, ◌++◌, ◌∷◌, [], Some, None, OnOk, flat_map};
 ghost use Rattle.std.specs.List.{find};
 ghost use Rattle.std.specs.Option.{option_copied};
@@ -39,8 +40,8 @@ fn is_same(last: &Last, other: &Last) -> bool
     last.at == other.at && last.raw == other.raw && last.sf == other.sf
 }
 
-/// Returns the energy left of the limit `most`, in mWh, after a meter's total. A meter of another
-/// name uses nothing. None if the meter exceeds the limit.
+/// Subtracts a meter's total energy from the limit `most`, both in mWh, if the meter has the name
+/// `name`. Returns None if the total exceeds the limit.
 fn left_after(most: u64, name: &str, meter: &FiledMeter<'_>) -> Option<u64>
     ensures { result ≡ joins.left_after most name.now meter.now }
 {
@@ -80,8 +81,8 @@ fn is_within(known: &[FiledMeter<'_>], new: &FiledMeter<'_>) -> bool
     }
 }
 
-/// Returns why the meter `new` does not continue the meter `old` of the earlier file. None if it
-/// does.
+/// Returns the first reason why the meter `new` does not continue the meter `old` of the earlier
+/// file. Returns None if `new` continues `old`.
 fn fault_between(within: bool, old: &FiledMeter<'_>, new: &FiledMeter<'_>) -> Option<JoinFault>
     ensures { result ≡ joins.fault_between within old.now new.now }
 {
@@ -106,8 +107,8 @@ fn fault_between(within: bool, old: &FiledMeter<'_>, new: &FiledMeter<'_>) -> Op
     None
 }
 
-/// Returns whether a meter's opening is earlier than the last entry of another meter at the same
-/// accounting register.
+/// Returns whether a new meter overlaps an earlier meter at the same accounting register, because
+/// the new meter's opening is earlier than the last entry of the earlier meter.
 fn is_beyond(new: &FiledMeter<'_>, old: &FiledMeter<'_>) -> bool
     ensures { result ≡ joins.is_beyond new.now old.now }
 {
@@ -126,7 +127,7 @@ fn overlapped<'m, 'a>(
     known.iter().find(|old| is_beyond(new, *old))
 }
 
-/// Appends a printed line to the list.
+/// Appends a printed line to the list of differences.
 fn keep(lines: &mut Vec<Vec<u8>>, line: Vec<u8>) -> Result<(), AllocError>
     ensures { OnOk result (texts_of lines.new.items
         ≡ texts_of lines.old.items ++ line.items ∷ []) }
@@ -175,7 +176,8 @@ fn append_overlap(
     }
 }
 
-/// Reports a meter of the next file that does not fit the earlier files.
+/// Reports a meter of the next file that does not continue the earlier meter of the same name.
+/// Reports a new meter that overlaps another meter at the same accounting register.
 fn append_meter_lines(
     alloc: Global,
     lines: &mut Vec<Vec<u8>>,
@@ -197,7 +199,8 @@ fn append_meter_lines(
     }
 }
 
-/// Reports each meter of the next file that does not fit the earlier files.
+/// Reports each meter of the next file that does not continue the earlier files, or that overlaps
+/// another meter.
 fn append_meters(
     alloc: Global,
     lines: &mut Vec<Vec<u8>>,

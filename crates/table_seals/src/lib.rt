@@ -1,6 +1,6 @@
-//! Creates and checks seals, which are signed-off digests of a file's tables. A check shows whether
-//! a file, possibly years later, still has the sealed records. The crate also checks whether the
-//! next file of an office continues the earlier files.
+//! Creates and checks seals, which are texts with digests of a database file's records. A check
+//! shows whether the file, possibly years later, still has the sealed records. The crate also
+//! checks whether successive files continue each other.
 #![tactic(auto)]
 
 mod checking;

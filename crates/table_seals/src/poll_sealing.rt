@@ -1,4 +1,5 @@
-//! Seals the polls in a file's tables, and checks them against a seal.
+//! Computes the seal (a digest) of the polls in a file's tables, and compares the polls with an
+//! earlier seal.
 ghost use Rattle.std.specs.Prelude.{◌≡◌, ◌↔◌, ◌<◌, ◌≤◌, ◌+◌, ◌^◌, false, IfOk, IfErr, IfSome};
 ghost use Rattle.sha2.specs.Hashers.{Holds256};
 ghost use Rattle.store_tables.specs.Failing.{want_of_memory};
@@ -16,8 +17,9 @@ use std::alloc::{AllocError, Global};
 use store_tables::{GREATEST_PLACE, RowFault, first_whole};
 use table_audit::{RUN, RunRows, last_poll, run_rows};
 
-/// Adds the text that a run's polls had at sealing time to a SHA-256 hasher. Collects the numbers
-/// of the polls that are pending now. Returns the next poll number, or None if a row is invalid.
+/// Adds the text that a run of `RUN` polls had at sealing time to a SHA-256 hasher. Collects the
+/// numbers of the polls that are pending now. Returns the next poll number, or None if a row is
+/// invalid.
 fn add_run(
     alloc: Global,
     hasher: &mut Sha256,
@@ -47,7 +49,8 @@ fn add_run(
     Ok(found)
 }
 
-/// Queries the rows of a run of polls, and adds the polls' text to a SHA-256 hasher with `add_run`.
+/// Queries the polls of the run with the index `run`, and adds their text at sealing time to a
+/// SHA-256 hasher.
 fn look_run<S: Alter>(
     alloc: Global,
     conn: &mut Connection<S>,
@@ -73,9 +76,9 @@ fn look_run<S: Alter>(
     }
 }
 
-/// Digests all runs of polls up to the run of the last poll. Returns the number of polls, the
-/// SHA-256 digest of their text at sealing time, and the numbers of the polls pending now. Returns
-/// None if a row is invalid.
+/// Digests all polls, one run of `RUN` consecutive numbers at a time. Returns the number of polls,
+/// the SHA-256 digest of their text at sealing time, and the numbers of the polls pending now.
+/// Returns None if a row is invalid.
 fn digest_runs<S: Alter>(
     alloc: Global,
     conn: &mut Connection<S>,
@@ -134,7 +137,8 @@ fn digest_polls<S: Alter>(
     }
 }
 
-/// Seals all polls in the tables. Returns None if a row is invalid.
+/// Computes the seal of all polls in the tables: their number, their digest, and the numbers of the
+/// pending polls. Returns None if a row is invalid.
 pub(crate) fn seal_polls<S: Alter>(
     alloc: Global,
     conn: &mut Connection<S>,
@@ -158,8 +162,8 @@ fn differ(found: &Option<PollSeal>, seal: &PollSeal) -> bool
     }
 }
 
-/// Returns whether the polls in the tables differ from a seal. Further polls, and outcomes of polls
-/// that were pending, are no differences. Memory holds the rows and the text of one run of polls at
+/// Returns whether the polls in the tables differ from a seal. Polls that were added later, and
+/// outcomes of polls that were pending, are not differences. Memory holds one run of `RUN` polls at
 /// a time.
 pub(crate) fn check_polls<S: Alter>(
     alloc: Global,

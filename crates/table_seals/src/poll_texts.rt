@@ -138,9 +138,9 @@ fn rows_after<'a>(ending: Option<Ending>, rows: &'a [Row]) -> &'a [Row]
     }
 }
 
-/// Appends the text that a run's polls had at sealing time. Collects the numbers of the polls
-/// pending now. Returns the next poll number. Returns None if a row is invalid, a poll number is
-/// missing, or an outcome has no poll in the run.
+/// Appends the text that a run of `RUN` polls had at sealing time. Collects the numbers of the
+/// polls pending now. Returns the next poll number. Returns None if a row is invalid, a poll number
+/// is missing, or an outcome has no poll in the run.
 pub(crate) fn write_rows(
     text: &mut Vec<u8>,
     pending: &mut Vec<u64>,

@@ -1,4 +1,4 @@
-//! Seals a file's tables by computing a digest of the file's past.
+//! Computes the seal of a file's tables: digests of its meters' entries and of its polls.
 ghost use Rattle.std.specs.Prelude.{◌≡◌, ◌++◌, ◌∷◌, [], false, IfOk, IfErr, OnOk};
 ghost use Rattle.store_tables.specs.Failing.{want_of_memory};
 ghost use Rattle.table_audit.specs.Looking.{Finds};
@@ -20,8 +20,8 @@ pub(crate) fn memory() -> RowFault
     RowFault::Sql(Error::SqliteFailure(ErrorCode::OutOfMemory))
 }
 
-/// Seals a meter from its `installations` row and its rows in other tables. Returns None if the
-/// meter can't be sealed.
+/// Computes the seal of a meter, which has a digest of its entries. Returns None if the meter can't
+/// be sealed, because a value is invalid or a name is not a word.
 fn seal_of(alloc: Global, row: &Row, rows: &MeterRows) -> Result<Option<MeterSeal>, AllocError>
     ensures { IfOk result (IsSealed row.now rows.now) }
 {
@@ -52,8 +52,8 @@ fn seal_of(alloc: Global, row: &Row, rows: &MeterRows) -> Result<Option<MeterSea
     }))
 }
 
-/// Queries the rows of the meter in an `installations` row, and seals the meter. Returns None if
-/// the meter can't be sealed.
+/// Queries the rows of the meter in an `installations` row, and computes the meter's seal. Returns
+/// None if the meter can't be sealed.
 fn seal_row<S: Alter>(
     alloc: Global,
     conn: &mut Connection<S>,
@@ -86,8 +86,8 @@ fn keep(seals: &mut Vec<MeterSeal>, seal: MeterSeal) -> Result<(), RowFault>
     }
 }
 
-/// Seals the meter in each of these rows of `installations`. Returns None if one of the meters
-/// can't be sealed.
+/// Computes the seal of the meter in each of these rows of `installations`. Returns None if one of
+/// the meters can't be sealed.
 fn seal_rows<S: Alter>(
     alloc: Global,
     conn: &mut Connection<S>,
@@ -107,7 +107,8 @@ fn seal_rows<S: Alter>(
     Ok(Some(seals))
 }
 
-/// Seals all meters in the tables. Returns None if one of the meters can't be sealed.
+/// Computes the seals of all meters in the tables. Returns None if one of the meters can't be
+/// sealed.
 fn seal_meters<S: Alter>(
     alloc: Global,
     conn: &mut Connection<S>,
@@ -119,9 +120,9 @@ fn seal_meters<S: Alter>(
     seal_rows(alloc, conn, &rows)
 }
 
-/// Seals a file's tables: each meter in order of its index, and the polls. Returns None if a name
-/// is not a word, or if a value is invalid, which an audit reports. Memory holds all rows of
-/// `installations`, and the rows and the text of one meter or one run of polls at a time.
+/// Computes the seal of a file's tables: the seals of all meters in order of their index, and the
+/// seal of the polls. Returns None if a name is not a word, or if a value is invalid. Memory holds
+/// all rows of `installations`, and the rows of one meter or one run of `RUN` polls at a time.
 pub fn seal_tables<S: Alter>(
     alloc: Global,
     conn: &mut Connection<S>,

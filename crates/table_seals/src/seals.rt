@@ -1,4 +1,5 @@
-//! The seals of a meter, of polls, and of a complete file: signed-off digests of their past.
+//! The seals of a meter, of polls, and of a complete file. A seal has digests of the records at one
+//! time, to detect later changes of these records.
 
 /// The seal of a meter: its name, accounting register, range and ceiling, its entries' number and
 /// digest, and the indices of its voided entries.
@@ -14,7 +15,7 @@ pub struct MeterSeal {
 }
 
 /// The seal of the polls in a file. It has the number of polls, the digest of the polls and their
-/// outcomes, and the numbers of the pending polls.
+/// outcomes, and the numbers of the polls without an outcome.
 #[derive(Debug, Drop)]
 pub struct PollSeal {
     pub count: u64,

@@ -12,7 +12,8 @@ use std::alloc::{AllocError, Global};
 use store_tables::whole;
 use table_audit::{MeterRows, entries, places, range};
 
-/// The terms of a meter: its name, its accounting register and its ceiling.
+/// The terms of a meter: its name, its accounting register (a named counter of a device) and its
+/// ceiling (maximum power).
 #[derive(Drop, PartialEq, Eq, PartialOrd, Ord)]
 pub(crate) struct Terms {
     pub(crate) meter: String,
@@ -60,8 +61,8 @@ pub(crate) fn terms_of(row: &Row) -> Result<Option<Terms>, AllocError>
     }))
 }
 
-/// Parses the counter range, the void records and the entries of a meter. Returns None if a row is
-/// invalid.
+/// Parses the counter range, the void records and the entries of a meter, which a seal covers.
+/// Returns None if a row is invalid.
 pub(crate) fn read_rows(alloc: Global, rows: &MeterRows) -> Result<Option<ReadRows>, AllocError>
     ensures { IfOk result (RowsAreRead rows.now) }
 {

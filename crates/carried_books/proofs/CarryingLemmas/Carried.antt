@@ -1,5 +1,5 @@
--- Lemmas on a file rollover: the queries of the old office, and the commands that the new office
--- executed.
+-- Lemmas on a file rollover (a new database file in which an office's meters continue): the queries
+-- of the old office, and the commands that the new office executed.
 use Rattle.std.proofs.Common.{◌≡◌, ℕ, List, Option, Ok, Err, subst, sym}
 use Rattle.std.specs.Prelude.{Result}
 use Rattle.office_events.specs.declared.refusals.Refusal.{Refusal}
@@ -17,7 +17,8 @@ use Rattle.carried_books.specs.declared.carrying.plans.Plan.{Plan}
 use Rattle.carried_books.specs.declared.carrying.plans.Plan.TheVariants as plan
 
 module _ {N : Type 0} (old new : Ledger) (until : Option ℕ) (ledger : N → Ledger) (before after : Office N) where
-  -- If a file rollover follows its plan, then its result satisfies `Carries`.
+  -- If the plan follows from the old store's records, and the new office followed the plan, then
+  -- the result satisfies `Carries`.
   pub carries : (p : Plan) (result : Result ℕ CarryFault) → OfOld old new (λ known. IsPlan known until p) → Follows ledger p before after result
       → Carries old new until ledger before after result
   carries (plan.Ready commands meters) (Ok n) is follows = record {
@@ -41,7 +42,8 @@ module _ {N : Type 0} (old new : Ledger) (until : Option ℕ) (ledger : N → Le
     are = λ known holds clean. subst (λ (those : List ℕ). IsNotYet known until (open_meters known) those) (sym follows.0) (is known holds clean);
   }
 
-  -- If the old store does not fail, a file rollover only queries it.
+  -- If the old store does not fail, then a file rollover leaves the old store's records and failure
+  -- counts unchanged.
   pub asked : (p : Plan) (result : Result ℕ CarryFault) → Follows ledger p before after result → Consults old new (Ok p) → OnlyAsked old new result
   asked p (Ok n) follows reads = record { keeps = reads.keeps; failures = reads.goes.faults; clean = reads.goes.clean; zone = reads.goes.zone }
   asked p (Err (New why)) follows reads = record {
@@ -59,7 +61,8 @@ module _ {N : Type 0} (old new : Ledger) (until : Option ℕ) (ledger : N → Le
   asked (plan.Ready commands meters) (Err (Old why)) follows reads = absurd follows
   asked (plan.NotYet meter) (Err (Old why)) follows reads = absurd follows
 
--- If the old store fails, a file rollover has only queried it.
+-- If the old store fails, then a file rollover has only queried it, and the result reports the
+-- failure.
 pub not_asked : (old new : Ledger) (fault : BooksFault) (why : Refusal) → why ≡ as_refusal fault → Consults {T = Plan} old new (Err fault)
     → OnlyAsked old new (Err (Old why))
 not_asked old new fault why is reads = record {

@@ -1,5 +1,5 @@
--- A worked example of a file rollover: an office with one device, at whose register a second meter
--- followed a first.
+-- A worked example of a file rollover. The old office has one device, at whose register a second
+-- meter followed a first one.
 use Rattle.std.proofs.Common.{◌≡◌, ℕ, pos, List, [], ◌∷◌, map, Option, Some, None, refl}
 use Rattle.std.specs.Prelude.{codes}
 use Rattle.energy_core.specs.declared.entries.Entry.TheVariants as entry
@@ -63,13 +63,13 @@ carried at raw = record { meter = m2; register = main; ceiling = 50000; range = 
 abbrev openings : List Fact → (until : Option ℕ) → List (Option Opening)
 openings known until = map (opening_until known until) (open_meters known)
 
--- The file rollover opens the second meter at its last reading. The first meter is closed, so
--- it does not continue.
+-- The new file continues the second meter from its last reading. The first meter is closed, so it
+-- does not continue.
 at_the_last : openings facts None ≡ Some (carried 3000 60) ∷ []
 at_the_last = refl
 
--- The file rollover up to the timestamp of a reading uses this reading. Up to a second earlier it
--- uses the previous one.
+-- With the timestamp of a reading as its limit, the file rollover uses this reading. With a limit
+-- one second earlier, it uses the previous reading.
 up_to_a_reading : openings facts (Some 3000) ≡ Some (carried 3000 60) ∷ []
 up_to_a_reading = refl
 
@@ -79,16 +79,17 @@ before_a_reading = refl
 at_the_opening : openings facts (Some 2899) ≡ Some (carried 2000 7) ∷ []
 at_the_opening = refl
 
--- The file rollover up to a timestamp before a meter's opening can't open the meter.
+-- With a limit before the meter's opening (first entry), the file rollover can't continue the
+-- meter.
 not_yet : openings facts (Some 1999) ≡ None ∷ []
 not_yet = refl
 
--- The file rollover does not use a voided reading.
+-- The file rollover does not use a voided (cancelled) reading.
 past_a_void : openings voided None ≡ Some (carried 2900 50) ∷ []
 past_a_void = refl
 
 -- The commands of the file rollover add the device and its register at the timestamp of the first
--- opening, and then install the meter.
+-- meter's opening, and then install the meter.
 all_commands : commands_for facts (devices_of facts) (carried 3000 60 ∷ [])
     ≡ timed 3000 (command.AddDevice (record { name = Some roof; unit = 17; timeout = 5; window = 2 }))
     ∷ timed 3000

@@ -18,7 +18,7 @@ use Rattle.carried_books.specs.declared.carrying.commands.TimedCommand.{TimedCom
 
 -- ---- If a command is answered without a refusal, then the office accepted the command
 
--- The answer is not the answer to a retry of an earlier command.
+-- True if the answer reports a new command, not the retry of an earlier one.
 abbrev IsNew : Answer → Type 0
 IsNew (answer.Again kind) = ⊥
 IsNew (answer.Done kind) = Unit {0}

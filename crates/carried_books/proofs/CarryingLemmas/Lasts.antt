@@ -1,5 +1,5 @@
--- Lemmas on the last valid entry of a meter up to a timestamp, which a file rollover uses as the
--- meter's opening.
+-- Lemmas on the last valid (not voided) entry of a meter up to a timestamp. A new file continues
+-- the meter from this entry.
 use Rattle.std.proofs.Common.{◌≡◌, ℕ, ◌+◌, ◌<◌, true, false, ◌&&◌, List, [], ◌∷◌, ◌++◌, map, take, drop, length, Option, Some, None, inl, inr, refl, sym, ap, subst, ◌∙◌, arith}
 use Rattle.std.specs.List.{find}
 use Rattle.std.specs.Option.{option_map}
@@ -111,8 +111,8 @@ module _ (until : Option ℕ) where
   piece_of facts None n most = none_listed (n + 1) most ∙ sym (ap (take most) (drop_all n [] (omega arith)) ∙ take_all most [] (omega arith))
   piece_of facts (Some opening) n most = piece_at facts opening n most
 
-  -- If the last valid entry is found among the entries so far, then one more chunk gives the last
-  -- valid entry with this chunk.
+  -- If the last valid entry among the first `n` is known, then adding one more chunk finds the last
+  -- valid entry up to the end of this chunk.
   pub piece_more : (facts : List Fact) (meter : List ℕ) (n : ℕ) (piece : List MeterEntry) (found more : Option Last)
       → piece ≡ entries_from facts meter (n + 1) 65536 → found ≡ last_among until (take n (all_entries facts meter))
       → ((before : List MeterEntry) → found ≡ last_among until before → more ≡ last_among until (before ++ piece))
@@ -123,7 +123,8 @@ module _ (until : Option ℕ) where
       ∙ ap (λ (those : List MeterEntry). last_among until (take n es ++ those)) (are ∙ piece_of facts (opening_of facts meter) n 65536)
       ∙ ap (last_among until) (one_piece_more n 65536 es)
 
-  -- After the last chunk of entries, the result is the state at the meter's last valid entry.
+  -- If a chunk is not full, then it was the last one, and the result is the state at the meter's
+  -- last valid entry.
   pub piece_last : (facts : List Fact) (meter : List ℕ) (n : ℕ) (piece : List MeterEntry) (found more : Option Last)
       → piece ≡ entries_from facts meter (n + 1) 65536 → found ≡ last_among until (take n (all_entries facts meter))
       → ((before : List MeterEntry) → found ≡ last_among until before → more ≡ last_among until (before ++ piece))

@@ -1,4 +1,5 @@
--- The lemma that openings are in the order of their timestamps after they were sorted by timestamp.
+-- The lemma that sorting openings (first entries of meters) by timestamp returns them in the order
+-- of their timestamps.
 use Rattle.std.proofs.Common.{◌≡◌, ℕ, ◌<◌, ◌≤◌, false, List, length, get_or, sym, ap, ◌∙◌, arith, Bor}
 use Rattle.std.specs.Cmp.{nat_cmp_is}
 use Rattle.std.specs.Fn.{Called, ComputesKey}

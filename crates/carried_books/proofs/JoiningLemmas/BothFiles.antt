@@ -1,5 +1,5 @@
--- The theorem that the statement over two files of a meter that is rolled over equals the statement
--- over one file with both journals.
+-- The theorem that the statement of a meter over two files equals the statement over one file that
+-- has the meter's history of both.
 use Rattle.std.proofs.Common.{◌≡◌, ℕ, zero, suc, ◌+◌, ◌-◌, ◌^◌, ◌<◌, ◌≤◌, ◌==◌, Bool, true, false, cond, List, [], ◌∷◌, ◌++◌, map, reverse, Option, Some, None, inl, inr, refl, sym, ap, subst, ◌∙◌, arith}
 use Rattle.std.specs.Prelude.{◌≢◌, filter, find, min}
 use Rattle.std.specs.List.{count_by}
@@ -101,7 +101,8 @@ module _ (asked : ℕ → Bool) where
   abbrev those_asked : List Share → List Share
   those_asked rows = filter (λ row. asked row.start) rows
 
-  -- A number above the start of each interval in a list.
+  -- A number above the start of each interval in a list. It bounds the quarter hours whose energies
+  -- are added up.
   abbrev bound : List Share → ℕ
   bound [] = 0
   bound (row ∷ rows) = row.start + 1 + bound rows

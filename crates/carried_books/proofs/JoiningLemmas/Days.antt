@@ -28,7 +28,8 @@ behind zone rows fold latest row same taken bound is less =
 
 -- ---- Adding energy intervals one after another
 
--- If the energy of all intervals fits in 128 bits, then the energy of the first ones fits too.
+-- If the energy of all intervals fits in 128 bits, then the energy of the first ones fits in 128
+-- bits too.
 pub first_has : (done rest : List Share) → HasNumber (done ++ rest) → HasNumber done
 first_has done rest fits =
     let both : energy_of (done ++ rest) ≡ energy_of done + energy_of rest = sum_by-append (λ (r : Share). r.mwh) done rest in
@@ -40,7 +41,8 @@ with_row done row fits =
     let one : energy_of (row ∷ []) ≡ row.mwh + energy_of [] = sum_by-cons (λ (r : Share). r.mwh) row [] in
     omega (arith, fits, both, one)
 
--- After one energy interval is added to a sum by civil day, the result is the sum of all intervals.
+-- If an energy interval is added to the sum of the intervals `done` by civil day, then the result
+-- is the sum of `done` and this interval, or a failure.
 adds_up : (failed : Option DayFault) (zone : Zone) (done : List Share) (row : Share) (fold : FoldState) → AddsUp failed zone done row fold
     → AddUp failed zone (done ++ row ∷ []) fold
 adds_up None zone done row fold adds = adds
@@ -56,8 +58,8 @@ still_out done row out = record {
   is = out.is;
 }
 
--- After one more interval is added, the sum has the intervals `done` and the new one, or it has
--- failed.
+-- If one more interval is passed to the sum of the intervals `done`, then the result is the sum of
+-- `done` and this interval, or a failure. The time zone is unchanged.
 add_one : (failed : Option DayFault) (done : List Share) (row : Share) (s next : JoinedDays) → s.fault ≡ failed → HasNumber (done ++ row ∷ [])
     → AddUp failed s.zone done s.fold → MatchOption failed (AddsRow s row next) (λ fault. next ≡ s)
     → (next.zone ≡ s.zone) × AddUp next.fault s.zone (done ++ row ∷ []) next.fold
@@ -72,8 +74,8 @@ add_one (Some fault.Memory) done row s next is fits added step =
     let P : Option DayFault → Type 0 = λ f. AddUp f s.zone (done ++ row ∷ []) s.fold in
     subst Q (sym step) (refl, subst P (sym is) tt)
 
--- After the intervals `rest` are added, the sum has the intervals `done` and `rest`, or it has
--- failed.
+-- If the intervals `rest` are passed to the sum of the intervals `done`, then the result is the sum
+-- of `done` and `rest`, or a failure. The time zone is unchanged.
 pub add_all : (zone : Zone) (done rest : List Share) (s after : JoinedDays) → s.zone ≡ zone → HasNumber (done ++ rest) → AddUp s.fault zone done s.fold
     → TakesAll TakesShare s rest after → (after.zone ≡ zone) × AddUp after.fault zone (done ++ rest) after.fold
 add_all zone done [] s after is fits added took =

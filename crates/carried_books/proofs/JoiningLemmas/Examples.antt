@@ -1,5 +1,5 @@
--- A worked example of a meter in two files. The meter was read in an old file, rolled over into a
--- new file, and read there by hand.
+-- A worked example of a meter in two files. The meter was read in an old file, and continues in a
+-- new file, where it was read by hand.
 use Rattle.std.proofs.Common.{◌≡◌, ℕ, pos, List, [], ◌∷◌, Some, inl, inr, refl, arith}
 use Rattle.std.specs.Prelude.{codes}
 use Rattle.energy_core.specs.Value.{unit_of}
@@ -55,7 +55,7 @@ in_old = meter_in old (installation_of old (opening 1000 0))
 abbrev in_new : MeterOver
 in_new = meter_in new (installation_of new (opening 1900 10))
 
--- The old and the new file join: they have one meter.
+-- The old and the new file join: together they have one history of one meter.
 one_meter : AreMetersOver main (new ∷ old ∷ []) (both_of in_old in_new ∷ [])
 unfolding unit_of
 one_meter = record {
@@ -77,8 +77,8 @@ one_meter = record {
   );
 }
 
--- The statement of the meter goes from its opening in the old file to the reading by hand in the
--- new file.
+-- The statement of the meter begins with its opening in the old file, and ends with the reading by
+-- hand in the new file.
 stated : (zone : Zone) → statement_over zone all_days (both_of in_old in_new) ≡ record {
   meter = codes "m1";
   entries = record {

@@ -1,4 +1,5 @@
--- Lemmas on joining one more file to the joined files of an office.
+-- Lemmas on adding one more file to the files of an office that join (have one history of each
+-- meter).
 use Rattle.std.proofs.Common.{◌≡◌, ℕ, Bool, true, false, not, ◌&&◌, ◌||◌, Option, List, [], ◌∷◌, ◌++◌, Some, None, refl, sym, subst, ◌∙◌}
 use Rattle.interval_core.specs.Fold.{HasTaken}
 use Rattle.interval_core.specs.declared.shares.Share.{Share}

@@ -1,4 +1,4 @@
--- The lemma that the data in `JoinedFiles` are the meters and days of the joined files.
+-- The lemma that `JoinedFiles` has the meters and days of the files that were added to it.
 use Rattle.std.proofs.Common.{ℕ, List, Option, Some, None}
 use Rattle.interval_core.specs.declared.zone.Zone.{Zone}
 use Rattle.office_events.specs.declared.facts.Fact.{Fact}

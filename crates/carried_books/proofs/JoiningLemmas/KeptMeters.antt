@@ -71,7 +71,8 @@ module _ (zone : Zone) (range : DayRange) (facts : List Fact) (meter : List ℕ)
       ∙ ap (take 65536) (ap (λ c. drop c (all_entries facts meter)) (sym both) ∙ sym (drop-drop n k (all_entries facts meter))
       ∙ ap (drop n) (sym (own_of goes_on (all_entries facts meter))))
 
-  -- After the tally, `now` has the first `n` entries of the meter that no earlier file has.
+  -- True if the tally `now` has the entries of `old` and the first `n` entries of the meter that no
+  -- earlier file has.
   abbrev pub HasTallied : (n : ℕ) → (old now : EntryTally) → Type 0
   HasTallied n old now = TalliesOn zone range (take n its_own) old now
 
@@ -144,8 +145,8 @@ energy_reported zone range rows from to fresh took =
 
 -- ---- The collected data of a meter, with one more file
 
--- If two numbers are capped at `most` before they are added, then their sum capped at `most` is
--- unchanged.
+-- If two numbers are capped at `most`, then the capped sum of the capped numbers equals the capped
+-- sum of the numbers.
 capped_both : (most a b : ℕ) → min (min a most + min b most) most ≡ min (a + b) most
 capped_both most a b = omega arith
 
@@ -184,7 +185,8 @@ kept_alike : {a b : KeptMeter} → a.stands ≡ b.stands → a.reported ≡ b.re
 kept_alike stands reported = λ i. record { stands = stands i; reported = reported i }
 
 module _ (zone : Zone) (range : DayRange) (facts : List Fact) (row : Installation) where
-  -- If a meter continues in the next file, then the collected data are those over all files.
+  -- If a meter continues in the next file, then its collected data are those of the meter over all
+  -- files.
   pub reports_both : (old new : KeptMeter) (part : MeterStatement) (m : MeterOver) → old ≡ kept_of zone range m → new ≡ with_part old row part
       → ReportsPart zone range row.opening.meter true facts old.reported.entries part → new ≡ kept_of zone range (both_of m (meter_in facts row))
   reports_both old new part m reported is more =
@@ -194,7 +196,8 @@ module _ (zone : Zone) (range : DayRange) (facts : List Fact) (row : Installatio
       let held = ap (both_held (held_within zone range m.holds)) more.held ∙ sym (held_both zone range m.holds (holds_of facts row.opening.meter)) in
       is ∙ ap (λ (k : KeptMeter). with_part k row part) reported ∙ kept_alike refl (reported_alike refl entries mwh held)
 
-  -- If a meter begins in the next file, then the collected data are those in this file.
+  -- If a meter begins in the next file, then its collected data are those of the meter in this
+  -- file.
   pub reports_first : (new : KeptMeter) (none : EntryTally) → none ≡ tally_of zone range [] → new.stands ≡ row
       → ReportsPart zone range row.opening.meter false facts none new.reported → new ≡ kept_of zone range (meter_in facts row)
   reports_first new none is stands more = kept_alike stands (reported_alike more.meter_is (more.entries [] is) more.energy more.held)

@@ -1,4 +1,5 @@
--- Lemmas on joining the meters of a register one after another.
+-- Lemmas on adding the meters of a register one after another: each continues or follows the meters
+-- before it.
 use Rattle.std.proofs.Common.{◌≡◌, ◌↔◌, ◌&&◌, ℕ, ◌<◌, Bool, true, false, not, List, [], ◌∷◌, length, take, Option, Some, None, inl, inr, refl, sym, subst, ◌∙◌, arith}
 use Rattle.std.specs.Prelude.{All, Contains, IsTrue, is_some}
 use Rattle.std.specs.List.{find}
@@ -74,14 +75,15 @@ one_apart known row stands is =
     let found = find_some (λ stands. not (is_before stands row)) known stands is in
     (found.0, not_true _ found.1)
 
--- If a meter continues none of the earlier meters, then it follows all of them, or does not join.
+-- If a meter does not continue the last earlier meter, then it follows all earlier meters, or does
+-- neither.
 pub next_or_apart : (known : List Installation) (row : Installation) (after : List Installation) (apart : Option Apart) → NoneGoesOn known row
     → AddsNext known row after apart → AddsOrIsApart known row after apart
 next_or_apart known row after None other adds = inr adds
 next_or_apart known row after (Some apart) other adds = record { begins = adds.0; among = adds.1; not_before = adds.2; other = other }
 
--- If a meter does not join after earlier meters in the list have joined, then the list does not
--- join.
+-- If a meter neither continues nor follows the meters before it in a list, then the list can't be
+-- added to the earlier meters.
 pub apart_among : (known listed mid now after : List Installation) (row : Installation) (begun : List Installation) (apart : Option Apart)
     → is_some apart ≡ true → (n : ℕ) → take n listed ≡ begun → AddMeters known begun mid → Contains listed row → AddsOrIsApart mid row now apart
     → AddOrAreApart known listed after apart
@@ -94,7 +96,7 @@ apart_among known listed mid now after row begun (Some apart) is n same took amo
   is = adds;
 }
 
--- If no two meters are returned that don't join, then the meter joins the earlier meters.
+-- If no conflicting meter is returned, then the meter continues or follows the earlier meters.
 pub joined_one : (mid : List Installation) (row : Installation) (now : List Installation) (apart : Option Apart) → is_some apart ≡ false
     → AddsOrIsApart mid row now apart → AddsMeter mid row now
 joined_one mid row now None isnt adds = adds

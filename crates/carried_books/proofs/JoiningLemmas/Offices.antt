@@ -73,8 +73,8 @@ next_rows asked rows_of openings i d less =
     ∙ ap (rows_within asked) (flat_map-append rows_of (take i openings) (o ∷ []) ∙ ap (λ (rows : List Share). flat_map rows_of (take i openings) ++ rows) (append-nil (rows_of o)))
     ∙ both_within asked (flat_map rows_of (take i openings)) (rows_of o)
 
--- The meter at index `i` of the list has the opening at index `i` in `openings`, and the records
--- have this opening.
+-- True if the meter at index `i` of the list has the opening (first entry) at index `i` in
+-- `openings`, and the records have this opening.
 record IsListedAs (facts : List Fact) (openings : List Opening) (i : ℕ) (row : Installation) : Type 0 where
   less : i < length openings
   found : opening_of facts row.opening.meter ≡ Some (get_or openings i row.opening)
@@ -98,7 +98,8 @@ rows_reported : (facts : List Fact) (asked : Span) (meter : List ℕ) (o : Openi
 rows_reported facts asked meter o there =
     ap (λ (found : Option Opening). option_map (rows_within asked) (option_map (rows_of_opening facts) found)) there
 
--- If a meter exists, then a query for the meter fails only if the store failed.
+-- If the requested item exists, then a query for it is refused only because the store or memory
+-- failed, or the office had stopped.
 there_fails : (m : Type 0) (before after : Failures) (why : Refusal) → IsFound {T = Unit {0}} m (Some tt) before after (Err why) → IsOutside m before after why
 there_fails m before after why (inl is) = absurd (cc is.0)
 there_fails m before after why (inr fails) = fails
@@ -115,8 +116,8 @@ not_listed f (Some x) before after why fails = inr fails
 
 -- ---- The days over earlier files and a running office
 
--- After further intervals are added to a copy of the earlier sum, the result is the sum of all
--- intervals.
+-- If further intervals are added to a copy of the sum of earlier intervals, then the result is the
+-- sum of all intervals, or a failure.
 days_on : (zone : Zone) (rows more : List Share) (earlier : EarlierDays) (copy after : JoinedDays) → GoesOnFrom zone earlier copy → AreSumOf zone rows earlier
     → HasNumber (rows ++ more) → TakesAll TakesShare copy more after → AddUp after.fault zone (rows ++ more) after.fold
 days_on zone rows more earlier copy after is added fits took =
@@ -137,7 +138,7 @@ lists (Some fault.Memory) zone rows fold there before after (Err why) is same ad
 module _ {B : Type 0} (ledger : B → Ledger) where
   -- ---- Adding up the energy intervals of one meter after another
 
-  -- The quarter hours of the first `n` meters were added up.
+  -- True if the quarter hours of the first `n` meters in `listed` were added up.
   abbrev pub HaveFirst : (a b : Office B) → (listed : List Installation) → (n : ℕ) → Span → (from to : JoinedDays) → Type 0
   HaveFirst a b listed n asked from to = After ledger a b (λ past. (openings : List Opening)
       → listed ≡ map (installation_of (facts_of past)) openings → All (IsInstalled (facts_of past)) openings
@@ -250,7 +251,8 @@ module _ {B : Type 0} (ledger : B → Ledger) where
 
   -- ---- The days of a register over earlier files and a running office
 
-  -- If an interval is out of order after the office answered, then the query is refused.
+  -- If an interval is out of order although the office answered all queries, then the request for
+  -- the days is refused.
   out_of_turn : {T : Type 0} (a b : Office B) → (is_stopped a ≡ true → ⊥) → Keeps ledger a b → OnlyAsks {T = T} ledger a b (Err (refusal.Store store.NoDay))
   out_of_turn a b goes kept = record {
     stands = kept.stands;
@@ -287,8 +289,8 @@ module _ {B : Type 0} (ledger : B → Ledger) where
       (failures_of ledger b) result found.0 found.1
       (days_on zone rows (rows_within asked (rows_of_register facts register)) earlier copy after is added fits it.whole) ends
 
-  -- If the lookup of a register fails, then the query for its days is refused for the reason of the
-  -- lookup.
+  -- If the lookup of a register fails, then the request for its days is refused with the same
+  -- refusal.
   refused_so : (a b : Office B) (facts : List Fact) (register : List ℕ) (why : Refusal)
       → IsRowFound {T = Unit {0}} (is_there (register_of facts register)) (failures_of ledger a) (failures_of ledger b) (Err why)
       → IsFound {T = Unit {0}} (is_there (register_of facts register) ≡ Some tt) (is_there (register_of facts register)) (failures_of ledger a)

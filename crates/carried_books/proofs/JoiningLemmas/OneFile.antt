@@ -27,7 +27,7 @@ all_turned P [] all = all
 all_turned P (x ∷ xs) all =
     subst (All P) (sym (reverse_cons x xs)) (All-push P (reverse xs) x (all_turned P xs (All-tail P x xs all)) (All-head P x xs all))
 
--- If several items are received in order, then the last item is received after the earlier items.
+-- If items are received in order, then the last item is received after all earlier items.
 pub takes_last : {S T : Type 0} (takes : S → T → S → Type 0) (before after : S) (rows : List T) (row : T) → TakesAll takes before (rows ++ row ∷ []) after
     → (mid : S) × TakesAll takes before rows mid × takes mid row after
 takes_last takes before after [] row took = (before, refl, subst (takes before row) (sym took.2) took.1)
@@ -45,7 +45,8 @@ module _ (facts : List Fact) where
   abbrev HasOther : Opening → MeterOver → Type 0
   HasOther opening m = opening.meter ≢ m.stands.opening.meter
 
-  -- If a meter has another name than each earlier meter, then it follows the earlier meters.
+  -- If a meter has another name than each earlier meter, then it continues none of them. So it is
+  -- appended to the list.
   comes_next : (opening : Opening) (known after : List MeterOver) → All (HasOther opening) known → AddsOver known (part opening) after
       → after ≡ known ++ part opening ∷ []
   comes_next opening known after all (inl is) = absurd ((All-pop (HasOther opening) known is.before (Some is.one) is.known_is all).1 is.goes.name)

@@ -1,4 +1,4 @@
--- Lemmas on the reported days of files that join.
+-- Lemmas on the reported days of files that join (have one history of a register).
 use Rattle.std.proofs.Common.{◌≡◌, ℕ, ◌+◌, ◌<◌, ◌^◌, ◌==◌, Bool, true, false, cond, not, List, [], ◌∷◌, ◌++◌, length, Option, inl, inr, refl, sym, ap, subst, ◌∙◌, arith}
 use Rattle.std.specs.Prelude.{filter, map, if◌then◌else◌}
 use Rattle.std.specs.List.{list_any}
@@ -87,7 +87,8 @@ same_text form days =
 
 -- ---- The report of a register over all files
 
--- The days in the range have equal energy for the intervals around the range and for all intervals.
+-- If the days are computed from the intervals around the requested range, then the report has the
+-- same days in the range as one from all intervals.
 pub report_over : (zone : Zone) (register : List ℕ) (files : List (List Fact)) (form : ReportForm) (days : List DayTotal) → AccountsAreOne
     → AreAccounts zone (rows_within (span_of form.range) (rows_over register files)) (map account_of days)
     → IsReportOver zone register files form (report_text form days)
@@ -141,7 +142,7 @@ is_over zone register files form joined days one has fits are =
     let totals = subst (λ (accounts : List DayAccount). AreAccounts zone (rows_over_within span register files) accounts) (sym are) taken.accounts in
     report_over zone register files form days one (subst (λ (those : List Share). AreAccounts zone those (map account_of days)) same totals)
 
--- After the days of a report are written, the report still has the writer that it had before.
+-- While the days of a report are written, the output of the report remains the same writer.
 pub taken_by : {W : Type 0} (contents : W → Option (List ℕ)) (days : List DayTotal) (from to : ReportRows W) → TakesAll (TakesDay contents) from days to
     → to.output.ghost_name ≡ from.output.ghost_name
 taken_by {W} contents [] from to took = ap (λ (rows : ReportRows W). rows.output.ghost_name) took
@@ -161,7 +162,7 @@ reported_over contents form days from to left output status fresh took few last 
     let reported = reported_by left.failed status (report_text from.form days) (contents from.output.now) (contents left.output.now) last.means got in
     rw (sym fresh.form, sym fresh.output) reported
 
--- ---- The report of a meter that is rolled over
+-- ---- The report of a meter that continues in a second file
 
 -- If a list of numbers is not empty, then it has at least one distinct number.
 positive : (ns : List ℕ) → 0 < length ns → 0 < distinct_count ns
@@ -178,7 +179,8 @@ some_there : (ns : List ℕ) → 0 < distinct_count ns → 0 < length ns
 some_there [] less = absurd (omega (arith, less))
 some_there (n ∷ ns) less = omega arith
 
--- If a list has as many distinct quarter hours as a list that is not empty, then it is not empty.
+-- If two lists of intervals have equally many distinct quarter hours, and one list is not empty,
+-- then the other is not empty.
 there_too : (rows others : List Share) → distinct_count (starts_of rows) ≡ distinct_count (starts_of others) → 0 < length rows → 0 < length others
 there_too rows others same less =
     let counted = positive (starts_of rows) (subst (λ n. 0 < n) (sym (length-map rows (λ (row : Share). row.start))) less) in

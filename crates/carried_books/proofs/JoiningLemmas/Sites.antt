@@ -49,7 +49,7 @@ split_last (x ∷ xs) = elim (split_last xs) [
   | inr at ↦ inr (record { front = x ∷ at.front; last = at.last; is = ap (λ l. x ∷ l) at.is })
 ]
 
--- If an item is the first that passes a test, then it is the first of all items that pass the test.
+-- The first item of a list that passes a test equals the first item of the filtered list.
 found_first : {X : Type 0} (p : X → Bool) (xs : List X) → find p xs ≡ slice_get (filter p xs) 0
 found_first p [] = refl
 found_first p (x ∷ xs) = elim (cases_Bool (p x)) [
@@ -71,8 +71,8 @@ not_left : (ended a b : Bool) → (ended && a) ≡ true → (not ended && b) ≡
 not_left true a b is = refl
 not_left false a b is = absurd (cc is)
 
--- If the office's meter is not the meter that the earlier files left open, then it is the latest
--- meter.
+-- If the office's meter does not continue the meter that was open at the end of the earlier files,
+-- then the office's meter is the latest meter.
 reported_as_new : (known : List Installation) (row : Installation)
     → ((front : List Installation) (stands : Installation) → known ≡ front ++ stands ∷ [] → is_left stands row ≡ false)
     → option_map meter_of (latest_meter known (Some row)) ≡ Some row
@@ -135,7 +135,8 @@ comes_last mid row all ends (inl is) =
     absurd (ends.named (is.goes.name ∙ ap (λ (meter : Installation). meter.opening.meter) one))
 comes_last mid row all ends (inr is) = ap last_of is.after_is ∙ last_pushed mid row
 
--- The first meter of the office is between the last meter of the earlier files and a later meter.
+-- Suppose that the office's first meter was added to the meters of the earlier files. Then a later
+-- meter with another name does not continue the last of these meters.
 first_between : (known : List Installation) (first row : Installation) (next : List Installation) → row.opening.meter ≢ first.opening.meter
     → AddsMeter known first next → (front : List Installation) (stands : Installation) → known ≡ front ++ stands ∷ [] → is_left stands row ≡ false
 first_between known first row next other (inl is) front stands at =

@@ -52,7 +52,8 @@ module _ (zone : Zone) (range : DayRange) where
         | inr isnt ↦ ap (map reported_of) (cond-false _ _ _ isnt) ∙ rest ∙ sym (ap (map (statement_over zone range)) (cond-false _ _ _ isnt))
       ]
 
-  -- The last of the meters whose data were collected.
+  -- If the last collected meter is `one`, then it has the data of the last of the corresponding
+  -- meters.
   pub reported_last : (kept : List KeptMeter) (one : KeptMeter) (meters : List MeterOver) → AreReported zone range (kept ++ one ∷ []) meters
       → (before : List MeterOver) × (m : MeterOver) × (meters ≡ before ++ m ∷ []) × AreReported zone range kept before × (one ≡ kept_of zone range m)
   reported_last [] one [] reported = absurd (cc reported)
@@ -142,8 +143,8 @@ module _ (zone : Zone) (range : DayRange) where
       → rows_of_those zone range kept ≡ statements_over zone range meters
   rows_reported kept meters reported = ap (rows_of_those zone range) reported ∙ rows_of_meters meters
 
-  -- The statements of two appended lists of meters are the statements of the first list, then of
-  -- the second.
+  -- The statements of two appended lists of meters are those of the first list, followed by those
+  -- of the second.
   pub rows_both : (kept more : List KeptMeter) → rows_of_those zone range (kept ++ more) ≡ rows_of_those zone range kept ++ rows_of_those zone range more
   rows_both kept more =
       let there : KeptMeter → Bool = λ one. was_installed zone range one.stands in
@@ -167,13 +168,14 @@ find_stands row (one ∷ kept) = elim (cases_Bool (not (is_before one.stands row
   | inr isnt ↦ ap (option_map stands_of) (cond-false _ _ _ isnt) ∙ find_stands row kept ∙ sym (cond-false _ _ _ isnt)
 ]
 
--- If a search finds a meter that does not precede `row`, then the found meter does not precede
--- `row`.
+-- If the search for a meter that does not precede `row` finds a meter, then this meter is in the
+-- list and does not precede `row`.
 pub stands_apart : (row stands : Installation) (kept : List KeptMeter) → option_map stands_of (find (λ one. not (is_before one.stands row)) kept) ≡ Some stands
     → Contains (map stands_of kept) stands × (is_before stands row ≡ false)
 stands_apart row stands kept is = one_apart (map stands_of kept) row stands (sym (find_stands row kept) ∙ is)
 
--- If a search finds no meter that does not precede `row`, then all meters precede `row`.
+-- If the search for a meter that does not precede `row` finds none, then all meters precede `row`
+-- (were closed before it began).
 pub stand_earlier : (row : Installation) (kept : List KeptMeter) → option_map stands_of (find (λ one. not (is_before one.stands row)) kept) ≡ None
     → All (λ stands. is_before stands row ≡ true) (map stands_of kept)
 stand_earlier row kept is = all_before (map stands_of kept) row (sym (find_stands row kept) ∙ is)
@@ -183,12 +185,14 @@ stand_more : (kept : List KeptMeter) (one : KeptMeter) (all : List KeptMeter) (s
 stand_more kept one all stands are is =
     ap (map stands_of) are ∙ map-append stands_of kept (one ∷ []) ∙ ap (λ (those : Installation). map stands_of kept ++ those ∷ []) is
 
--- If all collected meters precede the meter `row`, then `row` is appended to them.
+-- If all collected meters precede the meter `row` (were closed before it began), then appending
+-- `row` satisfies `IsNext`.
 pub stands_next : (row : Installation) (new : KeptMeter) (old after : List KeptMeter) → All (λ stands. is_before stands row ≡ true) (map stands_of old)
     → after ≡ old ++ new ∷ [] → new.stands ≡ row → IsNext (map stands_of old) row (map stands_of after)
 stands_next row new old after earlier are is = record { earlier = earlier; after_is = stand_more old new after row are is }
 
--- If the meter `row` continues the last collected meter, then `row` joins the collected meters.
+-- If the meter `row` continues the last collected meter, then replacing that meter by the meter
+-- over all files satisfies `AddsMeter`.
 pub stands_on : (row : Installation) (last new : KeptMeter) (kept old after : List KeptMeter) → old ≡ kept ++ last ∷ [] → GoesOn last.stands row
     → after ≡ kept ++ new ∷ [] → new.stands ≡ as_one last.stands row → AddsMeter (map stands_of old) row (map stands_of after)
 stands_on row last new kept old after old_is goes after_is is = inl (record {
@@ -199,7 +203,8 @@ stands_on row last new kept old after old_is goes after_is is = inl (record {
   after_is = stand_more kept new after (as_one last.stands row) after_is is;
 })
 
--- If the meter `row` does not continue the last meter, then it follows all meters or does not join.
+-- If the meter `row` does not continue the last meter, then `row` is appended because it follows
+-- all meters, or it conflicts with one of them.
 pub stands_otherwise : (row : Installation) (last : KeptMeter) (kept old mid after : List KeptMeter) (apart : Option Apart) → old ≡ kept ++ last ∷ []
     → (GoesOn last.stands row → ⊥) → mid ≡ kept ++ last ∷ [] → AddsNext (map stands_of mid) row (map stands_of after) apart
     → AddsOrIsApart (map stands_of old) row (map stands_of after) apart
@@ -208,7 +213,7 @@ stands_otherwise row last kept old mid after apart old_is other mid_is adds =
     (inr (record { before = map stands_of kept; stands = last.stands; known_is = stand_more kept last old last.stands old_is refl; other = other }))
     (subst (λ (those : List KeptMeter). AddsNext (map stands_of those) row (map stands_of after) apart) (mid_is ∙ sym old_is) adds)
 
--- If no meter was collected before, then the list of collected data is empty.
+-- If `mid` is empty, and `old` is `mid` with nothing appended, then `old` is empty.
 nothing_before : (old mid : List KeptMeter) → old ≡ mid ++ [] → mid ≡ [] → old ≡ []
 nothing_before old mid old_is mid_is = old_is ∙ append-nil mid ∙ mid_is
 
@@ -218,13 +223,15 @@ stands_first row old mid after apart old_is mid_is adds =
     next_or_apart (map stands_of old) row (map stands_of after) apart (inl (ap (map stands_of) (nothing_before old mid old_is mid_is)))
     (subst (λ (those : List KeptMeter). AddsNext (map stands_of those) row (map stands_of after) apart) (sym (old_is ∙ append-nil mid)) adds)
 
--- If two lists of collected data are equal, then `ReportsAll` holds for both of them.
+-- If two lists of collected data are equal and `ReportsAll` holds for one of them, then it holds
+-- for the other.
 pub reported_from : (zone : Zone) (range : DayRange) (facts : List Fact) (listed : List Installation) (old mid new : List KeptMeter) (apart : Option Apart)
     → old ≡ mid → ReportsAll zone range facts listed mid new apart → ReportsAll zone range facts listed old new apart
 reported_from zone range facts listed old mid new apart same reports =
     subst (λ (those : List KeptMeter). ReportsAll zone range facts listed those new apart) (sym same) reports
 
--- After the meters that the store lists are added, the collected data have these meters.
+-- If the meters that the store lists are added, then the collected data have these meters, or two
+-- meters conflict.
 pub added_listed : (zone : Zone) (range : DayRange) (facts : List Fact) (listed shown : List Installation) (old new : List KeptMeter)
     (result : Result (Option Apart) BooksFault) → shown ≡ listed → IfOk result (AddOrAreApart (map stands_of old) shown (map stands_of new))
     → IfOk result (ReportsAll zone range facts shown old new) → IfOk result (AddsListed zone range facts listed old new)
@@ -234,7 +241,8 @@ added_listed zone range facts listed shown old new (Ok apart) same joins reports
 )
 added_listed zone range facts listed shown old new (Err why) same joins reports = tt
 
--- If two meters don't join, then `ReportsAll` is trivially true.
+-- If two meters conflict, then `ReportsAll` is trivially true, because it only describes added
+-- meters.
 pub reported_apart : (zone : Zone) (range : DayRange) (facts : List Fact) (listed : List Installation) (old new : List KeptMeter) (apart : Option Apart)
     → is_some apart ≡ true → ReportsAll zone range facts listed old new apart
 reported_apart zone range facts listed old new None is = absurd (cc is)

@@ -1,10 +1,11 @@
--- The definition of appending items to a list while the store is queried.
+-- Appending items to a list while the store of an old database file is queried, as in a file
+-- rollover.
 use Rattle.std.specs.Prelude.{◌≡◌, List, ◌++◌, Result, OnOk}
 use Rattle.office_events.specs.declared.facts.Fact.{Fact}
 use Rattle.office_books.specs.Ledgers.{Ledger}
 
 -- If appending succeeds, then exactly the items that follow from the store's records were appended
--- to the list. No wrong result of the store was used.
+-- to the list. This assumes that no wrong result of the store was used.
 abbrev pub Adds : {R T E : Type 0} → (old new : Ledger) → (List Fact → List R)
     → (before after : List R) → Result T E → Type 0
 Adds old new says before after result = (known : List Fact) → old.holds known → new.is_clean

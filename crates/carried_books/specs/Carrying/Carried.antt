@@ -1,4 +1,5 @@
--- The state of the old store and of the new office after a file rollover.
+-- The state of the old store and of the new office after a file rollover. A file rollover begins a
+-- new database file in which each open meter continues.
 use Rattle.std.specs.Prelude.{◌≡◌, ℕ, List, Option, Result, Ok, Err}
 use Rattle.office_events.specs.declared.facts.Fact.{Fact}
 use Rattle.office_events.specs.declared.refusals.Refusal.{Refusal}
@@ -18,11 +19,12 @@ use Rattle.carried_books.specs.declared.carrying.plans.Plan.{Plan}
 use Rattle.carried_books.specs.declared.carrying.plans.Plan.TheVariants as plan
 use Rattle.carried_books.specs.declared.carrying.plans.Plan.TheVariants.{Ready}
 
--- True if `says` holds for the old store's records. No wrong result of the old store was used.
+-- True if `says` holds for the old store's records. This assumes that no wrong result of the old
+-- store was used.
 abbrev pub OfOld : (old new : Ledger) → (List Fact → Type 0) → Type 0
 OfOld old new says = (known : List Fact) → old.holds known → new.is_clean → says known
 
--- The new office executed all commands of the file rollover, which follow from the old store's
+-- The new office executed all commands of the file rollover. They follow from the old store's
 -- records and install `meters` meters.
 pub record IsCarried {N : Type 0} (old new : Ledger) (until : Option ℕ) (ledger : N → Ledger)
     (before after : Office N) (meters : ℕ) : Type 0 where
@@ -39,8 +41,8 @@ pub record IsBrokenOff {N : Type 0} (old new : Ledger) (until : Option ℕ) (led
   pub are : OfOld old new (λ known. AreCarried known until commands meters)
   pub fed : After ledger before after (λ past. AreFedUpTo ledger past commands before after why)
 
--- True if an open meter of the old store has no valid entry up to `until`. In this case the new
--- office was given no command.
+-- True if an open meter of the old store has no valid (not voided) entry up to `until`, from which
+-- the new file could continue it. Then the new office was given no command.
 pub record WaitsFor {N : Type 0} (old new : Ledger) (until : Option ℕ) (before after : Office N)
     (meter : List ℕ) : Type 0 where
   pub none : after ≡ before
@@ -49,8 +51,8 @@ pub record WaitsFor {N : Type 0} (old new : Ledger) (until : Option ℕ) (before
 -- The result of a file rollover.
 --
 -- A success has the number of installed meters. A fault is a command that the new office refused,
--- or an open meter without an entry. It may also be a failure of the old store or memory; then the
--- new office got no command.
+-- an open meter without a valid entry, or a failure of the old store or memory. In the last two
+-- cases the new office got no command.
 abbrev pub Carries : {N : Type 0} → (old new : Ledger) → (until : Option ℕ) → (N → Ledger)
     → (before after : Office N) → Result ℕ CarryFault → Type 0
 Carries old new until ledger before after (Ok meters) =
@@ -61,10 +63,10 @@ Carries old new until ledger before after (Err (NotYet meter)) =
     WaitsFor old new until before after meter
 Carries old new until ledger before after (Err (Old why)) = after ≡ before
 
--- The new office followed a file rollover plan: it executed all commands of the plan, or refused a
--- command.
+-- The new office followed the plan of a file rollover: it executed all commands of the plan, or
+-- refused a command.
 --
--- If the plan names a meter that can't be rolled over yet, the office was given no command.
+-- If the plan names a meter that has no entry to continue from, the office was given no command.
 abbrev pub Follows : {N : Type 0} → (N → Ledger) → Plan → (before after : Office N)
     → Result ℕ CarryFault → Type 0
 Follows ledger (Ready commands meters) before after (Ok n) =
@@ -76,7 +78,7 @@ Follows ledger (plan.NotYet meter) before after (Err (NotYet name)) =
     (name ≡ meter) × (after ≡ before)
 Follows ledger _ before after _ = ⊥
 
--- The old store failed or memory ran out, and `why` reports that failure.
+-- The old store failed or memory ran out, and the refusal `why` reports that failure.
 pub record FailedBy (before after : Failures) (why : Refusal) : Type 0 where
   pub fault : BooksFault
   pub is : why ≡ as_refusal fault

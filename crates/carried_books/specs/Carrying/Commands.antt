@@ -1,5 +1,5 @@
--- The commands that set up a new office with the devices, point lists, accounting registers and
--- meters of an old one.
+-- The commands that set up a new office (a new database file) with the devices, point lists,
+-- accounting registers and meters of an old one.
 use Rattle.std.specs.Prelude.{ℕ, List, [], ◌∷◌, ◌++◌, map, Some}
 use Rattle.std.specs.Option.{option_map, option_to_list}
 use Rattle.std.specs.List.{flat_map}
@@ -18,7 +18,7 @@ use Rattle.office_events.specs.declared.facts.ScaleSource.TheVariants as source
 use Rattle.office_rules.specs.Facts.{latest_in, list_of, registers_of}
 use Rattle.carried_books.specs.declared.carrying.commands.TimedCommand.{TimedCommand}
 
--- A command with a timestamp.
+-- A command with the timestamp at which a new office is to execute it.
 abbrev pub timed : (at : ℕ) → Command → TimedCommand
 timed at c = record { at = at; command = c }
 
@@ -37,7 +37,8 @@ device_command device = command.AddDevice (record {
 abbrev pub list_command : (device : List ℕ) → Planned → Command
 list_command device list = command.PutList (record { device = Some device; list = list })
 
--- The source of an accounting register's scale, as an argument of a command.
+-- The source of an accounting register's scale factor (fixed, or a Modbus address), as an argument
+-- of a command.
 abbrev pub scale_given : ScaleSource → GivenScale
 scale_given (source.Fixed sf) = given.Fixed sf
 scale_given (source.Register address) = given.Register address
@@ -52,7 +53,8 @@ register_command register = command.AddRegister (record {
   scale = scale_given register.scale;
 })
 
--- The command that installs a meter in the new office, with a given opening.
+-- The command that installs a meter in the new office, from its opening: the record that installs a
+-- meter.
 abbrev pub install_command : Opening → Command
 install_command opening = command.Install (record {
   register = Some opening.register;
@@ -73,7 +75,8 @@ add_device at device = timed at (device_command device)
 abbrev pub put_list : (at : ℕ) → (device : List ℕ) → Planned → TimedCommand
 put_list at device list = timed at (list_command device list)
 
--- The command for a device's point list, with its timestamp; empty if the device has no point list.
+-- The commands for a device's point list: one command with its timestamp, or none if the device has
+-- no point list.
 abbrev pub write_lists : (at : ℕ) → List Fact → Device → List TimedCommand
 write_lists at facts device =
     option_to_list (option_map (put_list at device.name) (list_of facts device.name))
@@ -96,20 +99,20 @@ set_up_device at facts device =
 abbrev pub set_up_devices : (at : ℕ) → List Fact → List Device → List TimedCommand
 set_up_devices at facts devices = flat_map (set_up_device at facts) devices
 
--- ---- The command that installs a meter, at the timestamp of its opening
+-- ---- The command that installs a meter, at the timestamp of its opening (its first entry)
 
--- The command that installs a meter, with the timestamp of its opening.
+-- The command that installs a meter. Its timestamp is that of the meter's opening, its first entry.
 abbrev pub install : Opening → TimedCommand
 install opening = timed opening.at (install_command opening)
 
--- The timestamp at which devices are set up: the timestamp of the first opening, or the latest
--- recorded timestamp if there are no openings.
+-- The timestamp at which the new file sets up its devices: that of the first meter's opening, or
+-- the latest recorded timestamp if no meter is installed.
 abbrev pub first_moment : List Fact → List Opening → ℕ
 first_moment facts [] = latest_in facts
 first_moment facts (opening ∷ openings) = opening.at
 
--- The commands that set up the devices in `devices`, followed by the commands that install a meter
--- for each opening in `openings`.
+-- All commands for the new file: they set up the devices in `devices`, and then install a meter for
+-- each opening in `openings`.
 abbrev pub commands_for : List Fact → List Device → List Opening → List TimedCommand
 commands_for facts devices openings =
     set_up_devices (first_moment facts openings) facts devices ++ map install openings

@@ -1,4 +1,5 @@
--- The definition of feeding commands to an office in order.
+-- The effect of feeding commands to an office in order, each as an event at the command's
+-- timestamp.
 use Rattle.std.specs.Prelude.{◌≡◌, List, [], ◌∷◌, ◌++◌, Result, Ok, Err}
 use Rattle.office_events.specs.declared.events.Event.{Event}
 use Rattle.office_events.specs.declared.events.Event.TheVariants as event
@@ -10,7 +11,7 @@ use Rattle.office_core.specs.Standing.{After, Stands, books_in}
 use Rattle.office_core.specs.Taking.{IsAnswer, failures_of}
 use Rattle.carried_books.specs.declared.carrying.commands.TimedCommand.{TimedCommand}
 
--- The event that carries a command to an office.
+-- The event that passes a command to an office.
 abbrev pub event_of : TimedCommand → Event
 event_of timed = event.Command timed.command
 
@@ -23,7 +24,7 @@ abbrev pub history_with : History → List TimedCommand → History
 history_with past [] = past
 history_with past (timed ∷ later) = history_with (accepted timed ∷ past) later
 
--- The office executed all commands in `commands`, and its store did not fail.
+-- The office executed all commands in `commands` in order, and its store did not fail.
 pub record AreFed {B : Type 0} (ledger : B → Ledger) (past : History)
     (commands : List TimedCommand) (old new : Office B) : Type 0 where
   pub stands : Stands ledger (history_with past commands) new
@@ -36,8 +37,8 @@ pub record IsRefused {B : Type 0} (ledger : B → Ledger) (past : History) (time
   pub answer : IsAnswer past timed.at (event_of timed)
       (failures_of ledger old) (failures_of ledger new) (Err why)
 
--- The office executed the first commands in `commands`, and refused the next one. The later
--- commands were not fed.
+-- The office executed the first commands in `commands`, and refused the next one. Feeding stopped
+-- there.
 pub record AreFedUpTo {B : Type 0} (ledger : B → Ledger) (past : History)
     (commands : List TimedCommand) (old new : Office B) (why : Refusal) : Type 0 where
   pub given : List TimedCommand
@@ -46,25 +47,28 @@ pub record AreFedUpTo {B : Type 0} (ledger : B → Ledger) (past : History)
   pub are : commands ≡ given ++ next ∷ later
   pub refused : IsRefused ledger (history_with past given) next old new why
 
--- On `Ok` the office executed the command, and on an error the office refused the command.
+-- On `Ok` the office executed the command. On an error it refused the command, and its state is
+-- unchanged.
 abbrev pub IsFedOr : {B : Type 0} → (B → Ledger) → History → TimedCommand
     → (old new : Office B) → Result (Unit {0}) Refusal → Type 0
 IsFedOr ledger past timed old new (Ok done) = AreFed ledger past (timed ∷ []) old new
 IsFedOr ledger past timed old new (Err why) = IsRefused ledger past timed old new why
 
--- On `Ok` the office executed all commands, and on an error the office refused a command.
+-- On `Ok` the office executed all commands. On an error it executed some and refused the next one.
 abbrev pub AreFedOr : {B : Type 0} → (B → Ledger) → History → List TimedCommand
     → (old new : Office B) → Result (Unit {0}) Refusal → Type 0
 AreFedOr ledger past commands old new (Ok done) = AreFed ledger past commands old new
 AreFedOr ledger past commands old new (Err why) = AreFedUpTo ledger past commands old new why
 
--- `IsFedOr` holds for every history of the office before the command.
+-- The contract of feeding one command to an office. It promises `IsFedOr` for any history of the
+-- office before the command.
 abbrev pub FeedsOne : {B : Type 0} → (B → Ledger) → TimedCommand → (old new : Office B)
     → Result (Unit {0}) Refusal → Type 0
 FeedsOne ledger timed old new result =
     After ledger old new (λ past. IsFedOr ledger past timed old new result)
 
--- `AreFedOr` holds for every history of the office before the commands.
+-- The contract of feeding several commands to an office. It promises `AreFedOr` for any history of
+-- the office before the commands.
 abbrev pub Feeds : {B : Type 0} → (B → Ledger) → List TimedCommand → (old new : Office B)
     → Result (Unit {0}) Refusal → Type 0
 Feeds ledger commands old new result =

@@ -1,5 +1,5 @@
--- The definition of the open meters of an office, and of the opening with which each meter
--- continues in a new office.
+-- The open meters of an old office, and the openings (first entries) with which these meters
+-- continue in a new office.
 use Rattle.std.specs.Prelude.{◌≡◌, ℕ, List, map, Contains, Option, Some, None}
 use Rattle.std.specs.Option.{option_map, option_to_list}
 use Rattle.std.specs.List.{flat_map}
@@ -34,26 +34,27 @@ open_at_device facts device = open_at_registers facts (registers_of facts device
 abbrev pub open_at_devices : List Fact → List Device → List Installation
 open_at_devices facts devices = flat_map (open_at_device facts) devices
 
--- ---- Openings of meters in a new office
+-- ---- Openings (first entries) of meters in a new office
 
--- The opening of a meter in the new file. It has the old opening's register, range and ceiling, and
--- the counter's state `last`.
+-- The opening (first entry) of a meter in the new file. It has the register, range and ceiling of
+-- the old opening, and the counter's state `last`.
 abbrev pub opened_at : Opening → Last → Opening
 opened_at opening last = record opening { at = last.at; raw = last.raw; sf = last.sf }
 
--- The opening of a meter at its last valid entry up to `until`; `None` if the meter has no such
--- entry.
+-- The opening (first entry) with which a new file continues a meter: its last valid (not voided)
+-- entry up to `until`. `None` if the meter has no such entry.
 abbrev pub opening_until : List Fact → (until : Option ℕ) → Installation → Option Opening
 opening_until facts until row =
     option_map (opened_at row.opening) (last_until facts until row.opening.meter)
 
--- `openings` has one opening for each meter in `rows`, at the meter's last valid entry up to
--- `until`.
+-- True if `openings` has an opening (first entry in a new file) for each meter in `rows`, at the
+-- meter's last valid (not voided) entry up to `until`.
 abbrev pub AreOpeningsOf : List Fact → (until : Option ℕ) → List Installation → List Opening
     → Type 0
 AreOpeningsOf facts until rows openings = map (opening_until facts until) rows ≡ map Some openings
 
--- The meter with this name is among `rows`, and has no valid entry up to `until`.
+-- The meter with this name is among `rows`, and has no valid (not voided) entry up to `until`. So
+-- it can't continue in a new file.
 pub record IsNotYet (facts : List Fact) (until : Option ℕ) (rows : List Installation)
     (meter : List ℕ) : Type 0 where
   pub row : Installation
@@ -62,7 +63,7 @@ pub record IsNotYet (facts : List Fact) (until : Option ℕ) (rows : List Instal
   pub none : opening_until facts until row ≡ None
 
 -- The result has the openings of all meters in `rows`, or the name of a meter that has no valid
--- entry up to `until`.
+-- (not voided) entry up to `until`.
 abbrev pub AreOpened : List Fact → (until : Option ℕ) → List Installation → Openings → Type 0
 AreOpened facts until rows (All openings) = AreOpeningsOf facts until rows openings.items
 AreOpened facts until rows (NotYet meter) = IsNotYet facts until rows meter

@@ -1,4 +1,5 @@
--- The plan of a file rollover: the commands for the new office.
+-- The plan of a file rollover: the commands that set up the new office, or the reason why there are
+-- none.
 use Rattle.std.specs.Prelude.{◌≡◌, ℕ, ◌≤◌, List, length, reverse, Option}
 use Rattle.std.specs.List.{AllPairs}
 use Rattle.std.specs.List.Sorted.{IsPermutation}
@@ -17,12 +18,13 @@ use Rattle.carried_books.specs.declared.carrying.plans.Plan.TheVariants.{Ready, 
 abbrev pub devices_of : List Fact → List Device
 devices_of facts = reverse (devices_in facts)
 
--- The open meters at the accounting registers of all devices of an office.
+-- The open (not closed) meters at the accounting registers of all devices of an office. A file
+-- rollover continues them.
 abbrev pub open_meters : List Fact → List Installation
 open_meters facts = open_at_devices facts (devices_of facts)
 
--- The commands set up the devices in `devices`, and then install `meters` meters with the openings
--- in `opened`, in the order of the openings' timestamps.
+-- True if the commands set up the devices in `devices`, and then install `meters` meters with the
+-- openings in `opened`, in the order of the openings' timestamps.
 pub record AreCommandsFor (facts : List Fact) (devices : List Device) (opened : List Opening)
     (commands : List TimedCommand) (meters : ℕ) : Type 0 where
   pub openings : List Opening
@@ -31,24 +33,24 @@ pub record AreCommandsFor (facts : List Fact) (devices : List Device) (opened : 
   pub are : commands ≡ commands_for facts devices openings
   pub count : meters ≡ length openings
 
--- The commands that a file rollover gives to the new office.
+-- The commands of a file rollover for the new office.
 --
 -- They set up each device of the old office, and install each of its open meters at the meter's
--- last valid entry up to `until`.
+-- last valid (not voided) entry up to `until`.
 pub record AreCarried (facts : List Fact) (until : Option ℕ) (commands : List TimedCommand)
     (meters : ℕ) : Type 0 where
   pub opened : List Opening
   pub each : AreOpeningsOf facts until (open_meters facts) opened
   pub so : AreCommandsFor facts (devices_of facts) opened commands meters
 
--- The plan has the commands for the devices in `devices` and the openings in `opened`.
+-- True if the plan has the commands for the devices in `devices` and the openings in `opened`.
 abbrev pub IsPlanFor : List Fact → List Device → List Opening → Plan → Type 0
 IsPlanFor facts devices opened (Ready commands meters) =
     AreCommandsFor facts devices opened commands.items meters
 IsPlanFor facts devices opened (NotYet meter) = ⊥
 
--- The plan has the commands of a file rollover, or names an open meter that has no valid entry up
--- to `until`.
+-- True if the plan has the commands of a file rollover, or names an open meter that has no valid
+-- (not voided) entry up to `until`.
 abbrev pub IsPlan : List Fact → (until : Option ℕ) → Plan → Type 0
 IsPlan facts until (Ready commands meters) = AreCarried facts until commands.items meters
 IsPlan facts until (NotYet meter) = IsNotYet facts until (open_meters facts) meter

@@ -27,8 +27,8 @@ device_facts facts device =
     ∷ (option_to_list (option_map (list_fact device.name) (list_of facts device.name))
     ++ map fact.Register (registers_of facts device.name))
 
--- The records after a file rollover: the devices with their point lists and registers, followed by
--- the openings of the meters.
+-- The records in the new file: the devices with their point lists and registers, followed by the
+-- openings (first entries) of the meters.
 abbrev pub carried_facts : List Fact → List Device → List Opening → List Fact
 carried_facts facts devices openings =
     flat_map (device_facts facts) devices ++ map fact.Opening openings
@@ -41,8 +41,8 @@ CommandsRecordTheSame =
     → facts_of (history_with past (commands_for facts devices openings))
     ≡ reverse (carried_facts facts devices openings) ++ facts_of past
 
--- The theorem that each meter continues in its present state if a file rollover has no timestamp
--- limit.
+-- The theorem that each meter continues in its present state, if a file rollover has no limit
+-- `until` on the timestamps of entries.
 abbrev pub MetersGoOnWhereTheyStand : Type 0
 MetersGoOnWhereTheyStand =
     (facts : List Fact) (meter : List ℕ) (row : Installation)

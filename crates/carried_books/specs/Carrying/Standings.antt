@@ -1,5 +1,5 @@
--- The definition of the state of a meter's counter at its last valid entry, up to a timestamp if
--- one is given.
+-- The state of a meter's counter at its last valid (not voided) entry, up to a timestamp if one is
+-- given. A new file continues the meter from this state.
 use Rattle.std.specs.Prelude.{ℕ, ℤ, nat_le, Bool, true, ◌&&◌, List, reverse, Option, Some, None}
 use Rattle.std.specs.Option.{option_map}
 use Rattle.std.specs.List.{find}
@@ -22,12 +22,13 @@ abbrev pub set_by : Entry → (sf : ℤ) → Last
 set_by (entry.Step at raw rolls) sf = record { at = at; raw = raw; sf = sf }
 set_by (entry.Change at before after scale) sf = record { at = at; raw = after; sf = sf }
 
--- The state of a meter's counter after an entry of the meter, or after its opening.
+-- The state of a meter's counter after an entry of the meter, or after its opening (first entry).
 abbrev pub shown_by : MeterEntry → Last
 shown_by (listed.Opening last) = last
 shown_by (listed.Later row sf) = set_by row.entry sf
 
--- Whether a meter entry is valid: it is the meter's opening, or no void names it.
+-- Whether a meter entry is valid: it is the meter's opening (first entry), or no void (a record
+-- that cancels a reading) names it.
 abbrev pub stands : MeterEntry → Bool
 stands (listed.Opening last) = true
 stands (listed.Later row sf) = row.stands

@@ -1,4 +1,4 @@
--- The definition of adding up the energy intervals of several files by civil day.
+-- Adding up the energy intervals (quarter hours with energy) of several files by civil day.
 use Rattle.std.specs.Prelude.{◌≡◌, ◌⊎◌, ℕ, ◌+◌, ◌<◌, ◌^◌, List, [], ◌∷◌, ◌++◌, Contains, Option, Some, None, MatchOption}
 use Rattle.interval_core.specs.Account.{energy_of, starts_of}
 use Rattle.interval_core.specs.Fold.{FoldState, HasTaken}
@@ -12,13 +12,15 @@ use Rattle.carried_books.specs.declared.joining.days.JoinedDays.{JoinedDays}
 
 -- ---- Energy intervals that are out of order
 
--- The interval `row` starts before one of the intervals in `rows`, or after the last timestamp.
+-- The interval `row` starts before one of the intervals in `rows`, or after the largest supported
+-- timestamp. So it can't be added to their sum by day.
 abbrev pub IsOutOfTurn : List Share → Share → Type 0
 IsOutOfTurn rows row =
     ((earlier : ℕ) × Contains (starts_of rows) earlier × (row.start < earlier))
     ⊎ (LAST_MOMENT < row.start)
 
--- One of the intervals in `rows` is out of order after the earlier ones.
+-- One of the intervals in `rows` starts before an earlier one, or after the largest supported
+-- timestamp.
 pub record AreOutOfTurn (rows : List Share) : Type 0 where
   pub before : List Share
   pub row : Share
@@ -39,8 +41,8 @@ AddUp None zone rows fold = HasTaken zone rows fold
 AddUp (Some fault.Zone) zone rows fold = AreOutOfTurn rows
 AddUp (Some fault.Memory) zone rows fold = Unit {0}
 
--- If the energy of the intervals in `rows` fits in 128 bits, these intervals were added up, or the
--- sum has failed.
+-- If the energy of the intervals in `rows` fits in 128 bits, then `sink` has their sum by civil
+-- day, or has recorded a failure.
 abbrev pub HasAdded : JoinedDays → List Share → Type 0
 HasAdded sink rows = HasNumber rows → AddUp sink.fault sink.zone rows sink.fold
 
@@ -53,15 +55,15 @@ AddsUp None zone rows row fold = HasTaken zone (rows ++ row ∷ []) fold
 AddsUp (Some fault.Zone) zone rows row fold = IsOutOfTurn rows row
 AddsUp (Some fault.Memory) zone rows row fold = Unit {0}
 
--- If the total energy fits in 128 bits, then the interval is added to the sum, or the sum fails.
--- The sum's time zone is unchanged.
+-- If the total energy fits in 128 bits, then the interval is added to the sum, or the sum records a
+-- failure. The sum's time zone is unchanged.
 pub record AddsRow (old : JoinedDays) (row : Share) (new : JoinedDays) : Type 0 where
   pub zone : new.zone ≡ old.zone
   pub added : (rows : List Share) → HasTaken old.zone rows old.fold
       → energy_of rows + row.mwh < 2 ^ 128
       → AddsUp new.fault old.zone rows row new.fold
 
--- The sum receives an interval. It adds this interval, or drops it if the sum has failed before.
+-- The sum adds the interval, or drops the interval if an earlier failure was recorded.
 abbrev pub TakesShare : JoinedDays → Share → JoinedDays → Type 0
 TakesShare old row new = MatchOption old.fault (AddsRow old row new) (λ fault. new ≡ old)
 

@@ -1,5 +1,5 @@
--- The definition of an accounting register in earlier files, and of a running office's file that
--- joins those files.
+-- An accounting register in earlier database files, and the comparison of a running office's file
+-- with these files.
 use Rattle.std.specs.Prelude.{◌≡◌, ℕ, true, false, List, Option, Some, None}
 use Rattle.interval_core.specs.Fold.{FoldState}
 use Rattle.office_events.specs.declared.facts.Fact.{Fact}
@@ -12,17 +12,18 @@ use Rattle.carried_books.specs.declared.joining.earlier.KeptRegister.{KeptRegist
 use Rattle.carried_books.specs.declared.joining.files.Unjoined.{Unjoined}
 use Rattle.carried_books.specs.declared.joining.files.Unjoined.TheVariants as unjoined
 
--- The reported data of an accounting register: its name, its meters, and its energy by day.
+-- What is known of an accounting register over several files: its name, its meters, and its energy
+-- by day.
 pub record Reported : Type 0 where
   pub name : List ℕ
   pub meters : List Installation
   pub days : FoldState
 
--- The reported data of an accounting register in earlier files.
+-- The name, meters and days of an accounting register in earlier files.
 abbrev pub reported : EarlierRegister → Reported
 reported it = record { name = it.name; meters = it.meters.items; days = it.days.fold }
 
--- The reported data of an accounting register that was collected from several files.
+-- The name, meters and days of an accounting register that were collected from several files.
 abbrev pub kept_as : KeptRegister → Reported
 kept_as kept = record {
   name = kept.name;
@@ -30,8 +31,8 @@ kept_as kept = record {
   days = kept.files.days.fold;
 }
 
--- The file's meters at the register join those of the earlier files. Otherwise two meters are
--- returned that don't join.
+-- The file's meters at the register continue or follow those of the earlier files. Otherwise two
+-- meters are returned that do neither.
 abbrev pub HoldMeters : KeptRegister → List Fact → Option Unjoined → Type 0
 HoldMeters kept facts None = (all : List Installation)
     × AddMeters kept.files.meters.items (installations_of facts kept.name) all
@@ -40,8 +41,8 @@ HoldMeters kept facts (Some (unjoined.Apart apart)) =
     AreApart kept.files.meters.items (installations_of facts kept.name) apart
 HoldMeters kept facts (Some unjoined.OutOfTurn) = ⊥
 
--- If an earlier file records the register, then the new file records it too, and its meters join
--- the earlier meters. Otherwise the reason is returned.
+-- If an earlier file records the register, then the new file records it too, and its meters
+-- continue or follow the earlier meters. Otherwise the reason is returned.
 abbrev pub HoldsFile : KeptRegister → List Fact → Option Unjoined → Type 0
 HoldsFile kept facts None =
     (kept.files.is_recorded ≡ true → is_recorded kept.name facts ≡ true)

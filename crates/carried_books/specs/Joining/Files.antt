@@ -1,6 +1,7 @@
--- The definition of an accounting register over the files of one office.
+-- An accounting register over the database files of one office. The files join if together they
+-- have one history of each meter.
 --
--- A file is given by its records, and lists of files have the latest file first.
+-- A file is represented by its records, and lists of files have the latest file first.
 use Rattle.std.specs.Prelude.{◌≡◌, ℕ, Bool, true, false, List, [], ◌∷◌, ◌++◌, Option, Some, None, is_some}
 use Rattle.std.specs.List.{list_any}
 use Rattle.interval_core.specs.Fold.{HasTaken}
@@ -50,7 +51,7 @@ meters_over register [] = []
 meters_over register (facts ∷ files) =
     meters_over register files ++ installations_of facts register
 
--- ---- Files of one office that join at a register
+-- ---- Files of one office that join at a register: together they have one history of its meters
 
 -- If a file records the accounting register, each later file records it too.
 abbrev pub StaysRecorded : (register : List ℕ) → (files : List (List Fact)) → Type 0
@@ -59,7 +60,7 @@ StaysRecorded register (facts ∷ files) =
     (is_recorded_in register files ≡ true → is_recorded register facts ≡ true)
     × StaysRecorded register files
 
--- The files join at an accounting register, whose meters over all files are `meters`.
+-- The files join at an accounting register: together they have one history of its meters `meters`.
 --
 -- If one file records the accounting register, then all later files do. Each meter of a file
 -- continues a meter of the previous files, or begins after their meters were closed.
@@ -68,8 +69,8 @@ pub record AreJoined (register : List ℕ) (files : List (List Fact)) (meters : 
   pub recorded : StaysRecorded register files
   pub joined : AddMeters [] (meters_over register files) meters
 
--- True if `kept` has the data of joined files at an accounting register. These are the register's
--- meters, and the sum of its intervals in a span by civil day.
+-- True if `kept` has the data of files that join (have one history) at an accounting register.
+-- These are the register's meters, and the sum of its intervals in a span of time by civil day.
 --
 -- The sum is right if the energy of the intervals fits in 128 bits.
 pub record HasJoined (zone : Zone) (span : Span) (register : List ℕ) (files : List (List Fact))
@@ -81,17 +82,18 @@ pub record HasJoined (zone : Zone) (span : Span) (register : List ℕ) (files : 
   pub days : HasNumber (rows_over_within span register files)
       → HasTaken zone (rows_over_within span register files) kept.days.fold
 
--- ---- Joining one more file to the earlier files of an office
+-- ---- Adding one more file to the earlier files of an office
 
--- The file's energy intervals were added to the days in order, or an interval was out of order.
+-- The file's energy intervals were added to the days, or one of them was out of order: before an
+-- earlier interval, or after the largest supported timestamp.
 abbrev pub AddDays : (rows : List Share) → (old new : JoinedDays) → Option Unjoined → Type 0
 AddDays rows old new None = TakesAll TakesShare old rows new × (new.fault ≡ None)
 AddDays rows old new (Some unjoined.OutOfTurn) =
     TakesAll TakesShare old rows new × (new.fault ≡ Some OutOfTurn)
 AddDays rows old new (Some why) = ⊥
 
--- The file joins the earlier files. It records the register if an earlier file does, its meters
--- join the earlier meters, and its energy intervals were added.
+-- The file continues the earlier files. It records the register if an earlier file does, its meters
+-- continue or follow the earlier meters, and its energy intervals were added.
 pub record JoinsFile (span : Span) (register : List ℕ) (facts : List Fact)
     (old new : JoinedFiles) : Type 0 where
   pub recorded : new.is_recorded ≡ is_recorded register facts
@@ -100,7 +102,7 @@ pub record JoinsFile (span : Span) (register : List ℕ) (facts : List Fact)
   pub days : AddDays (rows_within span (rows_of_register facts register)) old.days new.days None
 
 -- One of the file's energy intervals starts before an earlier interval of the earlier files or of
--- this file.
+-- this file, or after the largest supported timestamp.
 pub record IsOutOfTurn (span : Span) (register : List ℕ) (facts : List Fact)
     (old : JoinedFiles) : Type 0 where
   pub days : JoinedDays
@@ -115,7 +117,7 @@ pub record AddsBoth (span : Span) (register : List ℕ) (facts : List Fact)
   pub days : AddDays (rows_within span (rows_of_register facts register)) old.days new.days None
 
 -- The meters and the energy intervals of a file were added, or the reason is returned why the file
--- does not join the earlier files.
+-- does not continue the earlier files.
 abbrev pub AddsRows : Span → (register : List ℕ) → (facts : List Fact) → (old new : JoinedFiles)
     → Option Unjoined → Type 0
 AddsRows span register facts old new None = AddsBoth span register facts old new
@@ -125,7 +127,8 @@ AddsRows span register facts old new (Some (unjoined.Apart apart)) =
 AddsRows span register facts old new (Some unjoined.OutOfTurn) =
     IsOutOfTurn span register facts old
 
--- The file joins the earlier files, or the reason is returned why the file does not join them.
+-- The file continues the history of the register in the earlier files, or the reason is returned
+-- why it does not.
 abbrev pub Joins : Span → (register : List ℕ) → (facts : List Fact) → (old new : JoinedFiles)
     → Option Unjoined → Type 0
 Joins span register facts old new None = JoinsFile span register facts old new
@@ -136,14 +139,15 @@ Joins span register facts old new (Some (unjoined.Apart apart)) =
 Joins span register facts old new (Some unjoined.OutOfTurn) =
     IsOutOfTurn span register facts old
 
--- The file does not join the earlier files, for this reason.
+-- The file does not continue the history of the register in the earlier files, for the reason
+-- `why`.
 abbrev pub DoesNotJoin : Span → (register : List ℕ) → (facts : List Fact) → (old : JoinedFiles)
     → Unjoined → Type 0
 DoesNotJoin span register facts old why =
     (new : JoinedFiles) × Joins span register facts old new (Some why)
 
--- If the earlier files join, then the new file joins them too, or the reason is returned why it
--- does not.
+-- If the earlier files join (have one history of the register), then they still do with the new
+-- file, or the reason is returned why not.
 abbrev pub AllJoin : Span → (register : List ℕ) → (facts : List Fact) → (old new : JoinedFiles)
     → Option Unjoined → Type 0
 AllJoin span register facts old new None = (zone : Zone) (files : List (List Fact))

@@ -1,6 +1,5 @@
--- The definition of joining the meters at a register over the files of one office. It says whether
--- a meter of the next file continues an earlier meter, or begins after the earlier meters were
--- closed.
+-- Joining the meters at a register over the files of one office. Each meter of the next file must
+-- continue an earlier meter, or begin after the earlier meters were closed.
 --
 -- Lists have the first installed meter first.
 use Rattle.std.specs.Prelude.{◌≡◌, ◌⊎◌, ◌+◌, ◌-◌, ◌^◌, nat_le, min, Bool, true, false, not, ◌&&◌, List, [], ◌∷◌, ◌++◌, All, Contains, Option, Some, None}
@@ -15,14 +14,14 @@ use Rattle.carried_books.specs.declared.joining.meters.Apart.{Apart}
 
 -- The meter `stands` of an earlier file continues as the meter `row` of a later file.
 --
--- The two meters have the same name, and the state of `stands` equals the opening of `row`. The
--- audit of several files has the same requirement.
+-- The two meters have the same name, and the state of `stands` equals the opening (first entry) of
+-- `row`. The audit of several files has the same requirement.
 pub record GoesOn (stands row : Installation) : Type 0 where
   pub name : row.opening.meter ≡ stands.opening.meter
   pub goes : GoesOnAs (installed stands.opening) stands.last stands.ended (installed row.opening)
 
--- The meter over both files. It has the first opening, the later state, and the energy of both
--- files in mWh, at most 2^64 - 1.
+-- One meter over both files. It has the opening (first entry) of `stands`, the later state of
+-- `row`, and the energy of both files in mWh, at most 2^64 - 1.
 abbrev pub as_one : (stands row : Installation) → Installation
 as_one stands row = record {
   opening = stands.opening;
@@ -40,8 +39,8 @@ is_before stands row =
 
 -- ---- Adding one more meter of a register
 
--- The meter `row` continues the last meter in `known`. In `after`, the meter at this index is the
--- meter over all files.
+-- The meter `row` continues the last meter in `known`. In `after`, both are replaced by one meter
+-- over all files.
 pub record IsOne (known : List Installation) (row : Installation) (after : List Installation) :
     Type 0 where
   pub before : List Installation
@@ -62,7 +61,7 @@ abbrev pub AddsMeter : (known : List Installation) → Installation → (after :
     → Type 0
 AddsMeter known row after = IsOne known row after ⊎ IsNext known row after
 
--- ---- A meter that does not join the earlier meters of a register
+-- ---- A meter that neither continues nor follows the earlier meters of a register
 
 -- The list `known` is not empty, and the meter `row` does not continue its last meter.
 pub record EndsOtherwise (known : List Installation) (row : Installation) : Type 0 where
@@ -75,8 +74,8 @@ pub record EndsOtherwise (known : List Installation) (row : Installation) : Type
 abbrev pub NoneGoesOn : (known : List Installation) → Installation → Type 0
 NoneGoesOn known row = (known ≡ []) ⊎ EndsOtherwise known row
 
--- The meter `row` does not continue the last meter in `known`, and the meter in `apart` does not
--- precede `row`.
+-- The meter `row` does not continue the last meter in `known`. The meter in `apart` was not closed
+-- before `row` began, or has the name of `row`.
 pub record IsApart (known : List Installation) (row : Installation) (apart : Apart) : Type 0 where
   pub begins : apart.begins ≡ row
   pub among : Contains known apart.stands
@@ -84,7 +83,7 @@ pub record IsApart (known : List Installation) (row : Installation) (apart : Apa
   pub other : NoneGoesOn known row
 
 -- The meter `row` is appended to the list `known`, because all meters in the list precede it.
--- Otherwise a meter is returned that does not precede `row`.
+-- Otherwise a meter is returned that was not closed before `row` began, or has its name.
 abbrev pub AddsNext : (known : List Installation) → Installation → (after : List Installation)
     → Option Apart → Type 0
 AddsNext known row after None = IsNext known row after
@@ -92,7 +91,7 @@ AddsNext known row after (Some apart) =
     (apart.begins ≡ row) × Contains known apart.stands × (is_before apart.stands row ≡ false)
 
 -- The meter `row` continues the last meter in `known`, or follows all meters in `known`. Otherwise
--- a meter is returned that `row` does not join.
+-- a meter is returned that `row` neither continues nor follows.
 abbrev pub AddsOrIsApart : (known : List Installation) → Installation
     → (after : List Installation) → Option Apart → Type 0
 AddsOrIsApart known row after None = AddsMeter known row after
@@ -100,12 +99,13 @@ AddsOrIsApart known row after (Some apart) = IsApart known row apart
 
 -- ---- Adding the meters of a file to the earlier meters of a register
 
--- The meters in `listed` join those in `known`, one after another.
+-- Each meter in `listed` continues or follows the meters before it, beginning with those in
+-- `known`.
 abbrev pub AddMeters : (known listed after : List Installation) → Type 0
 AddMeters known listed after = TakesAll AddsMeter known listed after
 
--- After earlier meters in `listed` have joined those in `known`, one of the meters in `listed` does
--- not join.
+-- Some meters in `listed` were added to those in `known`, and then one neither continues nor
+-- follows the meters before it.
 pub record AreApart (known listed : List Installation) (apart : Apart) : Type 0 where
   pub mid : List Installation
   pub begun : TakesFirst AddsMeter known listed mid
@@ -113,7 +113,8 @@ pub record AreApart (known listed : List Installation) (apart : Apart) : Type 0 
   pub among : Contains listed row
   pub is : IsApart mid row apart
 
--- All meters in `listed` join those in `known`, or two meters are returned that don't join.
+-- All meters in `listed` were added to those in `known`, or two meters are returned of which the
+-- later neither continues nor follows the earlier.
 abbrev pub AddOrAreApart : (known listed after : List Installation) → Option Apart → Type 0
 AddOrAreApart known listed after None = AddMeters known listed after
 AddOrAreApart known listed after (Some apart) = AreApart known listed apart

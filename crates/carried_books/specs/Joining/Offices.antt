@@ -1,6 +1,6 @@
--- The definition of a register's days over earlier files and a running office.
+-- A register's days over earlier files and a running office.
 --
--- The energy intervals of the earlier files were added up in order.
+-- The energy intervals of the earlier files were added up before, in order.
 use Rattle.std.specs.Prelude.{◌≡◌, ◌⊎◌, ℕ, List, ◌++◌, map, All, Option, Some, Result, Ok, Err, MatchResult, OnOk}
 use Rattle.std.specs.List.{flat_map}
 use Rattle.std.specs.declared.alloc.Global.{Global}
@@ -36,12 +36,12 @@ use Rattle.carried_books.specs.declared.joining.days.JoinedDays.{JoinedDays}
 
 -- ---- The energy intervals of a running office
 
--- The records have this opening, and a lookup of the meter's name finds it.
+-- The records have this opening (a meter's first entry), and a lookup of the meter's name finds it.
 abbrev pub IsInstalled : List Fact → Opening → Type 0
 IsInstalled facts opening = opening_of facts opening.meter ≡ Some opening
 
--- The energy intervals of the meters with the openings in `openings` were added up over a span, one
--- meter after another; or the store failed.
+-- The energy intervals of the meters with the openings in `openings` were added up over a span of
+-- time, one meter after another; or the store failed.
 abbrev pub TakesMeters : List Fact → List Opening → Span → (before after : Failures)
     → (from to : JoinedDays) → Result (Unit {0}) Refusal → Type 0
 TakesMeters facts openings span before after from to result =
@@ -62,8 +62,8 @@ pub record AsksMeters {B : Type 0} (ledger : B → Ledger) (old new : Office B)
       → TakesMeters (facts_of past) openings span
       (failures_of ledger old) (failures_of ledger new) from to result)
 
--- The energy intervals of the accounting register in a span were added up. Otherwise no register
--- has the name, or the store failed.
+-- The energy intervals of the accounting register in a span of time were added up. Otherwise no
+-- register has the name, or the store failed.
 pub record TakesRegister (facts : List Fact) (register : List ℕ) (span : Span)
     (before after : Failures) (from to : JoinedDays) (result : Result (Unit {0}) Refusal) :
     Type 0 where
@@ -83,8 +83,8 @@ AsksRegister ledger old new register span from to result = After ledger old new 
 
 -- The result is the list of days of the energy intervals in `rows`, or the reason for a refusal.
 --
--- The reasons are: no register has the name, the store or memory failed, the office had stopped, or
--- an interval is out of order.
+-- The reasons are: no register has the name, the store or memory failed, the office had stopped
+-- after a failure, or an interval is out of order.
 abbrev pub ListsOver : Zone → (rows : List Share) → (there : Option (Unit {0}))
     → (before after : Failures) → Result (Vec DayTotal Global) Refusal → Type 0
 ListsOver zone rows there before after (Ok days) =
@@ -111,8 +111,8 @@ ReportsDaysOver ledger old new zone earlier register span result = After ledger 
     (is_there (register_of (facts_of past) register))
     (failures_of ledger old) (failures_of ledger new) result)
 
--- The refusal if memory ran out. It says that no register has the name, the store failed, or the
--- office had stopped; otherwise it is `Memory`.
+-- The refusal if memory for the days ran out. It reports any other failure first: that no register
+-- has the name, the store failed, or the office had stopped. Otherwise it is `Memory`.
 abbrev pub LacksMemory : {B : Type 0} → (B → Ledger) → (old new : Office B)
     → (register : List ℕ) → Refusal → Type 0
 LacksMemory ledger old new register why = After ledger old new (λ past.

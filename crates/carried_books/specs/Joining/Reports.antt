@@ -1,5 +1,4 @@
--- The definition of an accounting register's report over the files of one office, on a range of
--- days.
+-- An accounting register's report over the files of one office, on a range of days.
 use Rattle.std.specs.Prelude.{◌≡◌, ◌↔◌, ℕ, List, [], ◌∷◌, ◌++◌, map, Option, Some}
 use Rattle.std.specs.declared.io.Write as writers
 use Rattle.command_io.specs.declared.status.ExitStatus.{ExitStatus}
@@ -43,8 +42,8 @@ pub record PrintsOver (zone : Zone) (register : List ℕ) (files : List (List Fa
   pub is : IsReportOver zone register files form text
   pub reported : IsReported text Fine status had holds
 
--- The report was printed from the data that were collected from joined files, if their total energy
--- fits in 128 bits.
+-- The report was printed from the data of files that join (have one history of the register), if
+-- their total energy fits in 128 bits.
 abbrev pub ReportsJoined : {W : Type 0} → writers.Ghosts W → JoinedFiles → ReportForm
     → (had holds : W) → ExitStatus → Type 0
 ReportsJoined w joined form had holds status =
@@ -62,8 +61,8 @@ OneFileReportsItsDays = (zone : Zone) (register : List ℕ) (facts : List Fact) 
 
 -- The theorem that a report of a meter's days over two files equals the report over a single file.
 --
--- The meter was rolled over from the first file into the second. The single file has the complete
--- journal of the meter.
+-- The second file continues the meter where the first file ended. The single file has the complete
+-- history of the meter.
 abbrev pub BothFilesTellTheJoinedDays : Type 0
 BothFilesTellTheJoinedDays = (zone : Zone) (old new both : List Share) (accounts : List DayAccount)
     → AreCountedOnce old new both

@@ -1,5 +1,4 @@
--- The definition of the latest meter at an accounting register over earlier files and a running
--- office.
+-- The latest meter at an accounting register over earlier files and a running office.
 --
 -- Lists have the first installed meter first.
 use Rattle.std.specs.Prelude.{◌≡◌, ◌-◌, Bool, not, ◌&&◌, if◌then◌else◌, ℕ, length, List, [], ◌∷◌, Option, Some, None}
@@ -22,22 +21,25 @@ earlier_meters [] register = []
 earlier_meters (one ∷ more) register =
     if same one.name register then one.meters.items else earlier_meters more register
 
--- Whether the office's meter `row` continues the meter `stands`, which the earlier files left open.
+-- Whether the office's meter `row` continues the meter `stands`, which was still open at the end of
+-- the earlier files.
 abbrev pub is_left : (stands row : Installation) → Bool
 is_left stands row = not stands.ended && same row.opening.meter stands.opening.meter
 
--- The latest meter at a register if only earlier files have a meter there.
+-- The latest meter at a register if only earlier files have a meter there. All of its energy is
+-- from these files.
 abbrev pub of_earlier : Installation → LatestMeter
 of_earlier stands = record { meter = stands; earlier = Some stands.total }
 
--- The latest meter at a register if only the office has a meter there.
+-- The latest meter at a register if only the office has a meter there. It has no energy from
+-- earlier files.
 abbrev pub of_office : Installation → LatestMeter
 of_office row = record { meter = row; earlier = None }
 
 -- The latest meter if the office has the meter `row`, and the last meter of the earlier files is
 -- `stands`.
 --
--- If the earlier files left `row` open, it is the meter over all files.
+-- If `row` continues `stands`, it is one meter over all files.
 abbrev pub of_both : (stands row : Installation) → LatestMeter
 of_both stands row =
     if is_left stands row
@@ -62,12 +64,12 @@ abbrev pub latest_meter : (earlier : List Installation) → (row : Option Instal
     → Option LatestMeter
 latest_meter earlier row = latest (last_of earlier) row
 
--- The opening and the state of the latest meter at an accounting register.
+-- The opening (first entry) and the state of the latest meter at an accounting register.
 abbrev pub meter_of : LatestMeter → Installation
 meter_of reported = reported.meter
 
--- The theorem on the latest meter at an accounting register. If the office's meters join those of
--- the earlier files, then the reported meter is the last meter of all files.
+-- The theorem on the latest meter at an accounting register. If the office's meters continue or
+-- follow those of the earlier files, then the reported meter is the last meter of all files.
 abbrev pub LatestIsOfAllFiles : Type 0
 LatestIsOfAllFiles = (register : List ℕ) (facts : List Fact) (earlier all : List Installation)
     → AreLawful facts

@@ -1,7 +1,7 @@
--- The definition of statements of an accounting register's meters over the files of one office, on
--- a range of days.
+-- Statements of an accounting register's meters over the files of one office, on a range of days. A
+-- statement has the numbers against which a bill is checked.
 --
--- A file is given by its records, and lists of files have the latest file first.
+-- A file is represented by its records, and lists of files have the latest file first.
 use Rattle.std.specs.Prelude.{◌≡◌, ◌⊎◌, ℕ, ◌+◌, ◌-◌, ◌^◌, min, Bool, true, false, List, [], ◌∷◌, ◌++◌, map, filter, drop, All, Option, Some, None}
 use Rattle.std.specs.declared.io.Write as writers
 use Rattle.command_io.specs.declared.status.ExitStatus.{ExitStatus}
@@ -40,15 +40,15 @@ use Rattle.carried_books.specs.declared.joining.statements.JoinedStatement.{Join
 
 -- ---- The data of a meter over several files
 
--- The data of a meter over several files. It has the meter's state, its entries in order with
--- voided entries, its energy intervals, and its rejected readings.
+-- The data of a meter over several files: its state, its entries in order (including voided ones),
+-- its energy intervals, and its rejected readings.
 pub record MeterOver : Type 0 where
   pub stands : Installation
   pub entries : List MeterEntry
   pub rows : List Share
   pub holds : List HeldReading
 
--- The data of a meter in one file that lists the meter.
+-- The data of a meter in one of the files that have the meter.
 abbrev pub meter_in : List Fact → Installation → MeterOver
 meter_in facts row = record {
   stands = row;
@@ -59,8 +59,8 @@ meter_in facts row = record {
 
 -- The entries of a meter in one file that no earlier file has.
 --
--- If the meter continues from an earlier file, its opening is left out, since it repeats the last
--- valid entry before the file rollover.
+-- If the meter continues from an earlier file, its opening (first entry) is left out, since it
+-- repeats the last valid entry of that file.
 abbrev pub own_entries : (goes_on : Bool) → List MeterEntry → List MeterEntry
 own_entries true entries = drop 1 entries
 own_entries false entries = entries
@@ -77,8 +77,8 @@ both_of one next = record {
 
 -- ---- Joining the meters at a register over several files
 
--- The meter `next` continues the last meter in `known`. In `after`, the meter at this index is the
--- meter over all files.
+-- The meter `next` continues the last meter in `known`. In `after`, both are replaced by one meter
+-- over all files.
 pub record IsOneOver (known : List MeterOver) (next : MeterOver) (after : List MeterOver) :
     Type 0 where
   pub before : List MeterOver
@@ -87,7 +87,8 @@ pub record IsOneOver (known : List MeterOver) (next : MeterOver) (after : List M
   pub goes : GoesOn one.stands next.stands
   pub after_is : after ≡ before ++ both_of one next ∷ []
 
--- All meters in the list `known` precede the meter `next`, and `next` is appended to this list.
+-- All meters in the list `known` were closed before the meter `next` began, and `next` is appended
+-- to this list.
 pub record IsNextOver (known : List MeterOver) (next : MeterOver) (after : List MeterOver) :
     Type 0 where
   pub earlier : All (λ one. is_before one.stands next.stands ≡ true) known
@@ -105,7 +106,8 @@ parts_over register [] = []
 parts_over register (facts ∷ files) =
     parts_over register files ++ map (meter_in facts) (installations_of facts register)
 
--- The files join at the accounting register, and `meters` are its meters over all files.
+-- The files join at the accounting register (have one history of its meters), and `meters` are its
+-- meters over all files.
 --
 -- A meter that the latest file does not have keeps its data from the earlier files.
 pub record AreMetersOver (register : List ℕ) (files : List (List Fact)) (meters : List MeterOver) :
@@ -127,13 +129,13 @@ statement_over zone range m = record {
   held = held_within zone range m.holds;
 }
 
--- The statements of the meters that were installed in the range. The opening of a meter in its
--- first file is its time of installation.
+-- The statements of the meters that were installed in the range. The time of installation is that
+-- of the meter's first entry in the first file that has the meter.
 abbrev pub statements_over : Zone → DayRange → List MeterOver → List MeterStatement
 statements_over zone range meters =
     map (statement_over zone range) (filter (λ m. was_installed zone range m.stands) meters)
 
--- `text` has the statements of the accounting register's meters over the files.
+-- True if `text` has the statements of the accounting register's meters over the files.
 abbrev pub IsStatementOver : Zone → (register : List ℕ) → (files : List (List Fact))
     → StatementForm → (text : List ℕ) → Type 0
 IsStatementOver zone register files form text = (meters : List MeterOver)
@@ -142,7 +144,8 @@ IsStatementOver zone register files form text = (meters : List MeterOver)
 
 -- ---- The collected data of a meter over several files
 
--- The collected data of a meter: its state, and its statement for the range.
+-- The data of a meter that are collected for its statement: its state over all files, and its
+-- statement for the range.
 abbrev pub kept_of : Zone → DayRange → MeterOver → KeptMeter
 kept_of zone range m = record { stands = m.stands; reported = statement_over zone range m }
 
@@ -163,8 +166,8 @@ abbrev pub rows_of_those : Zone → DayRange → List KeptMeter → List MeterSt
 rows_of_those zone range kept =
     map reported_of (filter (λ one. was_installed zone range one.stands) kept)
 
--- `kept` has the statements of an accounting register's meters over joined files, on the days of
--- the range in the time zone.
+-- True if `kept` has the statements of an accounting register's meters over files that join, on the
+-- days of the range in the time zone.
 pub record HasStated (zone : Zone) (range : DayRange) (register : List ℕ)
     (files : List (List Fact)) (kept : JoinedStatement) : Type 0 where
   pub recorded : kept.is_recorded ≡ is_recorded_in register files
@@ -175,13 +178,14 @@ pub record HasStated (zone : Zone) (range : DayRange) (register : List ℕ)
 
 -- ---- Collecting the data of a register's meters in one more file
 
--- The tally of some entries becomes the tally of these entries and the entries in `entries`.
+-- The tally (first and last entry, corrections) of some entries becomes the tally of these entries
+-- followed by `entries`.
 abbrev pub TalliesOn : Zone → DayRange → List MeterEntry → (old new : EntryTally) → Type 0
 TalliesOn zone range entries old new = (before : List MeterEntry)
     → old ≡ tally_of zone range before → new ≡ tally_of zone range (before ++ entries)
 
--- The statement of a meter in one file. Its tally continues that of the earlier files; its energy
--- and rejected readings are those of this file.
+-- The statement of a meter in one file. Its tally of entries continues that of the earlier files.
+-- Its energy and rejected readings are those of this file alone.
 pub record ReportsPart (zone : Zone) (range : DayRange) (meter : List ℕ) (goes_on : Bool)
     (facts : List Fact) (begun : EntryTally) (reported : MeterStatement) : Type 0 where
   pub meter_is : reported.meter ≡ meter
@@ -215,7 +219,8 @@ with_part kept row part = record {
   };
 }
 
--- If the meters in `listed` of one more file join, then their data are added to the collected data.
+-- If the meters in `listed` of one more file continue or follow the earlier meters, then their data
+-- are added to the collected data.
 abbrev pub ReportsAll : Zone → DayRange → (facts : List Fact) → (listed : List Installation)
     → (old new : List KeptMeter) → Option Apart → Type 0
 ReportsAll zone range facts listed old new None = (meters : List MeterOver)
@@ -224,18 +229,18 @@ ReportsAll zone range facts listed old new None = (meters : List MeterOver)
     × AreReported zone range new after
 ReportsAll zone range facts listed old new (Some apart) = Unit {0}
 
--- The meters of the file were added to the collected meters, or two meters are returned that don't
--- join.
+-- The meters of the file were added to the collected meters, or two meters are returned of which
+-- the later neither continues nor follows the earlier.
 abbrev pub AddsListed : Zone → DayRange → (facts : List Fact) → (listed : List Installation)
     → (old new : List KeptMeter) → Option Apart → Type 0
 AddsListed zone range facts listed old new apart =
     AddOrAreApart (map stands_of old) listed (map stands_of new) apart
     × ReportsAll zone range facts listed old new apart
 
--- The file does not join the earlier files, for a reason that a report over files would also give.
+-- The file does not continue the earlier files, for a reason that a report over files would also
+-- give.
 --
--- The order of energy intervals does not matter in a statement, since energies are added up in any
--- order.
+-- A statement allows energy intervals out of order, since it only needs their sum.
 abbrev pub DoesNotGoOn : (register : List ℕ) → (facts : List Fact) → (old : JoinedStatement)
     → Unjoined → Type 0
 DoesNotGoOn register facts old unjoined.NotRecorded =
@@ -261,8 +266,8 @@ pub record PrintsStatement (zone : Zone) (register : List ℕ) (files : List (Li
   pub is : IsStatementOver zone register files form text
   pub reported : IsReported text Fine status had holds
 
--- The statements were printed from the data that were collected from joined files, for the
--- requested days.
+-- The statements were printed from the data of files that join (have one history of the register),
+-- for the requested days.
 abbrev pub StatesJoined : {W : Type 0} → writers.Ghosts W → JoinedStatement → StatementForm
     → (had holds : W) → ExitStatus → Type 0
 StatesJoined w joined form had holds status =
@@ -281,15 +286,16 @@ OneFileStatesItsMeters = (zone : Zone) (range : DayRange) (register : List ℕ) 
     → statements_over zone range meters
     ≡ statements_of zone range facts (installations_of facts register)
 
--- ---- The theorem on the statement of a meter that is rolled over
+-- ---- The theorem on the statement of a meter that continues in a second file
 
--- A meter entry with its index in a single file, in which `count` entries of the old file come
--- first.
+-- A meter entry with its index in a single file that has the entries of two files. There `count`
+-- entries of the old file come before it.
 abbrev pub moved_entry : (count : ℕ) → MeterEntry → MeterEntry
 moved_entry count (entry.Opening last) = entry.Opening last
 moved_entry count (entry.Later row sf) = entry.Later (moved_row count row) sf
 
--- `both` is the meter in one file that has the journals of the old and the new file.
+-- True if `both` is the meter in one file that has the history of the meter from the old and the
+-- new file.
 --
 -- The new entries follow the old ones, each quarter hour has the energy of both files, and the new
 -- rejected readings follow the old ones.
@@ -303,8 +309,8 @@ pub record HaveOneJournal (old new both : MeterOver) : Type 0 where
 
 -- The theorem that the statement of a meter over two files equals the statement over a single file.
 --
--- The meter was rolled over from the first file into the second. The single file has the meter's
--- journals of both files.
+-- The second file continues the meter where the first file ended. The single file has the meter's
+-- history of both files.
 abbrev pub BothFilesStateTheJoinedMeter : Type 0
 BothFilesStateTheJoinedMeter = (zone : Zone) (range : DayRange) (old new both : MeterOver)
     → HaveOneJournal old new both

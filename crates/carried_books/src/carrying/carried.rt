@@ -1,4 +1,4 @@
-//! Rolls an office over into a new file.
+//! File rollover: begins a new database file in which an office's meters continue.
 ghost use Rattle.carried_books.specs.Carrying.Carried.{Carries, Follows, OnlyAsked};
 ghost use Rattle.carried_books.specs.Carrying.Feeding.{Passes};
 
@@ -10,8 +10,8 @@ use office_core::Office;
 use office_events::Refusal;
 use std::alloc::Global;
 
-// Feeds the commands of a file rollover plan to a new office. Returns the number of installed
-// meters, or the reason why the plan could not be followed.
+// Feeds the commands of a file rollover to a new office. Returns the number of installed meters, or
+// the reason why the plan could not be followed.
 fn follow<N: Books>(office: &mut Office<N>, plan: Plan) -> Result<u64, CarryFault>
     ensures follows { Follows N.ledger plan office.old office.new result }
     ensures passes { Passes N.ledger office.old office.new }
@@ -29,9 +29,9 @@ fn follow<N: Books>(office: &mut Office<N>, plan: Plan) -> Result<u64, CarryFaul
 /// meters.
 ///
 /// The new office gets the devices, point lists and accounting registers of the old office. Each
-/// open meter is opened at its last valid entry, up to timestamp `until` if it is given. The meters
-/// come in the order of these entries. The old store is only queried, before the new office is
-/// given any command.
+/// open meter continues from its last valid (not voided) entry, up to timestamp `until` if it is
+/// given. The meters come in the order of these entries. The old store is only queried, before the
+/// new office is given any command.
 pub fn carry_books<O: Books, N: Books>(
     alloc: Global,
     old: &mut O,

@@ -1,4 +1,5 @@
-//! The commands of a file rollover, which set up a new office with the contents of an old one.
+//! The commands of a file rollover. They set up a new office (a new database file) with the
+//! devices, registers and open meters of an old one.
 ghost use Rattle.std.specs.Prelude.{◌≡◌, ◌++◌, ◌∷◌, [], map, OnOk};
 ghost use Rattle.office_books.specs.Ledgers.{Consults, Finds};
 ghost use Rattle.carried_books.specs.Carrying.Adding.{Adds};
@@ -11,7 +12,7 @@ use office_events::{
 };
 use std::alloc::{AllocError, Global};
 
-/// A command with its timestamp, in seconds since 1970-01-01 UTC.
+/// A command with the timestamp at which a new office executes it, in seconds since 1970-01-01 UTC.
 #[derive(Drop)]
 pub struct TimedCommand {
     pub at: u64,
@@ -174,7 +175,8 @@ fn set_up_devices<B: Books>(
 
 // ---- Commands that install meters in the new office
 
-// Adds one command for each opening in `openings`, which installs a meter with this opening.
+// Adds one command for each opening in `openings`. The command installs a meter, with this opening
+// as its first entry.
 fn add_installs(added: &mut Vec<TimedCommand>, openings: &[Opening]) -> Result<(), AllocError>
     ensures { OnOk result
         (added.new.items ≡ added.old.items ++ map commands.install openings.now) }
@@ -185,8 +187,8 @@ fn add_installs(added: &mut Vec<TimedCommand>, openings: &[Opening]) -> Result<(
     Ok(())
 }
 
-// Returns the timestamp at which devices are set up: the timestamp of the first opening, or the
-// latest recorded timestamp if there are no openings.
+// Returns the timestamp at which the new file sets up its devices: that of the first meter's
+// opening, or the latest recorded timestamp if no meter is installed.
 fn first_moment<B: Books>(books: &mut B, openings: &[Opening]) -> Result<u64, BooksFault>
     ensures found { Finds (B.ledger books.old) (B.ledger books.new) result
         (λ known at. at ≡ commands.first_moment known openings.now) }
@@ -198,8 +200,8 @@ fn first_moment<B: Books>(books: &mut B, openings: &[Opening]) -> Result<u64, Bo
     }
 }
 
-/// Returns the commands that set up the devices in `devices` with the point lists and registers
-/// that the store has for them. The commands then install a meter for each opening in `openings`.
+/// Returns the commands that set up the devices in `devices`, with the point lists and registers
+/// that the store has for them. The last commands install a meter for each opening in `openings`.
 pub fn commands_for<B: Books>(
     alloc: Global,
     books: &mut B,

@@ -1,4 +1,5 @@
-//! Finds the open meters of an old office, and their openings in the new office.
+//! Finds the open meters of an old office, and the openings (first entries) with which they
+//! continue in the new office.
 ghost use Rattle.std.specs.Prelude.{◌≡◌, ◌≤◌, ◌∷◌, [], IfOk};
 ghost use Rattle.std.specs.List.{AllPairs};
 ghost use Rattle.std.specs.List.Sorted.{IsPermutation};
@@ -14,11 +15,12 @@ use office_books::{Books, BooksFault};
 use office_events::{Device, Installation, Name, Opening, Register};
 use std::alloc::{AllocError, Global};
 
-/// The openings of all open meters, or the name of a meter that has no valid entry to open it at.
+/// The openings (first entries) of all open meters, or the name of a meter that has no valid entry
+/// to continue from.
 #[derive(Drop)]
 pub enum Openings {
     All(Vec<Opening>),
-    /// The meter with this name has no valid entry up to the requested timestamp.
+    /// The meter with this name has no valid (not voided) entry up to the requested timestamp.
     NotYet(Name),
 }
 
@@ -105,8 +107,8 @@ pub fn open_meters<B: Books>(
     Ok(rows)
 }
 
-// Returns the opening of a meter in the new office: the old `opening`, with the counter in the
-// state `last`.
+// Returns the opening (first entry) of a meter in the new office: the old `opening`, with the
+// counter in the state `last`.
 fn opened_at(opening: &Opening, last: Last) -> Opening
     ensures { result ≡ openings.opened_at opening.now last }
 {
@@ -118,8 +120,9 @@ fn opened_at(opening: &Opening, last: Last) -> Opening
     }
 }
 
-/// Returns the openings of the meters in `rows` in the new office, each at the meter's last valid
-/// entry up to `until`. If a meter has no such entry, returns the meter's name.
+/// Returns the openings (first entries) of the meters in `rows` in the new office, each at the
+/// meter's last valid (not voided) entry up to `until`. If a meter has no such entry, returns the
+/// meter's name.
 pub fn openings_of<B: Books>(
     alloc: Global,
     books: &mut B,
@@ -140,7 +143,8 @@ pub fn openings_of<B: Books>(
     Ok(Openings::All(opened))
 }
 
-/// Returns the openings in `opened` in the order of their timestamps.
+/// Returns the openings in `opened` in the order of their timestamps. An office refuses a command
+/// whose timestamp is before that of an earlier command.
 pub fn in_order(opened: Vec<Opening>) -> Result<Vec<Opening>, AllocError>
     ensures same { IfOk result (λ v. IsPermutation opened.items v.items) }
     ensures ordered { IfOk result (λ v. AllPairs (λ (a b : Opened). a.at ≤ b.at) v.items) }

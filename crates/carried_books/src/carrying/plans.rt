@@ -1,4 +1,5 @@
-//! Plans a file rollover: queries the old store before the new office gets any command.
+//! Plans a file rollover: queries the old store for all commands before the new office gets the
+//! first one.
 ghost use Rattle.office_books.specs.Ledgers.{Consults, Finds};
 ghost use Rattle.carried_books.specs.Carrying.Plans as plans;
 
@@ -11,19 +12,19 @@ use std::alloc::Global;
 /// The plan of a file rollover.
 ///
 /// The plan has the commands for the new office and the number of meters that they install. Or it
-/// names a meter that can't be rolled over yet.
+/// names a meter that has no valid entry to continue from.
 #[derive(Drop)]
 pub enum Plan {
     Ready {
         commands: Vec<TimedCommand>,
         meters: u64,
     },
-    /// The open meter with this name has no valid entry up to the requested timestamp.
+    /// The open meter with this name has no valid (not voided) entry up to the requested timestamp.
     NotYet(Name),
 }
 
-// Returns the plan that sets up the devices in `devices` and installs a meter for each opening in
-// `opened`.
+// Returns the plan that sets up the devices in `devices` and installs a meter for each opening
+// (first entry) in `opened`.
 fn plan_for<B: Books>(
     alloc: Global,
     books: &mut B,

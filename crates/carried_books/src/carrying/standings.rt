@@ -1,4 +1,5 @@
-//! Finds the state of a meter's counter at its last valid entry up to a timestamp.
+//! Finds the state of a meter's counter at its last valid (not voided) entry up to a timestamp. A
+//! new file continues the meter from this state.
 ghost use Rattle.std.specs.Prelude.{◌≡◌, ◌++◌, ◌∷◌, [], List};
 ghost use Rattle.office_books.specs.Entries.{all_entries};
 ghost use Rattle.office_books.specs.Ledgers.{Consults, Finds};
@@ -9,8 +10,8 @@ use energy_core::{Entry, Last};
 use office_books::{Books, BooksFault, MeterEntry};
 use office_events::Name;
 
-// The number of entries in one query. `MOST_PIECES` is the largest number of queries, since the
-// index of an entry has 64 bits.
+// The number of entries in one query. `MOST_PIECES` is the largest number of queries whose entry
+// indexes all fit in 64 bits.
 const PIECE: u32 = 65536;
 
 const MOST_PIECES: u64 = 281_474_976_710_655;
@@ -85,8 +86,8 @@ fn last_after(found: Option<Last>, until: Option<u64>, entries: &[MeterEntry]) -
     last
 }
 
-// Returns the state of a meter's counter at its last valid entry up to `until`; `None` if the meter
-// has no such entry. The entries are queried in chunks.
+// Returns the state of a meter's counter at its last valid (not voided) entry up to `until`; `None`
+// if the meter has no such entry. The entries are queried in chunks.
 fn last_in_pieces<B: Books>(
     books: &mut B,
     meter: &Name,
@@ -107,8 +108,8 @@ fn last_in_pieces<B: Books>(
     Err(BooksFault::Memory)
 }
 
-/// Returns the state of a meter's counter at its last valid entry up to `until`; `None` if the
-/// meter has no such entry.
+/// Returns the state of a meter's counter at its last valid (not voided) entry up to `until`;
+/// `None` if the meter has no such entry.
 pub fn last_until<B: Books>(
     books: &mut B,
     meter: &Name,

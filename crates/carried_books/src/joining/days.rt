@@ -9,8 +9,9 @@ use std::alloc::{AllocError, Global};
 
 /// Adds up energy intervals by civil day, as they arrive.
 ///
-/// An interval that starts before an earlier one, or after the last timestamp, is out of order,
-/// which is a fault. After a fault, or after memory ran out, all further intervals are dropped.
+/// An interval that starts before an earlier one, or after the largest supported timestamp, is out
+/// of order, which is a fault. After a fault, or after memory ran out, all further intervals are
+/// dropped.
 #[derive(Drop)]
 pub struct JoinedDays {
     zone: Zone,
@@ -70,8 +71,8 @@ impl JoinedDays {
         self.fault
     }
 
-    /// Returns the civil days with their energy, in order, or the first failure. If an interval was
-    /// out of order, the refusal is that of a row without a civil day.
+    /// Returns the civil days with their energy, in order, or the first failure. An interval out of
+    /// order has the same refusal as an interval without a civil day.
     pub(crate) fn into_days(self) -> Result<Vec<DayTotal>, Refusal>
         ensures { EndsAs self.fault self.fold.accounts result }
     {
@@ -92,8 +93,8 @@ impl JoinedDays {
 
 /// The sum of energy intervals of earlier files by civil day, without the time zone of the days.
 ///
-/// The time zone is left out because a proof rule does not cover a call over a file's store that
-/// borrows a value with a time zone.
+/// The time zone is left out because of a limit of the proof system. It has no rule for a call over
+/// a file's store that borrows a value with a time zone.
 #[derive(Drop)]
 pub struct EarlierDays {
     fold: DayFold,

@@ -18,8 +18,8 @@ use std::alloc::{AllocError, Global};
 
 /// An accounting register in earlier files: its meters and its energy by day.
 ///
-/// The meters are in the order of installation. Each meter has its first opening, its latest state
-/// and its energy in all of these files.
+/// The meters are in the order of installation. Each meter has its first entry (opening), its
+/// latest state and its energy over all of these files.
 #[derive(Drop)]
 pub struct EarlierRegister {
     pub name: Name,
@@ -48,8 +48,8 @@ fn earlier_of(kept: KeptRegister) -> EarlierRegister
     }
 }
 
-/// Adds the register's data in the next file, and returns the reason if the file does not join the
-/// earlier files.
+/// Adds the register's data in the next file, and returns the reason if the file does not continue
+/// the earlier files.
 ///
 /// The store of the next file is only queried.
 pub fn add_next_file<B: Books>(
@@ -66,8 +66,8 @@ pub fn add_next_file<B: Books>(
     add_books(&mut kept.files, books, &name, Span::All)
 }
 
-// Compares the meters of a store at an accounting register with the register's meters in the
-// earlier files.
+// Compares the meters of a store at an accounting register with those of the earlier files: each
+// must continue or follow the earlier meters.
 fn hold_meters<B: Books>(kept: &KeptRegister, books: &mut B) -> Result<Option<Unjoined>, BooksFault>
     ensures holds { (known : List Fact) → (B.ledger books.old).holds known
         → (B.ledger books.new).is_clean
@@ -88,10 +88,11 @@ fn hold_meters<B: Books>(kept: &KeptRegister, books: &mut B) -> Result<Option<Un
 }
 
 /// Compares the file of a running office with the earlier files, and returns the reason if it does
-/// not join them.
+/// not continue them.
 ///
-/// The function checks that the register is recorded, and that its meters join. The collected data
-/// stay those of the earlier files. The store of the office is only queried.
+/// The function checks that the register is recorded, and that its meters continue or follow the
+/// earlier ones. The collected data stay those of the earlier files. The store of the office is
+/// only queried.
 pub fn compare_file<B: Books>(
     kept: &KeptRegister,
     books: &mut B,
@@ -154,7 +155,7 @@ fn add_all<B: Books>(
 }
 
 // Compares the store with each collected register, and returns the first reason why the store does
-// not join.
+// not continue the earlier files.
 fn compare_all<B: Books>(
     kept: &[KeptRegister],
     books: &mut B,
@@ -350,8 +351,8 @@ pub struct ComparedRegisters {
     pub kept: KeptRegisters,
 }
 
-/// Compares a file with all accounting registers, whichever register and range were requested, and
-/// collects no data of the file.
+/// Compares a file with all accounting registers, whichever register and range were requested.
+/// Collects no data of the file.
 impl Keeping for ComparedRegisters {
     ghost use Rattle.std.specs.Prelude.{◌≡◌};
 

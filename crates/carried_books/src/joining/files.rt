@@ -1,4 +1,5 @@
-//! Joins the files of one office at an accounting register, the oldest file first.
+//! Joins the files of one office at an accounting register, the oldest file first. Files join if
+//! together they have one history of the register's meters.
 ghost use Rattle.std.specs.Prelude.{◌≡◌, ℕ, List, [], IfOk};
 ghost use Rattle.office_events.specs.declared.facts.Fact.{Fact};
 ghost use Rattle.office_rules.specs.Intervals.{rows_of_register};
@@ -17,7 +18,7 @@ use office_books::{Books, BooksFault, Span};
 use office_events::{Installation, Name};
 use std::alloc::Global;
 
-/// The reason why a file does not join the earlier files of its office.
+/// The reason why a file does not continue the earlier files of its office.
 #[derive(Clone, Copy, Debug, PartialEq, Eq)]
 pub enum Unjoined {
     /// The file does not record the accounting register, though an earlier file does.
@@ -25,7 +26,8 @@ pub enum Unjoined {
     /// A meter of the file at the accounting register neither continues an earlier meter nor begins
     /// after the earlier meters were closed.
     Apart(Apart),
-    /// An energy interval of the file starts before an earlier interval.
+    /// An energy interval of the file starts before an earlier interval, or after the largest
+    /// supported timestamp.
     OutOfTurn,
 }
 
@@ -62,8 +64,8 @@ pub(crate) fn is_recorded<B: Books>(books: &mut B, register: &Name) -> Result<bo
     }
 }
 
-/// Adds the meters of a store at an accounting register, and returns two meters that don't join, if
-/// any.
+/// Adds the meters of a store at an accounting register. Returns two meters of which the later
+/// neither continues nor follows the earlier, if any.
 pub(crate) fn join_meters<B: Books>(
     meters: &mut Vec<Installation>,
     books: &mut B,
@@ -84,8 +86,8 @@ pub(crate) fn join_meters<B: Books>(
     }
 }
 
-// Adds the energy intervals of an accounting register in a span of time, and returns the reason if
-// they are out of order.
+// Adds the energy intervals of an accounting register in a span of time. Returns the reason if one
+// is out of order: it starts before an earlier one, or after the largest supported timestamp.
 fn join_days<B: Books>(
     days: &mut JoinedDays,
     books: &mut B,
@@ -109,7 +111,7 @@ fn join_days<B: Books>(
 }
 
 // Adds the meters and the energy intervals of an accounting register in a file. Returns the reason
-// if they don't join the meters and intervals of the earlier files.
+// if they don't continue those of the earlier files.
 fn add_rows<B: Books>(
     joined: &mut JoinedFiles,
     books: &mut B,
@@ -130,8 +132,8 @@ fn add_rows<B: Books>(
     }
 }
 
-// Adds an accounting register of the next file, and returns the reason if the file does not join
-// the earlier files.
+// Adds an accounting register of the next file, and returns the reason if the file does not
+// continue the earlier files.
 fn add_file<B: Books>(
     joined: &mut JoinedFiles,
     books: &mut B,
@@ -158,7 +160,7 @@ fn add_file<B: Books>(
 /// Adds the register's data in the next file: its meters, and its quarter-hour energies in a span
 /// of time.
 ///
-/// Returns the reason if the next file does not join the earlier files.
+/// Returns the reason if the next file does not continue the earlier files.
 /// The store of the next file is only queried.
 pub fn add_books<B: Books>(
     joined: &mut JoinedFiles,

@@ -9,8 +9,9 @@ use std::alloc::Global;
 
 /// A collector of the data of several files, to report a register on the days of a range.
 ///
-/// Code that connects to a file is proved for every implementation of this trait. This is needed
-/// because no proof rule covers a call over the file's store that names the collected value.
+/// Code that opens a file is proved for every implementation of this trait. The reason is a limit
+/// of the proof system: it has no rule for a call over the file's store that names the collected
+/// value.
 pub trait Keeping: Drop {
     ghost use Rattle.std.specs.Prelude.{ℕ, List, [], IfOk};
     ghost use Rattle.interval_core.specs.declared.zone.Zone.{Zone};
@@ -23,7 +24,7 @@ pub trait Keeping: Drop {
     /// True if the value has the data of the files in a list, by civil days of a time zone. The
     /// list has the latest file first.
     ghost keeps: { Zone → DayRange → List ℕ → List (List Fact) → Self → Type 0 };
-    /// True if a file with the given records does not join the collected files, for the given
+    /// True if a file with the given records does not continue the collected files, for the given
     /// reason.
     ghost parts: { DayRange → List ℕ → List Fact → Self → Why → Type 0 };
 
@@ -31,8 +32,8 @@ pub trait Keeping: Drop {
     fn none(alloc: Global, zone: Zone, range: DayRange) -> Self
         ensures { (register : List ℕ) → keeps zone range register [] result };
 
-    /// Adds the register's data in the next file, and returns the reason if the file does not join
-    /// the earlier files.
+    /// Adds the register's data in the next file, and returns the reason if the file does not
+    /// continue the earlier files.
     ///
     /// The store of the next file is only queried.
     fn add<B: Books>(

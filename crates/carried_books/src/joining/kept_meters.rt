@@ -1,4 +1,5 @@
-//! The data of a meter that are collected over several files, for its statement.
+//! The data of a meter that are collected over several files, for its statement (the numbers
+//! against which a bill is checked).
 ghost use Rattle.std.specs.Prelude.{◌≡◌, ◌≤◌, if◌then◌else◌};
 ghost use Rattle.office_books.specs.Entries.{all_entries};
 ghost use Rattle.office_books.specs.Holds.{holds_of};
@@ -23,14 +24,14 @@ pub struct KeptMeter {
     pub reported: MeterStatement,
 }
 
-// The number of entries in one query. `MOST_PIECES` is the largest number of queries, since entry
-// indexes have 64 bits.
+// The number of entries in one query. `MOST_PIECES` is the largest number of queries whose entry
+// indexes all fit in 64 bits.
 const PIECE: u32 = 65536;
 
 const MOST_PIECES: u64 = 281_474_976_710_655;
 
-// Returns the index of a meter's first entry that no earlier file has. The index is 2 if the meter
-// continues from an earlier file, otherwise 1.
+// Returns the index of a meter's first entry that no earlier file has. If the meter continues from
+// an earlier file, its entry 1 repeats the last entry there, so the index is 2.
 fn first_place(goes_on: bool) -> u64
     ensures place { result ≡ if goes_on then 2 else 1 }
     ensures few { result ≤ 2 }
@@ -38,8 +39,8 @@ fn first_place(goes_on: bool) -> u64
     if goes_on { 2 } else { 1 }
 }
 
-// Returns the tally of a meter's entries in the earlier files and in this store. The entries of
-// this store are queried in chunks.
+// Returns the tally (first and last entry, corrections) of a meter's entries in the earlier files
+// and in this store. The entries of this store are queried in chunks.
 fn tally_on<B: Books>(
     books: &mut B,
     begun: EntryTally,

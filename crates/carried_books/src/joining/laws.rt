@@ -1,4 +1,4 @@
-//! Theorems on reports, statements and sites over several files.
+//! Theorems on reports and statements over several files, and on the latest meter of a register.
 //!
 //! The contract of each function states a theorem. The body of the function is empty or calls other
 //! theorems.
@@ -17,8 +17,8 @@ pub fn days_of_one_file_are_its_own()
 
 /// Proves that a report of a meter's days over two files equals the report over a single file.
 ///
-/// The meter was rolled over from the first file into the second. The single file has the complete
-/// journal of the meter.
+/// The second file continues the meter where the first file ended. The single file has the complete
+/// history of the meter.
 pub fn joined_days_agree_with_both_files()
     ensures { BothFilesTellTheJoinedDays }
 {}
@@ -33,8 +33,8 @@ pub fn one_file_states_its_meters()
 
 /// Proves that the statement of a meter over two files equals the statement over a single file.
 ///
-/// The meter was rolled over from the first file into the second. The single file has the meter's
-/// journals of both files.
+/// The second file continues the meter where the first file ended. The single file has the meter's
+/// history of both files.
 pub fn both_files_state_the_joined_meter()
     ensures { BothFilesStateTheJoinedMeter }
 {}
@@ -42,8 +42,8 @@ pub fn both_files_state_the_joined_meter()
 /// Proves that the latest meter that is reported for an accounting register is the register's last
 /// meter in all files.
 ///
-/// The meters of the latest file must join those of the earlier files, and an office must have
-/// written the latest file.
+/// The meters of the latest file must continue or follow those of the earlier files, and an office
+/// must have written the latest file.
 pub fn latest_is_of_all_files()
     ensures { LatestIsOfAllFiles }
 {

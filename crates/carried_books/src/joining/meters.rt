@@ -10,8 +10,8 @@ use office_books::installed;
 use office_events::Installation;
 use std::alloc::AllocError;
 
-/// Two meters at a register that don't join, an earlier meter and a later meter. The later meter
-/// neither continues the earlier meter nor begins after the earlier meter was closed.
+/// Two meters at a register, an earlier one and a later one. The later meter neither continues the
+/// earlier meter nor begins after the earlier meter was closed.
 #[derive(Clone, Copy, Debug, PartialEq, Eq)]
 pub struct Apart {
     pub stands: Installation,
@@ -56,8 +56,8 @@ pub(crate) fn goes_on(stands: &Installation, row: &Installation) -> bool
     )
 }
 
-/// Returns the meter over both files: with the first opening of `stands`, the later state of `row`,
-/// and the energy in both files.
+/// Returns one meter over both files: with the opening (first entry) of `stands`, the later state
+/// of `row`, and the energy in both files.
 pub(crate) fn as_one(stands: &Installation, row: &Installation) -> Installation
     ensures { result ≡ meters.as_one stands.now row.now }
 {
@@ -108,8 +108,8 @@ fn add_next(known: &mut Vec<Installation>, row: &Installation) -> Result<Option<
     }
 }
 
-// Adds the meter `row` to `known`: `row` continues the last meter or follows all meters. Returns
-// two meters if they don't join.
+// Adds the meter `row` to `known`: `row` continues the last meter or follows all meters. If `row`
+// does neither, returns `row` and a meter that it does not follow.
 fn add_meter(known: &mut Vec<Installation>, row: &Installation) -> Result<Option<Apart>, AllocError>
     ensures { IfOk result (AddsOrIsApart known.old.items row.now known.new.items) }
 {
@@ -124,8 +124,8 @@ fn add_meter(known: &mut Vec<Installation>, row: &Installation) -> Result<Option
     add_next(known, row)
 }
 
-/// Adds the meters in `listed`, of one file, to the earlier files' meters in `known`. Returns the
-/// first two meters that don't join, if any.
+/// Adds the meters in `listed`, of one file, to the earlier files' meters in `known`. If one of
+/// them neither continues nor follows the earlier meters, returns it and an earlier meter.
 ///
 /// The meters of the file are in the order of installation.
 pub fn add_meters(

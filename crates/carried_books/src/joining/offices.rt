@@ -51,7 +51,7 @@ fn add_register<B: Books>(
 }
 
 // Returns the refusal if memory for the days runs out: the refusal of a query for the register, or
-// `Memory` if the register exists.
+// `Memory` if this query succeeds.
 fn without_memory<B: Books>(office: &mut Office<B>, register: &Name) -> Refusal
     ensures lacks { LacksMemory B.ledger office.old office.new register.now result }
     ensures asks { OnlyAsks {T = Vec DayTotal Global} B.ledger office.old office.new (Err result) }
@@ -64,10 +64,10 @@ fn without_memory<B: Books>(office: &mut Office<B>, register: &Name) -> Refusal
 
 /// Returns the days of a register over earlier files and a running office, with energy in mWh.
 ///
-/// The days have the energy of the earlier files and of the office's quarter hours in a span, by
-/// the civil days of a time zone. The zone must be that of the earlier days. The office is only
-/// queried. If a quarter hour starts before an earlier one, the refusal is that of a row without a
-/// civil day.
+/// The days have the energy of the earlier files and of the office's quarter hours in a span of
+/// time, by the civil days of a time zone. The zone must be that of the earlier days. The office is
+/// only queried. A quarter hour that starts before an earlier one has the same refusal as one
+/// without a civil day.
 pub fn days_over<B: Books>(
     office: &mut Office<B>,
     zone: Zone,

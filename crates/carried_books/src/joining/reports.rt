@@ -45,10 +45,10 @@ pub fn report_days<W: Write>(days: &[DayTotal], form: &ReportForm, output: &mut 
     finish(&mut rows)
 }
 
-/// Prints the energy of an accounting register over joined files, on the days of a range, by
+/// Prints the energy of an accounting register over files that join, on the days of a range, by
 /// period, in the form's unit and format.
 ///
-/// The files must have been joined with the quarter hours around the days of the range.
+/// The collected data must include the quarter hours around the days of the range.
 pub fn report_joined<W: Write>(joined: JoinedFiles, form: &ReportForm, output: &mut W) -> ExitStatus
     ensures { ReportsJoined W.Write joined form.now output.old output.new result }
 {

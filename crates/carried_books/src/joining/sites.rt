@@ -6,8 +6,8 @@ use crate::joining::earlier::EarlierRegister;
 use crate::joining::meters::{as_one, both};
 use office_events::{Installation, Name};
 
-/// A meter over all files, with its energy in the earlier files, in mWh, if the earlier files have
-/// the meter.
+/// A meter over all files. `earlier` is its energy in the earlier files, in mWh, if these files
+/// have the meter.
 #[derive(Clone, Copy, Debug, PartialEq, Eq)]
 pub struct LatestMeter {
     pub meter: Installation,
@@ -29,8 +29,8 @@ pub fn earlier_meters<'a>(earlier: &'a [EarlierRegister], register: &Name) -> &'
     &[]
 }
 
-// Returns whether the office's meter `row` continues the meter `stands`, which the earlier files
-// left open.
+// Returns whether the office's meter `row` continues the meter `stands`, which was still open at
+// the end of the earlier files.
 fn is_left(stands: &Installation, row: &Installation) -> bool
     ensures { result ≡ sites.is_left stands.now row.now }
 {
@@ -89,8 +89,9 @@ fn latest(stands: &Option<Installation>, row: &Option<Installation>) -> Option<L
 /// Returns the latest meter at a register, from its meters in earlier files and its latest meter in
 /// the office.
 ///
-/// If the files left the office's meter open, the result is the meter over all files, with their
-/// energy. If the office has no meter at the register, the result is the last meter of the files.
+/// If the office's meter continues the last meter of the files, the result is one meter over all
+/// files, with the energy of all files. If the office has no meter at the register, the result is
+/// the last meter of the files.
 pub fn latest_meter(earlier: &[Installation], row: &Option<Installation>) -> Option<LatestMeter>
     ensures { result ≡ sites.latest_meter earlier.now row.now }
 {

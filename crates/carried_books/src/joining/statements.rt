@@ -110,8 +110,8 @@ fn add_row<B: Books>(
     add_next(known, books, zone, range, row)
 }
 
-// Adds the meters of a file in the order of installation. Returns the first two meters that don't
-// join, if any.
+// Adds the meters of a file in the order of installation. If one of them neither continues nor
+// follows the earlier meters, returns it and an earlier meter.
 fn add_listed<B: Books>(
     known: &mut Vec<KeptMeter>,
     books: &mut B,
@@ -231,10 +231,10 @@ fn print_rows<W: Write>(form: &StatementForm, rows: &[MeterStatement], output: &
     }
 }
 
-/// Prints the statements of a register's meters over joined files, on the days of a range.
+/// Prints the statements of a register's meters over files that join, on the days of a range.
 ///
 /// The meters are those that were installed in the range, in the order of installation, with their
-/// data from all files. The range must be that with which the files were joined. On `Err` memory
+/// data from all files. The range must be that for which the data were collected. On `Err` memory
 /// ran out, and nothing is printed.
 pub fn state_joined<W: Write>(
     alloc: Global,

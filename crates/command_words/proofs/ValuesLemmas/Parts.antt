@@ -9,7 +9,7 @@ use Rattle.command_words.specs.Values.Devices.{are_distinct, device_in, name_in,
 use Rattle.command_words.specs.Values.Given.{each_of, given}
 use Rattle.command_words.specs.declared.values.devices.Device.{Device}
 
--- ---- the results for all items of a list, from the results for all items but the last
+-- ---- extending the results for a list by the result for one more item
 
 abbrev with_last : {B : Type 0} → Option (List B) → Option B → Option (List B)
 with_last values value = given values (λ vs. given value (λ v. Some (vs ++ v ∷ [])))
@@ -40,7 +40,7 @@ each_none f [] i d within none = absurd (omega (arith, within))
 each_none f (x ∷ xs) zero d within none = ap (λ o. with_first o (each_of f xs)) none
 each_none f (x ∷ xs) (suc i) d within none = nothing_first (f x) (each_of f xs) (each_none f xs i d (omega (arith, within)) none)
 
--- ---- the devices in the first parts of a device list
+-- ---- the devices in the first parts of a device list, which a loop parses one by one
 
 pub devices_more : (parts : List (Bor Text)) (i : ℕ) (d : Bor Text) (old new : List Device) (device : Device) → i < length parts
     → Some (map place_of old) ≡ each_of device_in (texts (take i parts)) → Some (place_of device) ≡ device_in (get_or parts i d).now → new ≡ old ++ device ∷ []

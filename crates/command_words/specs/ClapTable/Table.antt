@@ -104,9 +104,9 @@ abbrev pub program_app : ProgramText → App
 program_app p =
     as_program (with_commands (with_commands (new_app p.name.now) p.commands.now) p.later.now)
 
--- ---- the results of parsing arguments with `clap`
+-- ---- results of parsing arguments with `clap`
 
--- The bytes of each argument.
+-- The bytes of each argument, for contracts.
 abbrev pub texts : List (Bor Text) → List Text
 texts words = map (λ word. word.now) words
 
@@ -116,7 +116,6 @@ abbrev pub IsFound : ProgramText → List (Bor Text) → ArgMatches → Type 0
 IsFound program words found =
     subcommand_rows_of found ≡ subcommand_of (program_app program) (texts words)
 
--- States that parsing the arguments fails only with an error that `clap` may report for these
--- arguments.
+-- States that parsing fails only with an error that `clap` may report for the given arguments.
 abbrev pub Fails : {T : Type 0} → ProgramText → List (Bor Text) → Result T Error → Type 0
 Fails program words result = FailsBy (fault_of (program_app program) (texts words)) result

@@ -10,7 +10,7 @@ use Rattle.command_words.specs.declared.values.devices.Device.{Device}
 use Rattle.command_words.specs.declared.values.list_fault.ListFault.{ListFault}
 use Rattle.command_words.specs.declared.values.list_fault.ListFault.TheVariants as fault
 
--- A text in contracts and proofs, as the list of its bytes.
+-- A text in contracts and proofs, as a list of bytes.
 abbrev pub Text : Type 0
 Text = List ℕ
 
@@ -20,11 +20,11 @@ pub record Place : Type 0 where
   pub host : Text
   pub port : ℕ
 
--- Converts an executable `Device`, which the code uses, to its logical model `Place`.
+-- Maps a runtime value of the type `Device` to its logical model `Place`, for contracts.
 abbrev pub place_of : Device → Place
 place_of d = record { name = d.name.now; host = d.host.now; port = d.port }
 
--- Converts a list of parsed devices to their logical models.
+-- Maps a list of parsed devices to their logical models, for contracts.
 abbrev pub places_of : List Device → List Place
 places_of devices = map place_of devices
 
@@ -93,7 +93,7 @@ are_distinct (text ∷ texts) = not (list_any (bytes_eq text) texts) && are_dist
 abbrev pub names_in : List Text → List Text
 names_in parts = map name_in parts
 
--- The bytes of each part of a list.
+-- The bytes of each part of a list, for contracts.
 abbrev pub texts : List (Bor Text) → List Text
 texts parts = map (λ part. part.now) parts
 
@@ -116,13 +116,14 @@ devices_of parts =
 abbrev pub devices_in : Text → Option (List Place)
 devices_in text = devices_of (slice_split is_comma text)
 
--- States that a fault may be reported for a list whose expected devices are `due`. `Memory` (out of
--- memory) may always be reported, and other faults only if `due` is None.
+-- States which faults the parser may report for a list that should have the devices `due`. `Memory`
+-- (out of memory) is always allowed, other faults only if the list is invalid (`due` is None).
 abbrev pub IsFault : ListFault → Option (List Place) → Type 0
 IsFault fault.Memory due = ⊤
 IsFault (fault.Part part why) due = None ≡ due
 
--- States that parsing a list returns the expected devices `due`, or a fault that `IsFault` allows.
+-- States that a function parses a list correctly. It returns the devices `due`, or a fault that
+-- `IsFault` allows.
 abbrev pub Reads : {Z : Type 0} → Option (List Place) → Result (Vec Device Z) ListFault → Type 0
 Reads due result =
     MatchResult result (λ devices. Some (places_of devices.items) ≡ due)

@@ -6,7 +6,7 @@ abbrev pub given : {A B : Type 0} → Option A → (A → Option B) → Option B
 given None rest = None
 given (Some value) rest = rest value
 
--- The results of applying `gives` to each item, or None if `gives` returns None for one of them.
+-- Applies `gives` to each item, and collects the results. None if one of the results is None.
 abbrev pub each_of : {A B : Type 0} → (A → Option B) → List A → Option (List B)
 each_of gives [] = Some []
 each_of gives (item ∷ items) =

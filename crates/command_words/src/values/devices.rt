@@ -79,8 +79,8 @@ fn has_name(parts: &[&str], name: &str) -> bool
     parts.iter().any(|part| name == name_of(part))
 }
 
-// Checks that the device names of all parts are different. If a name occurs twice, the error
-// contains a part with this name.
+// Checks that all device names in a list are different. If a name occurs twice, the error contains
+// a part with this name.
 fn distinct<'a>(parts: &[&'a str]) -> Result<(), ListFault<'a>>
     ensures { is_ok result ≡ have_distinct_names parts.now }
 {

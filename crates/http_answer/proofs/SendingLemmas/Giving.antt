@@ -42,7 +42,8 @@ Sends-buffered base a buffered kept old new all more same is so_far = record {
   whole = λ w. ap (λ t. t ++ more) (so_far.whole (sym same ∙ w)) ∙ sym is;
 }
 
--- After a failed write to the link, the writer drops all further bytes of the response.
+-- If a write to the link has failed, then the writer may drop further bytes. The link still has a
+-- prefix of the response.
 pub Sends-lost : (base a : Option (List ℕ)) (buffered : List ℕ) (old : Bool) (all more : List ℕ) → old ≡ true → Sends base a buffered old all → Sends base a buffered old (all ++ more)
 Sends-lost base a buffered old all more failed so_far = record {
   sent = so_far.sent;
@@ -108,7 +109,8 @@ HasPut-none base given buffered failed same none = record {
   whole = λ _. sym none;
 }
 
--- If a call writes nothing, then it satisfies `OnlyGives`.
+-- If a call changes nothing, then it satisfies `OnlyGives`: the writer has the same link, reads
+-- nothing, and counts no new failure.
 OnlyGives-none : (x : Outgoing) → OnlyGives x x
 OnlyGives-none x = record {
   link = refl;

@@ -1,5 +1,6 @@
--- The command of each route, from the members of its JSON body. `name` is the route's parameter: an
--- accounting register, or for a void a meter. `name` is None if the parameter is no valid name.
+-- The command of each route, from the members of its JSON body. `name` is the route's parameter:
+-- the name of an accounting register, or of a meter if the command voids an entry. `name` is None
+-- if the parameter is no valid name.
 use Rattle.std.specs.Prelude.{ℕ, List, Option, Some, None, Result, Ok, Err, codes}
 use Rattle.serde_json.specs.Data.{Data}
 use Rattle.http_answer.specs.Commands.Json.Tables.{close_members, device_members, exchange_members, fault_of, install_members, manual_members, register_fault, rescale_members, reset_members, void_members}
@@ -89,7 +90,7 @@ close name d = command.Close (record {
   rolls = natural_in (codes "rolls") d;
 })
 
--- The command that voids an entry of a meter.
+-- The command that voids an entry of a meter: the entry was false and no longer counts.
 abbrev pub void : Option (List ℕ) → Data → Command
 void name d = command.Void (record {
   meter = name;

@@ -1,4 +1,5 @@
--- The limits on the faulty rows that a response reports for a point list.
+-- The limits on the faulty rows that a response reports for a point list (the CSV list of a
+-- device's registers).
 use Rattle.std.specs.Prelude.{◌≤◌, List, length, All, Result, Ok, Err}
 use Rattle.office_events.specs.declared.commands.Command.{Command}
 use Rattle.point_list.specs.declared.fault.FaultyRow.{FaultyRow}

@@ -49,15 +49,15 @@ abbrev pub IsBody : Route → Option (List ℕ) → (bytes : List ℕ) → Resul
 IsBody at name bytes given =
     GivesJson at name bytes given ⊎ IsNoJson bytes given ⊎ (given ≡ Err Memory)
 
--- The bytes are a point list as CSV. The command stores the list with its reading plan, which is
--- the fewest reads that cover the list.
+-- The bytes are a point list: CSV rows with the registers to poll. The command stores the list with
+-- its reading plan, which is the fewest Modbus reads that cover the list.
 pub record GivesList (name : Option (List ℕ)) (bytes : List ℕ) (c : Command) : Type 0 where
   pub list : Planned
   pub spelled : SpellsList bytes list.points
   pub planned : IsPlanned list
   pub is : c ≡ PutList (record { device = name; list = list })
 
--- The result of parsing a body that must be a point list as CSV.
+-- The result of parsing a body that must be a point list (CSV rows with the registers to poll).
 abbrev pub IsListBody : Option (List ℕ) → (bytes : List ℕ) → Result Command CommandFault → Type 0
 IsListBody name bytes (Ok c) = GivesList name bytes c
 IsListBody name bytes (Err Malformed) = ⊥

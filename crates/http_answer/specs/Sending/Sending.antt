@@ -1,4 +1,5 @@
--- The progress of a response: how many of its bytes were written to the link.
+-- The progress of a response: how many of its bytes were written to the link, which is the client's
+-- connection.
 use Rattle.std.specs.Prelude.{◌≡◌, ℕ, Bool, true, false, not, ◌&&◌, List, ◌++◌, Option}
 use Rattle.std.specs.Io.KnownBytes.{Appends, Keeps}
 use base.Fml.{GName}
@@ -28,7 +29,7 @@ PutsAfter old new bytes =
     (base : Option (List ℕ)) (all : List ℕ) → Sends base old.given old.buffered old.failed all
     → Sends base new.given new.buffered new.failed (all ++ bytes)
 
--- The writer adds no bytes to the response, but may write buffered bytes to the link.
+-- The writer adds no bytes to the response. It may write bytes from its buffer to the link.
 abbrev pub PutsNothing : Progress → Progress → Type 0
 PutsNothing old new =
     (base : Option (List ℕ)) (all : List ℕ) → Sends base old.given old.buffered old.failed all

@@ -51,7 +51,8 @@ fn json_command(
     }
 }
 
-// Parses a point list (CSV) into the command that stores the list with its reading plan.
+// Parses a point list (CSV rows with the registers to poll) into the command that stores the list.
+// The command includes the reading plan, which is the Modbus reads that cover the list.
 fn put_list(alloc: Global, device: Option<Name>, bytes: &[u8]) -> Result<Command, CommandFault>
     ensures given { IsListBody device bytes.now result }
     ensures few { HasFewRows result }

@@ -93,7 +93,7 @@ pub(crate) fn close(register: Option<Name>, body: &Body) -> Result<Command, Body
     }))
 }
 
-// Parses the command that voids an entry of a meter.
+// Parses the command that voids an entry of a meter: the entry was false and no longer counts.
 pub(crate) fn void(meter: Option<Name>, body: &Body) -> Result<Command, BodyFault>
     ensures { result ≡ command_of route.Void meter (view body.now) }
 {

@@ -5,7 +5,7 @@ use Rattle.std.proofs.lemmas.List.{drop_all}
 use Rattle.http_request.specs.Head.Lines.{ended_lines, head_lines, is_empty_line, text_lines}
 use Rattle.http_request.proofs.HeadLemmas.Scanning.{step_feed, step_text}
 
--- The lines of the request head among the lines not yet scanned. The flag says whether a nonempty
+-- The lines of the request head among the lines not yet scanned. The flag is true if a nonempty
 -- line was already scanned.
 abbrev pub lines_after : Bool → List (List ℕ) → List (List ℕ)
 lines_after true lines = text_lines lines

@@ -6,7 +6,7 @@ use Rattle.std.proofs.lemmas.Bool.{cond-true, cond-false, eq-eqb, ne_eqb}
 use Rattle.std.proofs.lemmas.List.{take_more, drop_more, get_or-drop, drop_all}
 use Rattle.http_request.specs.Head.Lines.{ended_lines, is_empty_line, is_ended}
 
--- The lines not yet scanned hold the end of the request head. The flag says whether a nonempty line
+-- The lines not yet scanned hold the end of the request head. The flag is true if a nonempty line
 -- was already scanned.
 abbrev pub ends_after : Bool → List (List ℕ) → Bool
 ends_after true lines = list_any is_empty_line lines

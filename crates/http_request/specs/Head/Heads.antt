@@ -42,7 +42,7 @@ abbrev pub is_past_limits : List ℕ → Bool
 is_past_limits bytes =
     not (has_head_end (front_of bytes)) || nat_lt 65 (length (lines_of_head (front_of bytes)))
 
--- The spans of the parsed head select from the bytes the method, the target and the headers of `h`.
+-- The spans of the parsed head cover the method, the target and the headers of `h` in the bytes.
 pub record Covers (bytes : List ℕ) (at : Head) (h : RequestHead) : Type 0 where
   pub method : span_bytes bytes at.method ≡ h.method
   pub target : span_bytes bytes at.target ≡ h.target

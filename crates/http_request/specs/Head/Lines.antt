@@ -15,7 +15,7 @@ is_empty_line [] = true
 is_empty_line (b ∷ []) = b == 13
 is_empty_line (b ∷ c ∷ line) = false
 
--- The list of lines has an empty line after a nonempty line.
+-- The list of lines has an empty line after a nonempty line, so it holds a complete request head.
 abbrev pub is_ended : List (List ℕ) → Bool
 is_ended [] = false
 is_ended (line ∷ lines) =

@@ -9,7 +9,7 @@ use Rattle.http_request.specs.declared.reading.inbox.Inbox.{Inbox}
 use Rattle.http_request.specs.declared.reading.inbox.TakeFault.{TakeFault}
 use Rattle.http_request.specs.declared.reading.inbox.TakeFault.TheVariants.{Read, Short, TurnsUsed}
 
--- After a read that failed with Short, the input has no bytes left.
+-- After a read that failed with Short (the input ended early), the input has no bytes left.
 abbrev pub EndsAt : TakeFault → Option (List ℕ) → Type 0
 EndsAt Read after = Unit {0}
 EndsAt Short after = IsAtEnd after
@@ -37,7 +37,8 @@ pub record TakesNothing (old new : Inbox) (was now : Option LastTake) : Type 0 w
   pub bytes : bytes_in new ≡ bytes_in old
   pub last : now ≡ was
 
--- The bytes before the last read were still incomplete, as the predicate `GoesOn` defines it.
+-- The last read was necessary: the bytes before that read were incomplete, which the condition
+-- `GoesOn` says.
 pub record TakesWhatLacks (GoesOn : List ℕ → Type 0) (old new : List ℕ) (now : Option LastTake) :
     Type 0 where
   pub earlier : List ℕ

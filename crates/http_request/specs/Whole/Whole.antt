@@ -47,7 +47,8 @@ pub record LacksBody (table : Table) (bytes : List ℕ) : Type 0 where
 abbrev pub IsUnfinished : Table → List ℕ → Type 0
 IsUnfinished table bytes = IsOpenHead bytes ⊎ LacksBody table bytes
 
--- The bytes hold this complete request or invalid head. The state Open matches no bytes.
+-- The bytes hold a complete request with this head, or an invalid head of this kind. The state Open
+-- (an incomplete head) matches no bytes.
 abbrev pub Holds : Table → List ℕ → HeadState → Type 0
 Holds table bytes Open = ⊥
 Holds table bytes TooLarge = Looks bytes TooLarge
@@ -74,7 +75,7 @@ TestsRequest table bytes TooLarge result = result ≡ Err FieldsTooLarge
 TestsRequest table bytes NoHead result = result ≡ Err BadRequest
 TestsRequest table bytes (Whole at) result = TestsHead table (start_at bytes at) result
 
--- The bytes of a request's body: those after the head, as many as the body has.
+-- The body of a request: the bytes after the head, as many as `body_size` says.
 abbrev pub body_of : Table → List ℕ → Head → List ℕ
 body_of table bytes at = take (body_size table (start_at bytes at)) (drop at.len bytes)
 

@@ -28,7 +28,7 @@ impl Route {
     ghost use Rattle.http_request.specs.Routing.Targets.{is_question, method_of};
 
     /// Returns whether the route is a query (GET). All other routes are commands (POST), which
-    /// change something.
+    /// change the store.
     pub fn is_question(self) -> bool
         ensures { result ≡ is_question self }
     {

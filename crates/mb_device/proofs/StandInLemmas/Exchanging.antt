@@ -1,4 +1,4 @@
--- Lemmas about the register map after turns of a simulated device.
+-- Lemmas about the register map of a simulated device after it executed requests.
 use Rattle.std.proofs.Common.{◌≡◌, ◌∙◌, ◌++◌, ℕ, List, [], ◌∷◌, Option, refl, ap, sym}
 use Rattle.std.specs.Prelude.{Ok, Err, true, false}
 use Rattle.std.specs.declared.result.Result.{Result}

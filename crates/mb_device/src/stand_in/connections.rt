@@ -10,7 +10,8 @@ use socket_link::SocketLink;
 use std::io::{self, Read, Write};
 use std::net::{OpenListener, OpenStream};
 
-/// The most turns of one connection. Each turn waits at most one second for input.
+/// The greatest number of turns (reads) of one connection. Each turn waits at most one second for
+/// input.
 pub const MOST_TURNS: u32 = 100_000;
 
 /// Responds to frames of a link until its input ends, in at most `MOST_TURNS` turns. Returns the

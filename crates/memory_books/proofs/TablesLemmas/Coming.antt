@@ -11,13 +11,15 @@ lawful_before : (later known : List Fact) → AreLawful (later ++ known) → Are
 lawful_before [] known h = h
 lawful_before (f ∷ later) known h = lawful_before later known h.1
 
--- If a list of records is lawful, then each initial part of the list is lawful.
+-- If the rules accept each record of a list after the earlier records, then they accept the first
+-- `k` records of the list.
 pub first_lawful : (facts : List Fact) (k : ℕ) → AreLawful (latest_first facts) → AreLawful (latest_first (take k facts))
 first_lawful facts k h =
     lawful_before (reverse (drop k facts)) (reverse (take k facts))
     (subst AreLawful (ap reverse (sym (take-append-drop k facts)) ∙ reverse-append (take k facts) (drop k facts)) h)
 
--- After the next record is added to a table, the table agrees with one more record of the list.
+-- After the next record of the list is added to a table, the table agrees with all records up to
+-- this record.
 pub come_on : {T : Type 0} (says : T → List Fact → Type 0) (old new : Kept T) (facts : List Fact) (f : Fact) → AreLawful (latest_first facts)
     → HasCome says old facts → old.count < length facts → f ≡ get_or facts old.count f → new.count ≡ old.count + 1
     → ((known : List Fact) → AreLawful (f ∷ known) → length known ≡ old.count → says old.table known → says new.table (f ∷ known))

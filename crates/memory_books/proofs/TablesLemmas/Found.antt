@@ -121,8 +121,8 @@ filter_map_same : {X Y : Type 0} (g k : X → Option Y) → ((x : X) → g x ≡
 filter_map_same g k is [] = refl
 filter_map_same g k is (x ∷ xs) = ap (λ o. cons_option o (filter_map g xs)) (is x) ∙ ap (cons_option (k x)) (filter_map_same g k is xs)
 
--- The lookup of the accounting registers that a Modbus read covers agrees with the definition of
--- this lookup.
+-- If two lists are equal, then they are still equal after the element `x` is added in front of
+-- both, or of neither. The lemma `those_read` needs this to compare `filter_map` with `filter`.
 if_chosen : {X : Type 0} (b : Bool) (x : X) (ys zs : List X) → ys ≡ zs → cons_option (cond b (Some x) None) ys ≡ cond b (x ∷ zs) zs
 if_chosen true x ys zs is = ap (λ l. x ∷ l) is
 if_chosen false x ys zs is = is

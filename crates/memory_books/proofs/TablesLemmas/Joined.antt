@@ -17,7 +17,8 @@ use Rattle.memory_books.specs.Tables.IntervalRows.{rows_at}
 use Rattle.memory_books.specs.Tables.Lookups.{opening_at}
 use Rattle.memory_books.proofs.TablesLemmas.Turned.{filter_map_reverse}
 
--- If an element is in a reversed list, then it is in the list.
+-- A list contains its first element. The lemma `of_turned` needs this to show that a list contains
+-- each element of the reversed list.
 is_head : {X : Type 0} (y : X) (ys : List X) (x : X) → y ≡ x → Contains (y ∷ ys) x
 is_head y ys x is = (0, omega arith, is)
 
@@ -34,8 +35,7 @@ of_turned (y ∷ ys) x h =
     turned_over y x ys (reverse ys) (of_turned ys x)
     (Contains-push_cases (reverse ys) y x (subst (λ zs. Contains zs x) (reverse_cons y ys) h))
 
--- If the record at an index of the list is an opening, then this opening is one of the recorded
--- openings.
+-- If a list contains an element, then the list with an optional element in front contains it too.
 after_option : {X : Type 0} (o : Option X) (ys : List X) (x : X) → Contains ys x → Contains (cons_option o ys) x
 after_option None ys x h = h
 after_option (Some y) ys x h = in_tail y ys x h
@@ -64,7 +64,7 @@ next_place known facts places i d less =
     ∙ flat_map-append (rows_of_opening known) (opened (take i places)) (opened (get_or places i d ∷ []))
 
 -- The interval rows of a meter equal the interval rows that are found through the index of the
--- meter's opening.
+-- record that installed the meter.
 pub rows_there : (known facts : List Fact) (place : ℕ) (o : Opening) → AreLawful known → facts ≡ reverse known → opening_at facts place ≡ Some o
     → rows_of_meter known o.meter ≡ rows_at known facts (place ∷ [])
 rows_there known facts place o lawful is there =

@@ -38,8 +38,8 @@ module _ (known facts : List Fact) where
   rows_more places i d row rows more lt so_far is came =
       came ∙ ap (λ (before : List Installation). before ++ option_to_list row) so_far ∙ sym (one_there places i d row lt is)
 
-  -- If the record at an index is an opening, then a search for its meter's name finds the
-  -- installation of this opening.
+  -- If the record at an index installed a meter, then a search for the meter's name finds the state
+  -- that follows from this installation.
   pub meter_there : AreLawful known → facts ≡ reverse known → (place : ℕ) (o : Opening) → opening_at facts place ≡ Some o
       → meter_of known o.meter ≡ option_map (installation_of known) (opening_at facts place)
   meter_there lawful is place o there_is =

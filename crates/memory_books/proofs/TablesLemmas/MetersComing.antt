@@ -1,4 +1,4 @@
--- Lemmas that the table of meters agrees with the records after one more record.
+-- Lemmas about the table of meters, which agrees with the records after one more record.
 use Rattle.std.proofs.Common.{◌≡◌, ℕ, ◌+◌, ◌≤◌, ◌<◌, Bool, true, false, cond, ◌&&◌, List, [], ◌∷◌, reverse, length, Option, Some, None, Result, Ok, refl, sym, ap, subst, ◌∙◌}
 use Rattle.std.specs.Option.{option_map}
 use Rattle.std.specs.Ordering.{is_eq}
@@ -42,7 +42,7 @@ use Rattle.memory_books.proofs.TablesLemmas.Known.{known, found_is_there}
 use Rattle.memory_books.proofs.TablesLemmas.Passing.{rows_numbered, row_inside}
 use Rattle.memory_books.proofs.TablesLemmas.SameKeys.{is_eq-key_cmp}
 
--- If the map is updated at one name, then only the meter with this name changes.
+-- If a key is that of one meter, it differs from the keys of all meters with other names.
 other_key : (meter name : List ℕ) (key : Key) → key ≡ named meter → same meter name ≡ false → is_eq (key_cmp key (named name)) ≡ false
 other_key meter name key is apart =
     ap (λ (k : Key). is_eq (key_cmp k (named name))) is ∙ is_eq-key_cmp (named meter) (named name) ∙ ap (λ (b : Bool). b && true) apart
@@ -130,8 +130,8 @@ line_comes law f facts old new meter became openings none changes own are name =
 no_line : (line : journal.Line) (b : Bool) → b ≡ false → let o : Option journal.Line = cond b (Some line) None in o ≡ None
 no_line line b is = cond-false _ _ _ is
 
--- After an entry of a meter is recorded and added to the table, the meter in the table agrees with
--- the records.
+-- Helpers for `entered_one`: after an entry of a meter is recorded and added to the table, the
+-- meter in the table agrees with the records.
 pub sound_so : (row : Installation) → IsSound row → IsSound row
 sound_so row h = record { range = h.range; ceiling = h.ceiling; raw = h.raw; scale = h.scale; total = h.total }
 
@@ -218,8 +218,8 @@ void_comes others fit kept ranges facts v old new lawful changes are =
     (λ name apart. no_line (journal.Voided v.place) (same v.meter name) apart) changes
     (struck_one fit kept ranges facts v lawful (meter_at old v.meter) (meter_at new v.meter) changes.own (are v.meter)) are
 
--- After the opening of a meter is recorded and added to the table, the meter in the table agrees
--- with the records.
+-- After the installation of a meter is recorded and added to the table, the meter in the table
+-- agrees with the records.
 pub opening_comes : OpeningsBegin → OtherMetersStay → (facts : List Fact) (o : Opening) (old new : Meters) → AreLawful (fact.Opening o ∷ facts)
     → Changes o.meter (Begins o) old new → AreMeters old facts → AreMeters new (fact.Opening o ∷ facts)
 opening_comes law others facts o old new lawful changes are name =

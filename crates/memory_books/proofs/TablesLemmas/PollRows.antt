@@ -21,7 +21,7 @@ use Rattle.office_rules.specs.Readings.{poll_row, poll_row_of}
 use Rattle.office_rules.proofs.Lists.{reverse_cons, get_last, get_others}
 use Rattle.memory_books.specs.Tables.Polls.{row_with_end, polls_but}
 
--- In lawful records, polls are numbered consecutively from 1.
+-- If the rules accept the records, then their polls are numbered consecutively from 1.
 pub numbered : (known : List Fact) → AreLawful known → AreNumbered (polls_in known)
 numbered [] h = tt
 numbered (fact.Device d ∷ known) h = numbered known h.1
@@ -191,8 +191,8 @@ no_row_at_zero known h = zero_at (polls_in known) (numbered known h)
     zero_at (p ∷ polls) so =
         ap (option_map (poll_row known)) (cond-false _ _ _ (ne_eqb p.number 0 (λ is. omega (arith, so.0)))) ∙ zero_at polls so.1
 
--- After an outcome, its poll is removed from the list of pending polls. After a start, the new poll
--- is appended to this list.
+-- A conjunction with `false` is false. The lemma `ends_pending` needs this to show that an outcome
+-- removes its poll from the pending polls.
 and_false : (b : Bool) → (b && false) ≡ false
 and_false true = refl
 and_false false = refl

@@ -1,5 +1,5 @@
--- Quarter-hour rows that are passed to a sink one by one. A row is passed to the sink when no
--- further energy of its quarter hour can follow.
+-- Quarter-hour rows that are passed one by one to a sink, which is a visitor of rows. A row is
+-- passed when no further energy of its quarter hour can follow.
 use Rattle.std.specs.Prelude.{◌≡◌, ℕ, List, [], ◌∷◌, ◌++◌, Option, None}
 use Rattle.std.specs.List.{filter_map, flat_map}
 use Rattle.std.specs.Option.{option_to_list}
@@ -34,8 +34,8 @@ pub record Passes {S : Type 0} (takes : S → Share → S → Type 0) (before af
   pub rows_are : done ++ option_to_list waits ≡ with_shares (option_to_list waited) shares
   pub none : waits ≡ None → (waited ≡ None) × (shares ≡ [])
 
--- The quarter-hour rows of the meters whose openings have these indices in the list of records, one
--- meter after another.
+-- The quarter-hour rows of the meters whose installations have these indices in the list of
+-- records, one meter after another.
 abbrev pub rows_at : (known facts : List Fact) → (places : List ℕ) → List Share
 rows_at known facts places = flat_map (rows_of_opening known) (filter_map (opening_at facts) places)
 
@@ -49,8 +49,8 @@ abbrev pub TakesWithin : {S : Type 0} → (takes : S → Share → S → Type 0)
     → Share → (after : S) → Type 0
 TakesWithin takes span before row after = TakesAll takes before (rows_within span (row ∷ [])) after
 
--- True if the sink received the quarter-hour rows of a meter, provided that the energy of the
--- meter's valid entries can be added up.
+-- True if the sink received the quarter-hour rows of a meter, provided that the rules accept the
+-- meter's valid entries one after another (`HasAccount`).
 abbrev pub TakesRowsOf : {S : Type 0} → (takes : S → Share → S → Type 0) → (before : S)
     → Installed → List EntryRow → (after : S) → Type 0
 TakesRowsOf takes before meter rows after =

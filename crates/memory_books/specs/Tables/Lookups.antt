@@ -40,7 +40,8 @@ register_read span f = option_and_then (if_read span) (as_register f)
 abbrev pub register_read_at : ReadSpan → List Fact → ℕ → Option Register
 register_read_at span facts place = option_and_then (register_read span) (slice_get facts place)
 
--- The opening in the record at index `place`, or `None` if the record is of another kind.
+-- The opening, which is the record that installs a meter, at index `place` of the records. `None`
+-- if the record there is of another kind.
 abbrev pub opening_at : List Fact → ℕ → Option Opening
 opening_at facts place = option_and_then as_opening (slice_get facts place)
 

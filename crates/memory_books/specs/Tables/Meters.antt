@@ -15,15 +15,15 @@ use Rattle.memory_books.specs.Tables.Moving.{HasBegun}
 abbrev pub meter_at : Meters → List ℕ → Option Meter
 meter_at meters name = get key_cmp meters.meters (named name)
 
--- True if the meter's opening is recorded, and the state and the entry rows in the table equal
--- those of the records.
+-- True if the record that installed the meter exists, and the state and the entry rows in the table
+-- equal those of the records.
 pub record Stands (known : List Fact) (meter : Meter) (found : Option Opening) : Type 0 where
   pub opening : Opening
   pub there : found ≡ Some opening
   pub row : meter.row ≡ installation_of known opening
   pub rows : lists.latest_first meter.rows.items ≡ rows_of known opening
 
--- True if the table has a meter exactly if its opening is recorded, and the meter's state and
+-- True if the table has a meter exactly if its installation is recorded, and the meter's state and
 -- entries equal those of the records.
 abbrev pub IsMeter : List Fact → Option Meter → Option Opening → Type 0
 IsMeter known None found = found ≡ None
@@ -42,8 +42,8 @@ pub record Changes (meter : List ℕ) (became : Option Meter → Option Meter �
   pub own : became (meter_at old meter) (meter_at new meter)
   pub others : (name : List ℕ) → same meter name ≡ false → meter_at new name ≡ meter_at old name
 
--- The effect of an opening on the table of meters. The new meter is added, in its state directly
--- after the opening.
+-- The effect of an opening, the record that installs a meter, on the table of meters. The new meter
+-- is added, without entries.
 abbrev pub Begins : Opening → Option Meter → Option Meter → Type 0
 Begins opening old new = (meter : Meter) × (new ≡ Some meter) × HasBegun opening meter
 

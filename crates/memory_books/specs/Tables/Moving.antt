@@ -16,7 +16,7 @@ use Rattle.office_rules.specs.Meters.{opened, installed, standing, rows_of, inst
 use Rattle.office_books.specs.Sound.{as_begun, HasNumbers, MayEnter}
 use Rattle.memory_books.specs.declared.tables.meter.Meter.{Meter}
 
--- True if the meter is in the state directly after its opening, without further entries.
+-- True if the meter is in the state directly after its installation, without further entries.
 pub record HasBegun (opening : Opening) (meter : Meter) : Type 0 where
   pub row : meter.row ≡ as_begun opening
   pub rows : meter.rows.items ≡ []
@@ -30,7 +30,7 @@ pub record HasEntered (booked : BookedEntry) (old new : Meter) : Type 0 where
       ≡ old.rows.items
       ++ journal.new_row (lists.latest_first old.rows.items) booked.kind booked.entry ∷ []
 
--- True if the installation and the entry rows of a meter are unchanged.
+-- True if the state and the entry rows of a meter are unchanged.
 pub record IsSame (old new : Meter) : Type 0 where
   pub row : new.row ≡ old.row
   pub rows : new.rows.items ≡ old.rows.items
@@ -53,14 +53,14 @@ pub record HasStruck (place : ℕ) (old new : Meter) : Type 0 where
       → new.row ≡ standing old.row.opening (journal.entries_in (lists.latest_first new.rows.items))
       old.row.ended
 
--- True if the state and the entry rows of the meter in the table equal those of the opening's meter
--- in the records.
+-- True if the meter's state and entry rows in the table equal those that the records have for this
+-- opening, which is the record that installed the meter.
 pub record IsAsSaid (known : List Fact) (opening : Opening) (meter : Meter) : Type 0 where
   pub row : meter.row ≡ installation_of known opening
   pub rows : lists.latest_first meter.rows.items ≡ rows_of known opening
 
--- True if `so` holds for all lawful records and each recorded opening that agree with this meter of
--- the table.
+-- True if the property `so` holds for all records that the rules accept, and for each recorded
+-- opening (a meter's installation) that agree with this meter of the table.
 abbrev pub WhereSaid : Meter → (List Fact → Opening → Type 0) → Type 0
 WhereSaid meter so =
     (known : List Fact) (opening : Opening) → AreLawful known → IsRecorded known opening

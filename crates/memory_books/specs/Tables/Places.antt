@@ -34,7 +34,8 @@ register_key DeviceRegisters register = Some (named register.device)
 register_key RegisterOpenings register = None
 register_key Replies register = None
 
--- The key of an opening in a table of this kind, or `None` if the table does not index openings.
+-- The key of an opening (the installation of a meter) in a table of this kind, or `None` if the
+-- table does not index openings.
 abbrev pub opening_key : Kind → Opening → Option Key
 opening_key DeviceLists opening = None
 opening_key Registers opening = None

@@ -40,8 +40,8 @@ pub record AreWhole (tables : Tables) (known : List Fact) : Type 0 where
   pub replies : ArePlacesOf Replies tables.replies.table known
   pub meters : AreMeters tables.meters.table known
 
--- True if `so` holds for all lawful records with which all tables agree. `facts` are these records
--- in the order in which they were added.
+-- True if the property `so` holds for all records with which all tables agree, if the rules accept
+-- these records. `facts` are these records in the order in which they were added.
 abbrev pub WhereWhole : Tables → (facts : List Fact) → (List Fact → Type 0) → Type 0
 WhereWhole tables facts so =
     (known : List Fact) → facts ≡ reverse known → AreLawful known → AreWhole tables known → so known

@@ -57,7 +57,7 @@ fn pass_step<K: RowSink<Share>>(waits: &mut Option<Share>, step: &Step, span: Sp
 }
 
 /// Passes the quarter-hour rows of the valid entries in the span to the sink, in order. If the
-/// energy of the entries cannot be added up, the sink may get only some of the rows.
+/// rules refuse one of the entries, the sink may get only some of the rows.
 fn pass_rows<K: RowSink<Share>>(meter: &Installed, rows: &[EntryRow], span: Span, sink: &mut K)
     requires range_low { MIN_RANGE ≤ meter.now.range }
     requires range_high { meter.now.range ≤ MAX_RANGE }
@@ -96,8 +96,8 @@ fn pass_rows<K: RowSink<Share>>(meter: &Installed, rows: &[EntryRow], span: Span
     }
 }
 
-/// Passes the quarter-hour rows of a meter in the span to the sink, in order. If the energy of the
-/// meter's entries cannot be added up, the sink may get only some of the rows.
+/// Passes the quarter-hour rows of a meter in the span to the sink, in order. If the rules refuse
+/// one of the meter's entries, the sink may get only some of the rows.
 pub(crate) fn hand_on<K: RowSink<Share>>(
     opening: &Opening,
     rows: &[EntryRow],

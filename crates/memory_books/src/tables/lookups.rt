@@ -37,7 +37,8 @@ pub(crate) fn register_at(facts: &[Fact], place: usize) -> Option<Register>
     as_register(facts.get(place)?)
 }
 
-/// Returns the opening in the record at index `place`, or `None` if the record is of another kind.
+/// Returns the opening, which is the record that installs a meter, at index `place` of the records.
+/// Returns `None` if the record there is of another kind.
 pub(crate) fn opening_at(facts: &[Fact], place: usize) -> Option<Opening>
     ensures { result ≡ spots.opening_at facts.now place }
 {

@@ -1,4 +1,4 @@
-//! A meter in the table of meters, with its installation and its entry rows.
+//! A meter in the table of meters, with its present state and its entry rows.
 ghost use Rattle.std.specs.Prelude.{◌≡◌, List, Some, take, IfOk, OnOk, OnErr, IfSome};
 ghost use Rattle.std.specs.Option.{option_map};
 ghost use Rattle.meter_journal.specs.Journal.{row_at};

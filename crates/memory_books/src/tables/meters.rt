@@ -79,8 +79,7 @@ impl Meters {
         }
     }
 
-    /// Returns the present installation of the meter with this name, or `None` if no meter has the
-    /// name.
+    /// Returns the present state of the meter with this name, or `None` if no meter has the name.
     pub(crate) fn row(&self, name: &Name) -> Option<Installation>
         ensures found { (known : List Fact) → AreLawful known → AreMeters self.now known
             → result ≡ meter_of known name.now }
@@ -113,7 +112,8 @@ impl Meters {
     }
 
     /// Returns the entry of a meter with sequence number `place`, or `None` without such an entry.
-    /// In the result, the meter's state before the entry has the meter's present total energy.
+    /// The result has the meter's present total energy instead of the energy before the entry, as
+    /// the contract of this lookup allows.
     pub(crate) fn entry_near(&self, name: &Name, place: u64) -> Option<EntryContext>
         ensures found { (known : List Fact) → AreLawful known → AreMeters self.now known
             → ReportsNear known name.now place result }

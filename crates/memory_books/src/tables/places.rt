@@ -19,7 +19,7 @@ pub(crate) enum Kind {
     Registers,
     /// Accounting registers by the name of their device.
     DeviceRegisters,
-    /// Openings of meters by the name of their accounting register.
+    /// Openings (the installations of meters) by the name of their accounting register.
     RegisterOpenings,
     /// Stored responses by idempotency key.
     Replies,

@@ -209,8 +209,8 @@ impl Tables {
         self.device_registers.table.all(named(device)).len()
     }
 
-    /// Returns the latest opening at an accounting register, or `None` if no meter was installed
-    /// there.
+    /// Returns the latest opening (the installation of a meter) at an accounting register, or
+    /// `None` if no meter was installed there.
     pub fn installed(&self, facts: &[Fact], register: &Name) -> Option<Opening>
         ensures { (known : List Fact) → facts.now ≡ reverse known → AreWhole self.now known
             → result ≡ installed_at known register.now }
@@ -243,7 +243,7 @@ impl Tables {
         }
     }
 
-    /// Returns the present installation of a meter, or `None` if no meter has the name.
+    /// Returns the present state of a meter, or `None` if no meter has the name.
     pub fn meter(&self, name: &Name) -> Option<Installation>
         ensures found { (known : List Fact) → AreLawful known → AreWhole self.now known
             → result ≡ meter_of known name.now }
@@ -252,8 +252,8 @@ impl Tables {
         self.meters.table.row(name)
     }
 
-    /// Returns the latest installation at an accounting register, open or closed, or `None` if no
-    /// meter was installed there.
+    /// Returns the present state of the latest meter at an accounting register, open or closed, or
+    /// `None` if no meter was installed there.
     pub fn installation(&self, facts: &[Fact], register: &Name) -> Option<Installation>
         ensures found { WhereWhole self.now facts.now (λ known.
             result ≡ installation_at known register.now) }
@@ -276,7 +276,8 @@ impl Tables {
     }
 
     /// Returns the entry of a meter with sequence number `place`, or `None` without such an entry.
-    /// In the result, the meter's state before the entry has the meter's present total energy.
+    /// The result has the meter's present total energy instead of the energy before the entry, as
+    /// the contract of this lookup allows.
     pub fn entry_near(&self, meter: &Name, place: u64) -> Option<EntryContext>
         ensures found { (known : List Fact) → AreLawful known → AreWhole self.now known
             → ReportsNear known meter.now place result }
@@ -326,8 +327,8 @@ impl Tables {
         Ok(rows)
     }
 
-    /// Returns the installations at an accounting register in order of installation, closed meters
-    /// included.
+    /// Returns the present states of all meters at an accounting register in order of installation,
+    /// closed meters included.
     pub fn installations(
         &self,
         alloc: Global,

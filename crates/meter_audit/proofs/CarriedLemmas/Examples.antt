@@ -17,7 +17,7 @@ use Rattle.meter_audit.specs.CarriedFiles.{GoesOnAs, InFile, entry_from_all_rows
 use Rattle.meter_audit.specs.Fitting.{Tables, tables_of}
 use Rattle.meter_audit.proofs.CarriedLemmas.Fitting.{carried_journals_fit}
 
--- A meter with a 32-bit counter that counts Wh and a ceiling of 100 kW.
+-- A meter with a 32-bit counter that counts Wh, and with a ceiling (maximum power) of 100 kW.
 abbrev installed : (at raw : ℕ) → Installed
 installed at raw = record { range = 4294967296; ceiling = 100000; opening = record { at = at; raw = raw; sf = pos 0 } }
 
@@ -73,7 +73,7 @@ new_intervals : interval_rows (installed 2500 5300) new ≡ share 1800 19000 ∷
 unfolding unit_of
 new_intervals = refl
 
--- The quarter hour from 1800 s has the energy of both files.
+-- The quarter hour from 1800 s, in which the files change, has the energy of both files.
 intervals_of_both : interval_rows house (joined_journal old new) ≡ share 900 177777 ∷ share 1800 141223 ∷ share 2700 81000 ∷ []
 unfolding unit_of
 intervals_of_both = refl
@@ -111,8 +111,8 @@ well_installed = record { raw = omega arith; scale = (grind (arith, ints), grind
 void_of_both_fits : AreFitting house (joined_journal old (Voided 2 ∷ new))
 void_of_both_fits = carried_journals_fit house old (Voided 2 ∷ new) well_installed old_fits refl void_fits stays_within
 
--- After a void in the new file, one step from 2500 s to 3600 s replaces two steps in the joined
--- journal.
+-- After a void in the new file, the joined journal has the energy from 2500 s to 3600 s in one
+-- step. Before the void, it had two steps.
 void_intervals : interval_rows house (joined_journal old (Voided 2 ∷ new)) ≡ share 900 177777 ∷ share 1800 140404 ∷ share 2700 81819 ∷ []
 unfolding unit_of
 void_intervals = refl
@@ -148,7 +148,7 @@ three_total : reported_by_three.total ≡ 500000
 unfolding unit_of
 three_total = refl
 
--- One change of files is within a quarter hour, and the other is at the end of a quarter hour.
+-- One change of files lies within a quarter hour, and the other at the end of a quarter hour.
 three_intervals : reported_by_three.intervals ≡ share 900 177777 ∷ share 1800 141223 ∷ share 2700 81000 ∷ share 3600 100000 ∷ []
 unfolding unit_of
 three_intervals = refl

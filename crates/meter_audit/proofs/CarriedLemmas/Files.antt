@@ -30,7 +30,7 @@ use Rattle.meter_audit.proofs.CarriedLemmas.Fitting.{HasRoom, fits_over}
 use Rattle.meter_audit.proofs.CarriedLemmas.Over.{left_by, last_over, follow_over, steps_over, total_over, entries_over, place_over}
 use Rattle.meter_audit.proofs.CarriedLemmas.Quarters.{rows_of_both, counted_once}
 
--- The meter is well installed in the new file if the rules accept the rows of the old file.
+-- If the rules accept the rows of the old file, then the meter's opening in the new file is valid.
 well_from : (meter : Installed) (old : List EntryRow) → IsWellInstalled meter → AllFit meter old → IsWellInstalled (carried_from meter old)
 well_from meter old well h =
     let sound = accounts_are_sound meter.range meter.opening (entries_in old) _ _ well.raw well.scale (fitting_account meter old well h) in

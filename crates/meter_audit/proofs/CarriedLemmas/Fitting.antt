@@ -1,4 +1,5 @@
--- A line that the rules accept in the new file is also accepted in the joined journal.
+-- A line that the rules accept in the new file is also accepted in the joined journal of both
+-- files.
 use Rattle.std.proofs.Common.{◌≡◌, ℕ, ◌+◌, ◌*◌, ◌^◌, ◌<◌, ◌≤◌, ◌==◌, Bool, true, false, cond, ◌&&◌, nat_lt, if◌then◌else◌, List, [], ◌∷◌, ◌++◌, map, length, Option, Some, None, Ok, refl, sym, ap, subst, ◌∙◌, inl, inr, arith}
 use Rattle.std.specs.List.{find}
 use Rattle.std.specs.Option.{option_map, option_or}
@@ -127,7 +128,7 @@ held_still range last reading None false fuller c up h = absurd (cc)
 fuller_too : (limit total more step : ℕ) → total ≤ more → nat_lt limit (total + step) ≡ true → nat_lt limit (more + step) ≡ true
 fuller_too limit total more step le h = grind (arith, nat_tests, le, h)
 
--- A rejected reading is rejected for the same cause if the total energy is greater.
+-- If a reading is rejected, it is also rejected for the same cause with a greater total energy.
 held_more : (range ceiling total more : ℕ) (last : Last) (reading : Reading) (c : Cause) → total ≤ more
     → verdict_of range (record { ceiling = ceiling; total = total }) last reading ≡ verdict.Held c
     → verdict_of range (record { ceiling = ceiling; total = more }) last reading ≡ verdict.Held c
@@ -262,8 +263,8 @@ rolled_entry l n at raw rolls on reading is =
 reads : (k : EntryKind) (e : Entry) → is_read k e ≡ true → is_reading k ≡ true
 reads k e h = by_read (λ k e. is_reading k ≡ true) (λ at raw rolls. refl) k e h
 
--- The entry after a voided entry is also plausible in the joined journal, because the energy
--- without the voided entry stays within the limit.
+-- The entry after a voided entry is also plausible in the joined journal of both files, because the
+-- energy without the voided entry stays within the limit.
 plausible_over : (meter : Installed) (es old : List Entry) (n : EntryRow) (e : Entry) (later : List Entry) (whole : ℕ)
     → n.entry ≡ e → n.stands ≡ true → is_reading n.kind ≡ true
     → AllFollow meter.range (last_after meter old) (later ++ (rolled (last_after (left_by meter old) es) n).entry ∷ es)

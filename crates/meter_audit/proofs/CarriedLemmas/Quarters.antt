@@ -55,7 +55,8 @@ three x y z zs true false at next = cond-false _ _ _ (through x.start y.start z.
 three x y z zs false true off next = ap (λ rs. x ∷ rs) (cond-true _ _ _ next) ∙ sym (cond-false _ _ _ off)
 three x y z zs false false off next = ap (λ rs. x ∷ rs) (cond-false _ _ _ next) ∙ sym (cond-false _ _ _ off)
 
--- Merging the first two rows and merging shares into the last row can be done in either order.
+-- Merging the first two interval rows and merging quarter-hour energies into the last row can be
+-- done in either order.
 longer : (x y next : Share) (ys zs : List Share) (b : Bool) → x.start == y.start ≡ b
     → with_shares (cond b (one_of x y ∷ next ∷ ys) (x ∷ y ∷ next ∷ ys)) zs ≡ joined x (y ∷ with_shares (next ∷ ys) zs)
 longer x y next ys zs true at = sym (cond-true _ _ _ at)
@@ -185,8 +186,8 @@ seam f row share shares true at =
     (seam_from f row.start row.mwh share.mwh shares (f row.start) refl)
 seam f row share shares false off = count_same f (row ∷ share ∷ shares)
 
--- Merging shares into interval rows preserves the energy and the starts of the rows followed by the
--- shares.
+-- Merging quarter-hour energies into interval rows preserves the total energy and the set of
+-- quarter hours of both lists.
 pub both_count : (f : ℕ → Bool) (rows shares : List Share) → CountTheSame f (with_shares rows shares) (rows ++ shares)
 both_count f [] shares = count_same f shares
 both_count f (row ∷ []) [] = count_same f (row ∷ [])

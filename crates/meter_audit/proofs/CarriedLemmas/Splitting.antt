@@ -1,5 +1,5 @@
--- Lines that the rules accept after a journal are also accepted in a new file in which the meter
--- continues.
+-- Journal lines that the rules accept in the old file are also accepted in a new file in which the
+-- meter continues.
 use Rattle.std.proofs.Common.{◌≡◌, ◌≢◌, ℕ, ◌+◌, ◌-◌, ◌<◌, ◌≤◌, ◌==◌, Bool, true, false, cond, List, [], ◌∷◌, ◌++◌, map, length, Option, Some, None, Ok, refl, sym, ap, subst, ◌∙◌, inl, inr, arith}
 use Rattle.std.specs.List.{find}
 use Rattle.std.specs.Option.{option_map, option_or}
@@ -38,7 +38,7 @@ use Rattle.meter_audit.proofs.CarriedLemmas.Over.{left_by, last_over, total_over
 
 -- ---- readings and entries after less energy
 
--- The joined journal has at least the energy of the new file.
+-- The joined journal of both files has at least the energy of the new file.
 abbrev HasMore : Installed → (es old : List Entry) → Type 0
 HasMore meter es old = total_after (left_by meter old) es ≤ total_after meter (es ++ old)
 

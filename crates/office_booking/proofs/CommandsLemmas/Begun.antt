@@ -1,4 +1,4 @@
--- Properties of a command that starts polls on the session of a device.
+-- Properties of a command that starts polls on the session (connection) of a device.
 use Rattle.std.proofs.Common.{◌≡◌, ℕ, ◌+◌, ◌≤◌, Bool, true, false, not, cond, List, [], ◌∷◌, ◌++◌, map, length, get_or, slice_get, slice_set, zero, suc, refl, sym, ap, subst, ◌∙◌, Option, Some, None, Result, OnOk, IfOk, arith}
 use Rattle.std.specs.List.{find}
 use Rattle.std.specs.Option.{option_and_then}
@@ -34,8 +34,8 @@ use Rattle.office_booking.specs.declared.commands.effects.Done.{Done}
 use Rattle.office_booking.specs.Commands.Effects.{started_on, slot_obeyed, slots_obeyed, facts_obeyed, Obeys}
 use Rattle.office_booking.proofs.CommandsLemmas.Carried.{not_named, if_ok, on_ok}
 
--- The properties of an accepted command that starts polls. Its device is connected, and the
--- device's session can start polls.
+-- True if the command's device is connected, its session can start polls, and the next poll number
+-- is at most 2^62 + 1. An accepted command that starts polls has these properties.
 pub record IsBegun (past : History) (at : ℕ) (c : Command) : Type 0 where
   pub ready : is_ready (slot_of (slots_of past) (sessions.started_on c)) ≡ true
   pub few : next_poll (facts_of past) ≤ 4611686018427387905
@@ -79,7 +79,8 @@ begun past at (event.Asked asked) c accepted is h =
     let p = passed (refuses past at (event.Asked asked)) accepted.right in
     subst (IsBegun past at) same (begun_by past at asked.command (ap is_start same ∙ h) (or_parts _ false p.busy).0 (or_parts _ false p.few).0)
 
--- The slot with index `i`, if the command starts polls on the session of this slot.
+-- True if the command starts polls on the device in the slot with index `i`. A slot is a device
+-- with its session (connection).
 pub record StartsOn (slots : List sessions.Slot) (c : Command) (i : ℕ) : Type 0 where
   pub slot : sessions.Slot
   pub found : slot_of slots (sessions.started_on c) ≡ Some slot
@@ -111,8 +112,8 @@ before_at at [] i slot all there = absurd (cc)
 before_at at (l ∷ slots) zero slot all there = let e : l ≡ slot = cc in subst (λ (x : sessions.Slot). none_later at x.present) e all.0
 before_at at (l ∷ slots) (suc i) slot all there = before_at at slots i slot all.1 there
 
--- After a command starts polls, its records, frames and answer equal those defined for the slot of
--- its device.
+-- If a command starts polls, then the records that it adds are the poll records defined for the
+-- slot of its device. The same holds for its frames and its answer.
 pub added_there : (number at : ℕ) (slots : List sessions.Slot) (known : List Fact) (c : Command) (slot : sessions.Slot) → is_start c ≡ true
     → slot_of slots (sessions.started_on c) ≡ Some slot → added_by number at slots known c ≡ polls_of number at (spans_by known c) slot
 added_there number at slots known (command.AddDevice c) slot h found = absurd (cc)
@@ -139,7 +140,8 @@ answered_there at slots known c slot h found =
     sym (cond-true (is_start c) _ _ h
     ∙ ap (λ (o : Option sessions.Slot). answers.Started (next_poll known) (length (sends_from (next_poll known) at (spans_by known c) o)) (reads_in_all known c)) found)
 
--- If a command starts polls, then only the slot of the command's device changes.
+-- If a command starts polls on the device of a slot, then the slot after the command has the
+-- started reads.
 named_slot : (number at : ℕ) (spans : List ReadSpan) (c : Command) (slot : sessions.Slot) (present : Option (List session.Event))
     → is_named (sessions.started_on c) slot.device.name ≡ true
     → started_on number at spans c slot present ≡ sent_from at slot (sends_at number at slot.device present spans) present
@@ -223,8 +225,8 @@ pub found_named : (slots : List sessions.Slot) (given : Option (List ℕ)) (slot
     → is_named given slot.device.name ≡ true
 found_named slots given slot found = find_passes (λ (l : sessions.Slot). is_named given l.device.name) slots slot found
 
--- If the records of the store are lawful, then they remain lawful with the records of the started
--- polls.
+-- If the rules accept the records after a command, then they accept the poll records that are
+-- computed from the slot of the command's device.
 pub polls_lawful : (at : ℕ) (slots : List sessions.Slot) (known : List Fact) (c : Command) (replies : List Fact) (slot : sessions.Slot) → is_start c ≡ true
     → slot_of slots (sessions.started_on c) ≡ Some slot → AreLawful (facts_obeyed at slots known c replies)
     → AreLawful (with_facts (polls_of (next_poll known) at (spans_by known c) slot ++ replies) known)

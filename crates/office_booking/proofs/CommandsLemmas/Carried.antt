@@ -49,7 +49,8 @@ fed_is past at (event.Asked asked) c replies is kept =
     ap (λ (fs : List Fact). reverse (added asked.command ++ fs) ++ facts_of past) kept
     ∙ ap (λ (x : Command). reverse (added x ++ replies) ++ facts_of past) same
 
--- If an event requests a command, then the slots after the event equal the slots after the command.
+-- If an event requests a command, then the device slots after the event equal the slots after the
+-- command.
 map_same : (f g : sessions.Slot → sessions.Slot) → ((slot : sessions.Slot) → f slot ≡ g slot) → (slots : List sessions.Slot) → map f slots ≡ map g slots
 map_same f g h [] = refl
 map_same f g h (slot ∷ slots) = ap (λ l. l ∷ map f slots) (h slot) ∙ ap (λ ls. g slot ∷ ls) (map_same f g h slots)
@@ -114,14 +115,16 @@ carries old new after past at e c replies result is kept obeys = record {
   sent = λ h clean. if_ok _ _ result (λ done own. own ∙ ap (notes.frames_by (next_poll (facts_of past)) at (slots_of past) (facts_of past)) (sym is)) (obeys.sent h clean);
 }
 
--- If an event is accepted, then the records after the event are lawful.
+-- If an event that requests a command is accepted, then the rules accept the records after the
+-- command.
 pub lawful_fed : FactsAreLawful → (past : History) (at : ℕ) (e : Event) (c : Command) (replies : List Fact) → IsPast past → IsAccepted past at e
     → command_in e ≡ Some c → replies_by at e ≡ replies → PutsPlanned (Some c) → AreLawful (facts_obeyed at (slots_of past) (facts_of past) c replies)
 lawful_fed law past at e c replies is_past accepted is kept planned =
     subst AreLawful (fed_is past at e c replies is kept)
     (law (Fed at e ∷ past) (accepted, is_past.accepted) (subst PutsPlanned (sym is) planned, is_past.planned))
 
--- If a command starts no polls, then the existing slots are unchanged.
+-- If a command starts no polls, then it names no device to poll. Therefore the existing slots are
+-- unchanged.
 idle_events : (c : Command) → is_start c ≡ false → sessions.started_on c ≡ None
 idle_events (command.AddDevice c) h = refl
 idle_events (command.PutList c) h = refl
@@ -158,7 +161,8 @@ keeps_idle now number at spans c slots more h is keeps =
     subst (KeepsSlots now)
     (sym (ap (λ ls. ls ++ slots_added (Some c)) (slots_idle number at spans c slots h) ∙ ap (λ ls. slots ++ ls) is)) keeps
 
--- If a command starts no polls, then it has the defined answer and sends no frames.
+-- If a command starts no polls, then its answer is `Done` with the command's kind, and it sends no
+-- frames.
 pub idle_answer : (slots : List sessions.Slot) (facts : List Fact) (at : ℕ) (c : Command) → is_start c ≡ false → answers.Done (kind_of c) ≡ answer_to slots facts at c
 idle_answer slots facts at c h = sym (cond-false (is_start c) _ _ h)
 

@@ -7,7 +7,7 @@ use Rattle.office_books.specs.Ledgers.{Ledger, Books, Moves, with_facts}
 use Rattle.office_books.proofs.Moving.{passes, settles}
 use Rattle.office_booking.specs.Commands.Effects.{Tries}
 
--- If a call of the store's `book` has its guarantees, then the guarantees of `Tries` also hold.
+-- The guarantees of `book`, the store's write, include the guarantees of `Tries`.
 pub asked : (old new : Ledger) (facts : List Fact) (result : Result (Unit {0}) BooksFault) → Books old new facts result → Tries old new facts result
 asked old new facts (Ok done) books = record {
   booked = books.booked;

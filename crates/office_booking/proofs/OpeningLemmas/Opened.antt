@@ -1,4 +1,4 @@
--- Properties of the slots of a newly opened office.
+-- Properties of the slots (devices with their connections) of a newly opened office.
 use Rattle.std.proofs.Common.{◌≡◌, ℕ, List, [], ◌∷◌, map, refl, ap, sym, subst, ◌∙◌, Result, Ok, Err}
 use Rattle.std.specs.Result.{IsErrAnd}
 use Rattle.std.specs.declared.alloc.Global.{Global}
@@ -18,7 +18,8 @@ unfolding opened
 opened_each [] = tt
 opened_each (slot ∷ slots) = (record { device = refl; session = tt }, opened_each slots)
 
--- After the office is opened, slots without sessions agree with its devices.
+-- After the office is opened, one slot without a session for each device agrees with the office's
+-- devices, of which none is connected.
 pub opened_keep : (made : List Slot) (devices : List Device) (slots : List Kept) → made ≡ map opened devices
     → map (λ slot. slot.device) slots ≡ devices → KeepsSlots made (map slot_restarted slots)
 opened_keep made devices slots is same =

@@ -1,4 +1,4 @@
--- Proof that each event of a session is at or before the latest accepted event.
+-- Proof that no event of a session (connection) is later than the latest accepted event.
 use Rattle.std.proofs.Common.{◌≡◌, ℕ, ◌≤◌, nat_lt, Bool, true, false, cond, List, [], ◌∷◌, ◌++◌, map, refl, Option, Some, None, arith, subst}
 use Rattle.std.proofs.lemmas.Bool.{cond_both, ltb-false, or_parts}
 use Rattle.energy_core.proofs.Tables.{none_pass}
@@ -35,7 +35,7 @@ before_later : (at later : ℕ) → at ≤ later → (slots : List sessions.Slot
 before_later at later h [] all = tt
 before_later at later h (slot ∷ slots) all = (one_later at later h slot.present all.0, before_later at later h slots all.1)
 
--- True if each of these session events has the timestamp `at`.
+-- True if each of these Modbus session events has the timestamp `at`.
 abbrev AtMoment : ℕ → List session.Event → Type 0
 AtMoment at [] = Unit {0}
 AtMoment at (happening ∷ later) = (session.moment_of happening ≡ at) × AtMoment at later
@@ -128,7 +128,8 @@ all_before (Fed at e ∷ past) accepted =
     (before_later (latest_of past) at (not_back past at e accepted.0.right) (slots_of past) (all_before past accepted.1))
     (added_before at (command_in e))
 
--- If an event is accepted next, then each earlier event of a session is at or before its timestamp.
+-- If an event is accepted next, then no earlier event of any Modbus session is later than this
+-- event.
 pub before_event : (past : History) (at : ℕ) (e : Event) → AreAccepted past → refusal_of past at e ≡ None → AllBefore at (slots_of past)
 before_event past at e accepted none =
     before_later (latest_of past) at (not_back past at e none) (slots_of past) (all_before past accepted)

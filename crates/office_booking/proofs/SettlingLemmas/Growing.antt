@@ -1,4 +1,5 @@
--- Properties of a pending write to which records are added one by one.
+-- Properties of a pending write: records of an event that are added one by one, and not yet in the
+-- store.
 use Rattle.std.proofs.Common.{◌≡◌, ℕ, ◌+◌, ◌<◌, ◌==◌, Bool, true, false, cond, List, [], ◌∷◌, ◌++◌, reverse, take, length, get_or, refl, sym, ap, subst, ◌∙◌, Option, Some, None, append_assoc}
 use Rattle.std.specs.List.{find, filter}
 use Rattle.std.specs.Option.{option_map, option_to_list}
@@ -34,7 +35,7 @@ use Rattle.office_booking.specs.Settling.Drafts.{so_far, HasMore, IsReported, Ar
 use Rattle.office_booking.proofs.SettlingLemmas.Reported.{SkipsReported, reported_skipped, reported_last}
 use Rattle.office_booking.proofs.SettlingLemmas.ReadRegisters.{with_read, reported_read}
 
--- True if lawful records stay lawful after the records that `more` added are removed.
+-- True if the records still follow the rules after the records that `more` added are removed.
 abbrev pub KeepsLawful : (List Fact → List Fact) → Type 0
 KeepsLawful more = (facts : List Fact) → AreLawful (more facts) → AreLawful facts
 
@@ -75,12 +76,12 @@ pub before_outcomes : (at : ℕ) (settled : List (ℕ × session.Settlement)) �
 before_outcomes at [] facts h = h
 before_outcomes at (settled ∷ later) facts h = before_outcome at settled facts (before_outcomes at later (with_outcome at settled facts) h)
 
--- If a pending write is unchanged, then it has no added records and no added notifications.
+-- An unchanged pending write has gained no records and no notifications.
 pub stays : (holds : List Fact → Type 0) (clean : Type 0) (draft : PendingWrite) → Grows holds clean draft draft (λ facts. facts) (λ facts. [])
 stays holds clean draft = λ recorded h c reported lawful. record { facts = refl; notes = sym (append-nil draft.notes.items); reported = reported }
 
--- If given records and notifications were added to a pending write, then equal records and
--- notifications were also added.
+-- If given records and notifications were added to a pending write, then the addition may also be
+-- described by equal records and notifications.
 pub grows_like : (holds : List Fact → Type 0) (clean : Type 0) (old new : PendingWrite) (f g : List Fact → List Fact) (n m : List Fact → List Note)
     → ((facts : List Fact) → g facts ≡ f facts) → ((facts : List Fact) → m facts ≡ n facts) → Grows holds clean old new f n → Grows holds clean old new g m
 grows_like holds clean old new f g n m same_facts same_notes on = λ recorded h c reported lawful.
@@ -108,8 +109,8 @@ grows_then holds mid clean later old between new f g n m kept cleaner before fir
       reported = two.reported;
     }
 
--- If one record and its notification are added to a pending write, then the earlier records and
--- notifications are unchanged.
+-- If one record and its notification are appended to a pending write, then the pending write has
+-- gained exactly these two.
 pub one_added : (holds : List Fact → Type 0) (clean : Type 0) (old new : PendingWrite) (x : Fact) (y : Note) → IsReported x
     → HasMore old new x y → Grows holds clean old new (λ facts. x ∷ facts) (λ facts. y ∷ [])
 one_added holds clean old new x y is more = λ recorded h c reported lawful.
@@ -123,8 +124,8 @@ reported_reading : (meter : List ℕ) (poll : ℕ) (reading : Reading) (verdict 
 reported_reading meter poll reading (Accepted rolls step) = refl
 reported_reading meter poll reading (Held cause) = tt
 
--- If an accounting register has a reading, then one record and one notification are added to the
--- pending write.
+-- If a read covers an accounting register with an open meter, then the meter's reading adds one
+-- record and one notification to the pending write.
 pub read_at : (holds : List Fact → Type 0) (clean : Type 0) (at : ℕ) (poll : Poll) (words : List ℕ) (register : Register) (old new : PendingWrite) (row : Installation)
     → is_read_by poll.span register ≡ true
     → ((recorded : List Fact) → holds recorded → clean → AreReported old.facts.items → AreLawful (so_far old recorded) → Some row ≡ open_at (so_far old recorded) register.name)

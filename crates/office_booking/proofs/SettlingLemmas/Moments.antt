@@ -1,4 +1,4 @@
--- Proof that no event of a session in memory is later than the next accepted event.
+-- Proof that no event of a Modbus session in memory is later than the next accepted event.
 use Rattle.std.proofs.Common.{ℕ, List, [], ◌∷◌}
 use Rattle.office_events.specs.declared.events.Event.{Event}
 use Rattle.office_rules.specs.Sessions as sessions
@@ -16,8 +16,8 @@ kept_before at (k ∷ kept) [] keeps all = absurd keeps
 kept_before at (k ∷ kept) (slot ∷ slots) keeps all =
     (record { keeps = keeps.0; before = all.0 }, kept_before at kept slots keeps.1 all.1)
 
--- If an event is accepted next, then each slot in memory agrees with its device, and its session
--- has no later event.
+-- If an event is accepted next, then each slot in memory agrees with its device, and its Modbus
+-- session has no later event.
 pub reaches_all : (past : History) (kept : List Slot) (at : ℕ) (e : Event) → IsNext past kept at e → MayReachAll at kept (slots_of past)
 reaches_all past kept at e next =
     kept_before at kept (slots_of past) next.keeps (before_event past at e next.is_past.accepted next.accepted)

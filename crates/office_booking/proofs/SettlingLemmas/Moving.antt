@@ -27,7 +27,8 @@ moves_nothing old facts known none =
       goes = record { clean = λ clean. clean; faults = refl; zone = refl };
     }
 
--- True if the store's records, followed by the records `facts`, are the lawful records `later`.
+-- True if the store's records, followed by the records `facts`, are the records `later`, and follow
+-- the rules (`AreLawful`).
 abbrev pub Leads : Ledger → (clean : Type 0) → (facts known later : List Fact) → Type 0
 Leads old clean facts known later = old.holds known → clean → (with_facts facts known ≡ later) × AreLawful (with_facts facts known)
 

@@ -1,4 +1,5 @@
--- Properties of an installed meter's state after the records of a pending write.
+-- Properties of a meter's state after the records of a pending write, which are not yet in the
+-- store.
 use Rattle.std.proofs.Common.{◌≡◌, ℕ, ◌+◌, ◌<◌, Bool, true, false, cond, List, [], ◌∷◌, ◌++◌, reverse, take, length, get_or, refl, sym, ap, subst, ◌∙◌, Option, Some, None, suc, arith}
 use Rattle.std.specs.List.{cons_option, find, Contains}
 use Rattle.std.specs.Option.{option_map, option_and_then}
@@ -63,7 +64,8 @@ reading_entered laws o lines kind.Closing e is fits account low = absurd (cc)
 reading_entered laws o lines kind.Reset e is fits account low = absurd (cc)
 reading_entered laws o lines kind.Rescale e is fits account low = absurd (cc)
 
--- If a pending write has a reading, then only the installation of the reading's meter advances.
+-- If an accepted reading is added to a pending write, then only the state of the reading's meter
+-- advances.
 booked_goes_on : Laws → (facts : List Fact) (o : Opening) (b : BookedEntry) (same_meter : Bool) → same b.meter o.meter ≡ same_meter
     → b.kind ≡ kind.Reading → LineFits facts b.meter (journal.Entered b.kind b.entry) → AreLawful facts → IsRecorded facts o
     → (installation_of facts o).last.raw < o.range
@@ -105,8 +107,7 @@ goes_on laws (fact.Poll poll) facts o reported h recorded low = absurd reported
 goes_on laws (fact.Outcome ended) facts o reported h recorded low = refl
 goes_on laws (fact.Reply reply) facts o reported h recorded low = absurd reported
 
--- True if `following` is the state of the installation after the first `i` records of a pending
--- write.
+-- True if `following` is the state of the meter after the first `i` records of a pending write.
 abbrev pub StandsAfterFirst : Installation → List Fact → ℕ → Installation → Type 0
 StandsAfterFirst row facts i following = (known : List Fact) → AreReported facts → AreLawful (reverse facts ++ known)
     → IsIn known row → following ≡ installation_of (reverse (take i facts) ++ known) row.opening
@@ -162,8 +163,8 @@ none_open facts known register reported none =
     none_by None h = refl
     none_by (Some opening) h = absurd (cc)
 
--- After a pending write, the open installation of an accounting register equals the installation in
--- the store, advanced by the pending records.
+-- After a pending write, the state of the open meter at an accounting register is its state in the
+-- store, advanced by the pending records.
 found_open : (facts known : List Fact) (register : List ℕ) (row new : Installation) (found : Option Opening) → AreReported facts → AreLawful (reverse facts ++ known)
     → IsAfterFacts row facts new → installed_at known register ≡ found → Some row ≡ option_map (installation_of known) found
     → if_open new ≡ open_at (reverse facts ++ known) register

@@ -51,12 +51,14 @@ pub reported_last : (facts : List Fact) (x : Fact) → AreReported facts → IsR
 reported_last [] x reported is = (is, tt)
 reported_last (f ∷ facts) x reported is = (reported.0, reported_last facts x reported.1 is)
 
--- If a list of records is lawful, then its earlier records are lawful without the later ones.
+-- If a list of records follows the rules (`AreLawful`), then its earlier records alone follow the
+-- rules.
 pub lawful_before : (new facts : List Fact) → AreLawful (new ++ facts) → AreLawful facts
 lawful_before [] facts h = h
 lawful_before (x ∷ new) facts h = lawful_before new facts h.1
 
--- If all records of a pending write are lawful, then its first `i` records are lawful.
+-- If all records of a pending write follow the rules (`AreLawful`), then its first `i` records
+-- follow the rules.
 pub lawful_first : (facts known : List Fact) (i : ℕ) → AreLawful (reverse facts ++ known) → AreLawful (reverse (take i facts) ++ known)
 lawful_first facts known i lawful =
     lawful_before (reverse (drop i facts)) (reverse (take i facts) ++ known)

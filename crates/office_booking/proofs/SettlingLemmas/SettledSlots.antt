@@ -1,4 +1,5 @@
--- Properties of the slots while a device event is applied to them one by one.
+-- Properties of the slots (devices with their connections) while a device event is applied to them
+-- one by one.
 use Rattle.std.proofs.Common.{◌≡◌, ℕ, ◌+◌, ◌<◌, ◌≤◌, List, [], ◌∷◌, ◌++◌, length, take, get_or, map, slice_set, refl, sym, ap, ◌∙◌, subst, arith, zero, suc, append_assoc, add-one}
 use Rattle.std.proofs.lemmas.List.{append-nil}
 use Rattle.office_events.specs.declared.facts.Fact.{Fact}
@@ -14,7 +15,7 @@ use Rattle.office_booking.specs.Sessions.Keeping.{KeepsSlot, KeepsSlots}
 use Rattle.office_booking.proofs.SettlingLemmas.Growing.{grows_like, grows_then, before_outcomes}
 use Rattle.office_booking.specs.Settling.Settling.{MayReach, MayReachAll, SettleNothing}
 
--- True if the event was applied to the first `i` slots, and the other slots are unchanged.
+-- True if the event was applied to the first `i` device slots, and the other slots are unchanged.
 abbrev pub FirstReached : (number at : ℕ) → Event → ℕ → List Slot → List sessions.Slot → Type 0
 FirstReached number at e zero now kept = MayReachAll at now kept
 FirstReached number at e (suc i) [] [] = Unit {0}
@@ -22,7 +23,7 @@ FirstReached number at e (suc i) (k ∷ ks) (l ∷ ls) = KeepsSlot k (slot_after
 FirstReached number at e (suc i) [] (l ∷ ls) = ⊥
 FirstReached number at e (suc i) (k ∷ ks) [] = ⊥
 
--- The slot with index `i`, and the effect of the event on this slot.
+-- The device slot with index `i`, and the effect of the event on this slot.
 pub record NextSlot (number at : ℕ) (e : Event) (i : ℕ) (now : List Slot) (kept : List sessions.Slot) (x : Slot) : Type 0 where
   pub slot : sessions.Slot
   pub here : MayReach at x slot
@@ -73,8 +74,8 @@ keeps_all number at e (suc i) (k ∷ ks) (l ∷ ls) less keeps =
     let rest = keeps_all number at e i ks ls (omega arith) keeps.1 in
     ((keeps.0, rest.0), ap (λ xs. l ∷ xs) rest.1)
 
--- If an event was applied to `i` slots and to one more slot, then it was applied to the first `i +
--- 1` slots.
+-- If an event was applied to `i` device slots and to one more slot, then it was applied to the
+-- first `i + 1` slots.
 pub goes_further : (holds mid : List Fact → Type 0) (clean later same changed : Type 0) (number at : ℕ) (e : Event) (i : ℕ) (now : List Slot) (kept : List sessions.Slot)
     (first draft new : PendingWrite) (x y : Slot) → i < length now → x ≡ get_or now i x
     → FirstReached number at e i now kept

@@ -1,4 +1,5 @@
--- Properties of the loop over the outcomes of one event on a session.
+-- Properties of the loop over the outcomes of polls that one event causes on a session, the
+-- connection of a device.
 use Rattle.std.proofs.Common.{◌≡◌, ℕ, ◌+◌, ◌-◌, ◌≤◌, inl, inr, List, [], ◌∷◌, ◌++◌, length, take, drop, refl, sym, ap, ◌∙◌, subst, arith, Option, Some, None, append_assoc, length-drop}
 use Rattle.std.proofs.lemmas.List.{append-nil, take_rest, take_all, take-append-drop}
 use Rattle.std.proofs.Math.Seq.{take-add}
@@ -26,8 +27,9 @@ notes-append at (x ∷ xs) ys facts =
     ap (λ zs. outcome_notes at x facts ++ zs) (notes-append at xs ys (with_outcome at x facts))
     ∙ sym (append_assoc (outcome_notes at x facts) _ _)
 
--- The state of the loop over the outcomes of an event. The session is still processing the event,
--- and the pending write has the outcomes so far. If no outcome was found, nothing has changed.
+-- The state of the loop over the outcomes of an event. The Modbus session is still processing the
+-- event, and the pending write has the outcomes so far. If no outcome was found, nothing has
+-- changed.
 pub record Turned (holds : List Fact → Type 0) (clean unchanged : Type 0) (old now : State) (happening : Event) (call : Call) (first draft : PendingWrite) : Type 0 where
   pub call_is : IsCall call now (moment_of happening)
   pub timeout : now.timeout ≡ old.timeout
@@ -49,8 +51,8 @@ begins holds clean unchanged old happening call draft rests before same = record
   quiet = λ none. same;
 }
 
--- The result of one call of the session for an event: an outcome of a poll, or the end of the
--- event.
+-- The result of one call of the Modbus session for an event: an outcome of a poll, or the end of
+-- the event.
 pub record Called (mid new : State) (before after : Event) (settled : Option (ℕ × Settlement)) : Type 0 where
   pub timeout : new.timeout ≡ mid.timeout
   pub window : new.window ≡ mid.window
@@ -108,7 +110,8 @@ ends_quietly holds clean unchanged old between new before after call first draft
     ((called.reported none.events t.reported (t.within none.events none.stands)).1
     ∙ ap (λ n. outcomes_at n none.events after) (called.timeout ∙ t.timeout) ∙ none.nothing)
 
--- If a call of the session returned an outcome, then the event ends a poll.
+-- If a call of the Modbus session returned an outcome, then the event cannot be one that ends no
+-- poll.
 pub is_loud : {P : Type 0} (holds : List Fact → Type 0) (clean unchanged : Type 0) (old between new : State) (before after : Event) (call : Call) (first draft : PendingWrite)
     (o : ℕ × Settlement) → Turned holds clean unchanged old between before call first draft → Called between new before after (Some o) → SettlesNothing old after → P
 is_loud holds clean unchanged old between new before after call first draft o t called none =

@@ -1,4 +1,5 @@
--- Properties of a slot, if a device event does not concern the slot's device.
+-- Properties of a slot (a device with its connection), if a device event does not concern the
+-- slot's device.
 use Rattle.std.proofs.Common.{◌≡◌, ℕ, Bool, true, false, List, [], ◌∷◌, Option, Some, None, is_some, refl, sym, ap, subst, ◌∙◌}
 use Rattle.poll_core.specs.Settling as session
 use Rattle.office_events.specs.declared.facts.Device.{Device}
@@ -21,7 +22,8 @@ none_where : (b : Bool) (x : session.Event) → false ≡ is_some (if b then Som
 none_where true x h = absurd (let f : false ≡ true = h in cc)
 none_where false x h = refl
 
--- If a device event does not concern a device, then it causes no session event at the device.
+-- If a device event does not concern a device, then it causes no Modbus session event at the
+-- device.
 nothing_on : (number at : ℕ) (e : Event) (device : Device) (before : List session.Event) → IsSettling e → false ≡ is_some (happening_on at e device)
     → reaches number at [] e device before ≡ []
 nothing_on number at (event.Connected given) device before settling none = refl

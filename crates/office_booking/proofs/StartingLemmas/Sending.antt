@@ -1,4 +1,5 @@
--- Properties of the reads that are started on a session one by one.
+-- Properties of the Modbus reads that are started one by one on a session, the connection of a
+-- device.
 use Rattle.std.proofs.Common.{◌≡◌, ℕ, suc, ◌+◌, ◌*◌, ◌%◌, ◌≤◌, ◌<◌, min, Bool, true, false, List, [], ◌∷◌, ◌++◌, map, length, take, drop, get_or, refl, sym, ap, subst, ◌∙◌, inl, inr, if◌then◌else◌, Option, Some, None, append_assoc, arith, is_none, nat_lt}
 use Rattle.std.proofs.Math.Seq.{drop-cons}
 use Rattle.std.proofs.lemmas.Bool.{le-ltb}
@@ -26,8 +27,8 @@ use Rattle.office_booking.specs.declared.sessions.slots.Slot.{Slot}
 use Rattle.office_booking.specs.Starting.Starts.{IsBefore, sent_from, slot_sent}
 use Rattle.office_rules.proofs.Rounds.{round_count}
 
--- The count of reads that can be started on a session equals the length of the list of started
--- reads.
+-- The count of reads that can be started on a Modbus session equals the length of the list of
+-- started reads.
 pub sends_count : (number at : ℕ) (device : Device) (events : List session.Event) (spans : List ReadSpan) (id count window n : ℕ)
     → IsReady device.timeout device.window events id count → count ≤ window → window ≡ device.window
     → n ≡ min (min count device.window) (length spans) → n ≡ length (sends_on number at device events spans)
@@ -43,8 +44,8 @@ ready_on device kept events id count keeps ready =
     subst (λ t. IsReady t device.window events id count) keeps.timeout
     (subst (λ w. IsReady kept.timeout w events id count) keeps.window ready)
 
--- The state after `i` reads. These reads were started on the session, and the remaining reads may
--- follow.
+-- The state after the first `i` of the reads that the session can start. The list `made` has these
+-- reads, and the other reads may follow.
 pub record SoFar (number at : ℕ) (device : Device) (events : List session.Event) (spans : List ReadSpan) (i : ℕ) : Type 0 where
   pub made : List Send
   pub long : length made ≡ i
@@ -62,8 +63,8 @@ begin number at device events spans = record {
       ∙ ap (λ (es : List session.Event). sends_on (number + 0) at device es spans) (sym (append-nil events));
 }
 
--- The effect of starting one more read on the session. The read can be started, and its poll is the
--- next poll.
+-- The effect of starting one more read on the Modbus session. The read can be started, and its poll
+-- is the next poll.
 pub record Next (number at : ℕ) (device : Device) (here : List session.Event) (span : ReadSpan) (rest : List ReadSpan) : Type 0 where
   pub can : is_startable device (Some here) ≡ true
   pub first : sends_on number at device here (span ∷ rest)
@@ -90,7 +91,7 @@ starts_further at device events made send =
     ∙ ap (λ (es : List session.Event). events ++ es) (sym (map-append (start_by at device) made (send ∷ [])))
 
 -- The condition for starting one more read. A read can be started if fewer reads were started than
--- the session allows.
+-- the Modbus session allows.
 pub record Further (number at : ℕ) (device : Device) (events : List session.Event) (spans : List ReadSpan) (i : ℕ) (made : List Send) (span : ReadSpan) : Type 0 where
   pub can : is_startable device (Some (events ++ map (start_by at device) made)) ≡ true
   pub so_far : SoFar number at device events spans (i + 1)
@@ -153,8 +154,8 @@ id_after at device events made send id next is goes =
     ∙ sym (next_id-start (events ++ map (start_by at device) made) at send.number device.unit (span_view send.span))
     ∙ ap session.next_id (starts_further at device events made send)
 
--- If the session allows a start at its latest timestamp, then it allows the start at each later
--- timestamp.
+-- The reason why a session cannot start a poll, or `None`. If a start is allowed at the session's
+-- latest timestamp, then it is allowed at each later timestamp.
 abbrev fault_by : (full busy back over : Bool) → Option StartFault
 fault_by full busy back over =
     if full then Some WindowFull else if busy then Some IdBusy else if back then Some ClockBack else if over then Some Closed else None
@@ -171,7 +172,8 @@ pub start_passes : (device : Device) (events : List session.Event) (moment : ℕ
 start_passes device events moment later can =
     none_by _ _ (nat_lt (last_moment events) (last_moment events)) (nat_lt moment (last_moment events)) _ can (le-ltb moment (last_moment events) later)
 
--- After reads are started at a timestamp, no event of the session is later than this timestamp.
+-- After reads are started at a timestamp, no event of the Modbus session is later than this
+-- timestamp.
 pub last_more : (at : ℕ) (device : Device) (events : List session.Event) (made : List Send) (send : Send)
     → last_moment (events ++ map (start_by at device) (made ++ send ∷ [])) ≤ at
 last_more at device events made send =
@@ -201,7 +203,7 @@ polls_after at number id device here span made facts more one is next =
     ∙ ap (λ (n : ℕ). map (poll_by at device) made ++ poll_by at device (record { number = number; id = n; span = span }) ∷ []) next
     ∙ sym (map-append (poll_by at device) made ((record { number = number; id = session.next_id here; span = span }) ∷ []))
 
--- After one more read is started, the session in memory agrees with the session's events.
+-- After one more read is started, the Modbus session in memory agrees with the session's events.
 pub keeps_after : (at : ℕ) (device : Device) (events : List session.Event) (made : List Send) (send : Send) (kept new : State)
     → KeepsSession device kept (events ++ map (start_by at device) made) → (new.timeout ≡ kept.timeout) × (new.window ≡ kept.window)
     → Stands new ((events ++ map (start_by at device) made) ++ start_by at device send ∷ [])
@@ -218,7 +220,8 @@ pub room_after : (i len : ℕ) (out bytes more : List ℕ) → length out ≤ i 
 room_after i len out bytes more room size long is =
     omega (arith, room, size, ap length is, length-append out (take len bytes), length-take-le len bytes (omega (arith, size, long)))
 
--- After reads are started on a slot's session, the events of the session include these reads.
+-- After reads are started on a device slot's Modbus session, the events of the session include
+-- these reads.
 sent_events : (at : ℕ) (slot : sessions.Slot) (before : List session.Event) (sends : List Send)
     → with_happenings slot before (map (start_by at slot.device) sends)
     ≡ record { device = slot.device; ended = slot.ended; present = Some (before ++ map (start_by at slot.device) sends) }

@@ -10,8 +10,8 @@ use Rattle.office_events.specs.declared.facts.Fact.TheVariants as fact
 use Rattle.office_rules.specs.Sessions as sessions
 use Rattle.office_rules.specs.History as history
 
--- True if executing the command adds the records `facts` to the records `known`, for any slots and
--- any next poll number.
+-- True if executing the command adds the records `facts` to the records `known`, for any device
+-- slots and any next poll number.
 abbrev pub AreAdded : (at : ℕ) → Command → (known facts : List Fact) → Type 0
 AreAdded at c known facts =
     (number : ℕ) (slots : List sessions.Slot) → facts ≡ history.added_by number at slots known c

@@ -36,9 +36,9 @@ abbrev pub replies_by : (at : ℕ) → Event → List Fact
 replies_by at (event.Asked asked) = reply_by at asked
 replies_by at _ = []
 
--- The guarantees of writing records to the store, if the resulting records are lawful. On `Ok` the
--- store has all of the records. On an error the store has none of them, but a crash may leave all
--- of them in the store.
+-- The guarantees of writing records to the store, if the resulting records follow the rules
+-- (`AreLawful`). On `Ok` the store has all of the records. On an error the store has none of them,
+-- but a crash may leave all of them in the store.
 pub record Tries (old new : Ledger) (facts : List Fact)
     (result : Result (Unit {0}) BooksFault) : Type 0 where
   pub booked : (known : List Fact) → old.holds known → AreLawful (with_facts facts known)
@@ -55,15 +55,16 @@ pub record Tries (old new : Ledger) (facts : List Fact)
       → OnErr result (new.may_leave left ⊎ new.may_leave (left ++ with_facts facts known ∷ []))
   pub goes : LedgerAfterCalls old new result
 
--- The device's slot after the command's reads are started on its session. A slot without a session
--- is unchanged.
+-- The device's slot after the command's reads are started on its session (connection). A slot
+-- without a session is unchanged.
 abbrev pub started_on : (number at : ℕ) → List ReadSpan → Command → sessions.Slot
     → Option (List session.Event) → sessions.Slot
 started_on number at spans c slot None = slot
 started_on number at spans c slot (Some before) =
     with_happenings slot before (starts_by number at spans (Some c) slot.device before)
 
--- The device's slot after the command. The slot's session has the reads that the command starts.
+-- The device's slot after the command. The slot's Modbus session has the reads that the command
+-- starts.
 abbrev pub slot_obeyed : (number at : ℕ) → List ReadSpan → Command → sessions.Slot → sessions.Slot
 slot_obeyed number at spans c slot = started_on number at spans c slot slot.present
 
@@ -80,7 +81,7 @@ facts_obeyed at slots known c replies =
     with_facts (added_by (next_poll known) at slots known c ++ replies) known
 
 -- True if executing the command changes the store from its earlier records to the records after the
--- command, if the later records are lawful.
+-- command. The premise is that the later records follow the rules (`AreLawful`).
 abbrev pub MovesOnBy : {T : Type 0} → (at : ℕ) → Command → (replies : List Fact)
     → (old new : Ledger) → Result T BooksFault → Type 0
 MovesOnBy at c replies old new result =
@@ -117,7 +118,7 @@ pub record Carries (old new : Ledger) (after : List Slot) (past : History) (at :
       done.outgoing ≡ outgoing_of (next_poll (facts_of past)) at e (slots_of past) (facts_of past))
 
 -- True if `Carries` holds for every accepted event that requests this command and has this stored
--- answer. `before` are the slots before the event.
+-- answer. `before` are the device slots before the event.
 abbrev pub CarriesOut : (old new : Ledger) → (before after : List Slot) → (at : ℕ) → Command
     → (replies : List Fact) → Result Done BooksFault → Type 0
 CarriesOut old new before after at c replies result =
@@ -126,26 +127,27 @@ CarriesOut old new before after at c replies result =
     → Carries old new after past at e result
 
 -- True if `Carries` holds for this event after every history that accepts the event and leads to
--- the slots `before`.
+-- the device slots `before`.
 abbrev pub CarriesEvent : (old new : Ledger) → (before after : List Slot) → (at : ℕ) → Event
     → Result Done BooksFault → Type 0
 CarriesEvent old new before after at e result =
     (past : History) → IsPast past → KeepsSlots before (slots_of past) → IsAccepted past at e
     → Carries old new after past at e result
 
--- The reads that the command starts on the session of the slot.
+-- The reads that the command starts on the Modbus session of the device slot.
 abbrev pub sends_by : (at : ℕ) → sessions.Slot → List Fact → Command → List sessions.Send
 sends_by at slot known c = starts.sends_of (next_poll known) at (spans_by known c) slot
 
--- The poll records of the reads that the command starts on the session of the slot.
+-- The poll records of the reads that the command starts on the Modbus session of the device slot.
 abbrev pub polls_by : (at : ℕ) → sessions.Slot → List Fact → Command → List Fact
 polls_by at slot known c = starts.polls_of (next_poll known) at (spans_by known c) slot
 
--- The bytes of the request frames for the reads that the command starts on the session of the slot.
+-- The bytes of the request frames for the reads that the command starts on the Modbus session of
+-- the device slot.
 abbrev pub frames_by : (at : ℕ) → sessions.Slot → List Fact → Command → List ℕ
 frames_by at slot known c = starts.frames_of (next_poll known) at (spans_by known c) slot
 
--- The slot after the command's reads are started on its session.
+-- The device slot after the command's reads are started on its Modbus session.
 abbrev pub slot_by : (at : ℕ) → sessions.Slot → List Fact → Command → sessions.Slot
 slot_by at slot known c = starts.slot_sent (next_poll known) at (spans_by known c) slot
 
@@ -155,8 +157,8 @@ abbrev pub facts_started : (at : ℕ) → sessions.Slot → List Fact → Comman
     → List Fact
 facts_started at slot known c replies = with_facts (polls_by at slot known c ++ replies) known
 
--- True if `so` holds for every slot that agrees with the slot `kept` in memory. The number of polls
--- in the records is at most the maximum.
+-- True if `so` holds for every device slot that agrees with the slot `kept` in memory. The premise
+-- is that the number of recorded polls is within its limit.
 abbrev pub WhereStarted : (kept : Slot) → (sessions.Slot → List Fact → Type 0) → Type 0
 WhereStarted kept so = (slot : sessions.Slot) (known : List Fact) → KeepsSlot kept slot
     → next_poll known ≤ MAX_POLLS + 1 → so slot known
@@ -167,16 +169,16 @@ abbrev pub start_answer : (at : ℕ) → sessions.Slot → List Fact → Command
 start_answer at slot known c =
     answer.Started (next_poll known) (length (sends_by at slot known c)) (reads_in_all known c)
 
--- True if a command that starts polls writes its poll records and the stored answer to its request,
--- if the resulting records are lawful.
+-- True if a command that starts polls writes its poll records and the stored answer to its request.
+-- The premise is that the resulting records follow the rules (`AreLawful`).
 abbrev pub BooksStart : (at : ℕ) → Command → (replies : List Fact) → (old new : Ledger)
     → Result Done BooksFault → sessions.Slot → (known : List Fact) → Type 0
 BooksStart at c replies old new result slot known =
     let later = facts_started at slot known c replies in
     AreLawful later → Moves old new known later result
 
--- True if after the command succeeds, the session of the slot has the polls that the command
--- started.
+-- True if after the command succeeds, the Modbus session of the device slot has the polls that the
+-- command started.
 abbrev pub StandsStarted : (at : ℕ) → Command → (old new : Ledger) → (after : Slot)
     → Result Done BooksFault → sessions.Slot → (known : List Fact) → Type 0
 StandsStarted at c old new after result slot known =

@@ -1,5 +1,5 @@
--- The relation between the slots in memory and the office's devices. Each device has one slot, in
--- the order in which the devices were added.
+-- The relation between the slots in memory and the office's devices. A slot is a device with its
+-- session, the state of its connection. The slots are in the order in which the devices were added.
 use Rattle.std.specs.Prelude.{◌≡◌, List, [], ◌∷◌, Option, Some, None}
 use Rattle.poll_core.specs.Settling as session
 use Rattle.poll_core.specs.Standing as standing
@@ -28,15 +28,15 @@ pub record KeepsSlot (kept : Slot) (slot : sessions.Slot) : Type 0 where
   pub device : kept.device ≡ slot.device
   pub session : KeepsPresent slot.device kept.session slot.present
 
--- True if each slot in memory agrees with the given slot at the same index.
+-- True if each device slot in memory agrees with the given slot at the same index.
 abbrev pub KeepsSlots : List Slot → List sessions.Slot → Type 0
 KeepsSlots [] [] = Unit {0}
 KeepsSlots (kept ∷ rest) (slot ∷ slots) = KeepsSlot kept slot × KeepsSlots rest slots
 KeepsSlots [] (slot ∷ slots) = ⊥
 KeepsSlots (kept ∷ rest) [] = ⊥
 
--- True if `result` equals the value of `says` for every list of slots that agrees with the slots in
--- memory.
+-- True if `result` equals the value of `says` for every list of device slots that agrees with the
+-- slots in memory.
 abbrev pub IsOfKept : {T : Type 0} → List Slot → T → (List sessions.Slot → T) → Type 0
 IsOfKept kept result says =
     (slots : List sessions.Slot) → KeepsSlots kept slots → result ≡ says slots

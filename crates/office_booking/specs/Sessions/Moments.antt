@@ -1,9 +1,9 @@
--- An upper bound on the timestamps of a session's events.
+-- An upper bound on the timestamps of a Modbus session's events.
 use Rattle.std.specs.Prelude.{ℕ, ◌≤◌, List, Option, Some, None}
 use Rattle.poll_core.specs.Settling as session
 use Rattle.poll_core.specs.Standing.{last_moment}
 
--- True if the device has no session, or no event of the session is later than `at`.
+-- True if the device has no Modbus session, or no event of the session is later than `at`.
 abbrev pub none_later : ℕ → Option (List session.Event) → Type 0
 none_later at None = Unit {0}
 none_later at (Some events) = last_moment events ≤ at

@@ -41,8 +41,9 @@ pub record IsAdded (known : List Fact) (old new : PendingWrite) (more : List Fac
   pub notes : new.notes.items ≡ old.notes.items ++ reports (so_far old known)
   pub reported : AreReported new.facts.items
 
--- True if the pending write gains the records `more` and the notifications `reports`. This is
--- stated only for lawful resulting records, and if no wrong result of the store went undetected.
+-- True if the pending write gains the records `more` and the notifications `reports`. The premises
+-- are that the rules accept the resulting records, and that no wrong result of the store went
+-- undetected.
 abbrev pub Grows : (holds : List Fact → Type 0) (clean : Type 0) (old new : PendingWrite)
     → (List Fact → List Fact) → (List Fact → List Note) → Type 0
 Grows holds clean old new more reports =

@@ -13,7 +13,8 @@ use Rattle.office_booking.specs.Sessions.Keeping.{KeepsSlots}
 use Rattle.office_books.specs.declared.faults.BooksFault.{BooksFault}
 use Rattle.office_books.specs.Ledgers.{Ledger, Moves}
 
--- True if the slots agree with the history `past`, and no reason to refuse the event applies.
+-- True if the device slots agree with the state after the accepted events `past`, and no reason to
+-- refuse the event applies.
 pub record IsNext (past : History) (slots : List Slot) (at : ℕ) (e : Event) : Type 0 where
   pub is_past : IsPast past
   pub keeps : KeepsSlots slots (slots_of past)

@@ -1,4 +1,4 @@
--- The polls that a device event ends, for each session of the office.
+-- The polls that a device event ends, for each session (connection of a device).
 use Rattle.std.specs.Prelude.{◌≡◌, ℕ, ◌≤◌, Bool, false, List, [], ◌∷◌, ◌++◌, Option, Some, None, Result, OnOk, if◌then◌else◌}
 use Rattle.poll_core.specs.Settling as session
 use Rattle.poll_core.specs.Standing.{State, Stands}
@@ -43,21 +43,22 @@ pub record MayReach (at : ℕ) (kept : Slot) (slot : sessions.Slot) : Type 0 whe
   pub keeps : KeepsSlot kept slot
   pub before : none_later at slot.present
 
--- True if `MayReach` holds for each slot in memory and the given slot at the same index.
+-- True if `MayReach` holds for each device slot in memory and the given slot at the same index.
 abbrev pub MayReachAll : ℕ → List Slot → List sessions.Slot → Type 0
 MayReachAll at [] [] = Unit {0}
 MayReachAll at (k ∷ kept) (slot ∷ slots) = MayReach at k slot × MayReachAll at kept slots
 MayReachAll at _ _ = ⊥
 
--- True if the event is not earlier than the session's last event, and ends no poll of the session.
+-- True if the event is not earlier than the Modbus session's last event, and ends no poll of the
+-- session.
 pub record SettlesNothing (kept : State) (happening : session.Event) : Type 0 where
   pub events : List session.Event
   pub stands : Stands kept events
   pub later : kept.last ≤ session.moment_of happening
   pub nothing : session.outcomes_at kept.timeout events happening ≡ []
 
--- The guarantees of passing an event to a session. The session has processed the event, and the
--- pending write has all outcomes and readings of the event.
+-- The guarantees of passing an event to a Modbus session. The session has processed the event, and
+-- the pending write has all outcomes and readings of the event.
 pub record ReportsSettled (holds : List Fact → Type 0) (clean : Type 0) (before after : State)
     (happening : session.Event) (first last : PendingWrite) : Type 0 where
   pub timeout : after.timeout ≡ before.timeout
@@ -86,24 +87,24 @@ ReportsReached old new before after None first last result =
 ReportsReached old new before after (Some happening) first last result =
     ReportsAll old new before after happening first last result
 
--- True if the event does not concern the session, or ends no poll of the session.
+-- True if the event does not concern the Modbus session, or ends no poll of the session.
 abbrev pub ReachesQuietly : State → Option session.Event → Type 0
 ReachesQuietly kept None = Unit {0}
 ReachesQuietly kept (Some happening) = SettlesNothing kept happening
 
--- True if the event concerns the session and ends the connection.
+-- True if the event concerns the Modbus session and closes it.
 abbrev pub ends_session : Option session.Event → Bool
 ends_session None = false
 ends_session (Some happening) = sessions.is_close happening
 
--- True if the event ends no poll on any of these slots.
+-- True if the event ends no poll on any of these device slots.
 abbrev pub SettleNothing : (number at : ℕ) → Event → List sessions.Slot → Type 0
 SettleNothing number at e [] = Unit {0}
 SettleNothing number at e (slot ∷ slots) =
     (settled_by number at e slot ≡ []) × SettleNothing number at e slots
 
--- True if the outcomes and readings that the event causes on this slot are added to the pending
--- write, for any next poll number.
+-- True if the outcomes and readings that the event causes on this device slot are added to the
+-- pending write, for any next poll number.
 abbrev pub AddsOfSlot : {T : Type 0} → (old new : Ledger) → (at : ℕ) → Event → Slot
     → (before after : PendingWrite) → Result T BooksFault → Type 0
 AddsOfSlot old new at e kept before after result =
@@ -111,8 +112,8 @@ AddsOfSlot old new at e kept before after result =
     → let outcomes = settled_by number at e stood in
     Adds old new before after result (with_outcomes at outcomes) (outcomes_notes at outcomes)
 
--- True if the outcomes and readings that the event causes on all slots are added to the pending
--- write, in order.
+-- True if the outcomes and readings that the event causes on all device slots are added to the
+-- pending write, in order.
 abbrev pub AddsOfSlots : {T : Type 0} → (old new : Ledger) → (at : ℕ) → Event → List Slot
     → (before after : PendingWrite) → Result T BooksFault → Type 0
 AddsOfSlots old new at e kept before after result =

@@ -21,21 +21,24 @@ use Rattle.office_rules.specs.Notes.{frame_of}
 abbrev pub sends_of : (number at : ℕ) → List ReadSpan → Slot → List Send
 sends_of number at spans slot = sends_at number at slot.device slot.present spans
 
--- The poll records of the reads that can be started on the session of the slot.
+-- The poll records of the reads that can be started on the Modbus session of the device slot.
 abbrev pub polls_of : (number at : ℕ) → List ReadSpan → Slot → List Fact
 polls_of number at spans slot = map (poll_by at slot.device) (sends_of number at spans slot)
 
--- The bytes of the request frames for the reads that can be started on the session of the slot.
+-- The bytes of the request frames for the reads that can be started on the Modbus session of the
+-- device slot.
 abbrev pub frames_of : (number at : ℕ) → List ReadSpan → Slot → List ℕ
 frames_of number at spans slot = flat_map (frame_of slot.device) (sends_of number at spans slot)
 
--- The slot after the given reads are started on its session. A slot without a session is unchanged.
+-- The device slot after the given reads are started on its Modbus session. A slot without a session
+-- is unchanged.
 abbrev pub sent_from : (at : ℕ) → Slot → List Send → Option (List session.Event) → Slot
 sent_from at slot sends None = slot
 sent_from at slot sends (Some before) =
     with_happenings slot before (map (start_by at slot.device) sends)
 
--- The slot after the given reads are started on its session, as many as the session allows.
+-- The device slot after the given reads are started on its Modbus session, as many as the session
+-- allows.
 abbrev pub slot_sent : (number at : ℕ) → List ReadSpan → Slot → Slot
 slot_sent number at spans slot = sent_from at slot (sends_of number at spans slot) slot.present
 
@@ -47,7 +50,7 @@ CountsSends device kept spans count =
     → count ≡ length (sends_on number at device events spans)
 
 -- True if a successful result equals the poll records of the reads that can be started on the
--- session.
+-- Modbus session.
 abbrev pub GivesPolls : (device : Device) (kept : State) → (number at : ℕ) → List ReadSpan
     → Result (Vec Fact Global) AllocError → Type 0
 GivesPolls device kept number at spans result =
@@ -62,13 +65,13 @@ WhereSent device kept number at spans so =
     (events : List session.Event) → KeepsSession device kept events → last_moment events ≤ at
     → so events (sends_on number at device events spans)
 
--- True if the session's state equals the state after `events` and after the start of the given
--- reads at timestamp `at`.
+-- True if the Modbus session's state equals the state after `events` and after the start of the
+-- given reads at timestamp `at`.
 abbrev pub KeepsStarts : (device : Device) (at : ℕ) (kept : State) → List session.Event → List Send
     → Type 0
 KeepsStarts device at kept events sends =
     KeepsSession device kept (events ++ map (start_by at device) sends)
 
--- True if no event of the slot's session is later than `at`.
+-- True if no event of the device slot's Modbus session is later than `at`.
 abbrev pub IsBefore : ℕ → Slot → Type 0
 IsBefore at slot = none_later at slot.present

@@ -99,7 +99,7 @@ fn add_device<B: Books>(
     done
 }
 
-/// Executes a command that changes no slot: its records are written, and no frames are sent.
+/// Executes a command that changes no device slot: its records are written, and no frames are sent.
 fn note<B: Books>(
     alloc: Global,
     slots: &[Slot],
@@ -120,7 +120,7 @@ fn note<B: Books>(
     record(alloc, books, moment, command, reply)
 }
 
-/// Executes a command that starts polls on the session of the command's device.
+/// Executes a command that starts polls on the Modbus session of the command's device.
 fn start_at<B: Books>(
     alloc: Global,
     slots: &mut [Slot],

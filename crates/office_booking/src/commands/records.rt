@@ -1,4 +1,4 @@
-//! Writes the records of commands that change no existing slot.
+//! Writes the records of commands that change no existing device slot.
 ghost use Rattle.std.specs.Prelude.{◌≡◌, ◌++◌, [], false, List, Option, IfOk};
 ghost use Rattle.std.specs.Option.{option_to_list};
 ghost use Rattle.office_events.specs.declared.facts.Fact.{Fact};

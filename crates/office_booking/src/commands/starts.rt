@@ -1,4 +1,4 @@
-//! Executes the commands that start polls, on the session of the command's device.
+//! Executes the commands that start polls, on the Modbus session of the command's device.
 ghost use Rattle.std.specs.Prelude.{◌≡◌, ◌≤◌, true, OnErr};
 ghost use Rattle.std.specs.Option.{option_to_list};
 ghost use Rattle.office_rules.specs.Refusals.{is_start};
@@ -16,7 +16,8 @@ use office_events::{Answer, Command, Fact, MAX_POLLS};
 use poll_core::LAST_MOMENT;
 use std::alloc::Global;
 
-/// Records the polls that a command starts, and starts them on the session of the command's device.
+/// Records the polls that a command starts, and starts them on the Modbus session of the command's
+/// device.
 pub fn start<B: Books>(
     alloc: Global,
     slot: &mut Slot,

@@ -1,4 +1,5 @@
-//! Opens an office: records each pending poll as lost, and creates slots without sessions.
+//! Opens an office: records each pending poll as lost, and creates device slots without Modbus
+//! sessions.
 ghost use Rattle.std.specs.Prelude.{◌≡◌, ◌≤◌, List, map, reverse, None, IfOk, IfSome, OnErr};
 ghost use Rattle.office_events.specs.declared.facts.Fact.{Fact};
 ghost use Rattle.office_rules.specs.Facts.{moment_limit, devices_in};
@@ -17,7 +18,7 @@ use office_rules::facts_are_lawful;
 use poll_core::{LAST_MOMENT, LostCause, Outcome};
 use std::alloc::{AllocError, Global};
 
-/// Returns a slot for the device, without a session.
+/// Returns a slot for the device, without a Modbus session.
 fn opened(device: &Device) -> Slot
     ensures { result ≡ opening.opened device.now }
 {
@@ -52,7 +53,7 @@ fn lost_facts(alloc: Global, moment: u64, polls: &[Poll]) -> Result<Vec<Fact>, A
     polls.iter().map(|poll| lost(moment, poll)).collect(alloc)
 }
 
-/// Returns a slot without a session for each device in the store.
+/// Returns a slot without a Modbus session for each device in the store.
 fn slots_in<B: Books>(alloc: Global, books: &mut B) -> Result<Vec<Slot>, BooksFault>
     ensures found { Finds (B.ledger books.old) (B.ledger books.new) result
         (λ known slots. slots.items ≡ map opening.opened (reverse (devices_in known))) }
@@ -98,8 +99,8 @@ pub fn opening_refusal<B: Books>(books: &mut B, moment: u64) -> Result<Option<Re
     Ok(None)
 }
 
-/// Records an acceptable opening of the office, and returns a slot without a session for each
-/// device.
+/// Records an acceptable opening of the office, and returns a slot without a Modbus session for
+/// each device.
 ///
 /// All pending polls are recorded as lost in one write. If no poll is pending, nothing is written.
 /// The slots are in the order in which the devices were added.

@@ -1,4 +1,5 @@
-//! Finds the slot of a device by the device's name, and checks whether the slot has a session.
+//! Finds the slot of a device by the device's name, and checks whether the slot has a Modbus
+//! session.
 ghost use Rattle.std.specs.Prelude.{◌≡◌, ◌<◌, length, IfSome, List, slice_get, is_some};
 ghost use Rattle.std.specs.Option.{option_and_then};
 ghost use Rattle.office_rules.specs.Facts as facts;

@@ -1,4 +1,4 @@
-//! Finds the state of an installed meter after the records of a pending write.
+//! Finds the state of a meter after the records of a pending write, which are not yet in the store.
 ghost use Rattle.std.specs.Prelude.{◌≡◌};
 ghost use Rattle.office_rules.specs.Meters.{open_at};
 ghost use Rattle.office_rules.specs.Ranges.{IsSound};
@@ -12,8 +12,8 @@ use office_books::{Books, BooksFault, after_entry};
 use office_events::{Fact, Installation, Name};
 use office_rules::{meters_are_kept, names_are_distinct};
 
-/// Returns the installation of a meter after one more record. The installation changes only if the
-/// record is an entry of its meter.
+/// Returns the state of a meter after one more record. The state changes only if the record is an
+/// entry of this meter.
 fn with_fact(row: &Installation, fact: &Fact) -> Installation
     requires { IsSound row.now }
     ensures sound { IsSound result }
@@ -28,7 +28,7 @@ fn with_fact(row: &Installation, fact: &Fact) -> Installation
     }
 }
 
-/// Returns the installation of a meter after all of the given records, in order.
+/// Returns the state of a meter after all of the given records, in order.
 fn with_facts(row: &Installation, facts: &[Fact]) -> Installation
     requires { IsSound row.now }
     ensures sound { IsSound result }
@@ -46,8 +46,8 @@ fn with_facts(row: &Installation, facts: &[Fact]) -> Installation
     following
 }
 
-/// Returns the open installation at an accounting register after the pending write's records, or
-/// `None` if no meter is open there.
+/// Returns the open meter at an accounting register, with its state after the pending write's
+/// records, or `None` if no meter is open there.
 pub fn open_installation<B: Books>(
     books: &mut B,
     draft: &PendingWrite,

@@ -27,7 +27,7 @@ fn connects(event: &Event, device: &Device) -> bool
     }
 }
 
-/// Returns true if the event concerns the session of this device.
+/// Returns true if the event concerns the Modbus session of this device.
 fn reaches(event: &Event, device: &Device) -> bool
     ensures { (at : ℕ) → result ≡ is_some (happening_on at event.now device.now) }
 {
@@ -52,7 +52,7 @@ fn connected(device: &Device) -> Slot
 }
 
 /// Applies an event to the slot of a device, if the event concerns this device. If the call fails,
-/// the slot has no session afterwards.
+/// the slot has no Modbus session afterwards.
 fn settle_slot<B: Books>(
     slot: &mut Slot,
     books: &mut B,
@@ -75,7 +75,8 @@ fn settle_slot<B: Books>(
         *slot = connected(&slot.device);
         return Ok(());
     }
-    // A session is large, so the sessions of devices that the event does not concern are not moved.
+    // A Modbus session is large, so the sessions of devices that the event does not concern are not
+    // moved.
     if !reaches(event, &slot.device) {
         return Ok(());
     }

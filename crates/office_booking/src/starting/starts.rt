@@ -27,7 +27,7 @@ fn count_on(kept: &Session, device: &Device, spans: &[ReadSpan]) -> usize
 }
 
 /// Returns the poll records of the given reads, from the first read, for as many reads as the
-/// session allows.
+/// Modbus session allows.
 fn poll_facts(
     alloc: Global,
     kept: &Session,
@@ -56,7 +56,7 @@ fn poll_facts(
 }
 
 /// Returns the poll records of the given reads, from the first read, for as many reads as the
-/// session allows.
+/// Modbus session allows.
 ///
 /// `number` is the number of the first poll.
 pub fn polls_on(
@@ -76,7 +76,8 @@ pub fn polls_on(
     }
 }
 
-/// Starts the given reads on the session, from the first read, as many as the session allows.
+/// Starts the given reads on the Modbus session, from the first read, as many as the session
+/// allows.
 fn start_each(
     kept: &mut Session,
     device: &Device,
@@ -104,8 +105,8 @@ fn start_each(
     outgoing
 }
 
-/// Starts the given reads, from the first read, as many as the session allows, and returns their
-/// request frames.
+/// Starts the given reads, from the first read, as many as the Modbus session allows, and returns
+/// their request frames.
 ///
 /// `number` is the number of the first poll.
 pub fn start_on(slot: &mut Slot, number: u64, moment: u64, spans: &[ReadSpan]) -> Outgoing

@@ -20,7 +20,8 @@ use Rattle.office_booking.specs.Sessions.Ranges.{IsInRange}
 use Rattle.office_core.specs.Refusing.Reasons.{arrival_of, request_arrival, speaks_against, refusal_under, IsWhy, IsWhyAmong, Befits}
 use Rattle.office_core.proofs.RefusingLemmas.AtMeters.{same_find, or_false}
 
--- If a refusal is correct for any devices, then it is correct for the devices of the store.
+-- If a refusal is correct for every list of devices, then it is correct for the devices of the
+-- office.
 pub among : (kept : List Slot) (arrival : Arrival) (c asked : Command) (facts : List Fact) (r : Result (Option Refusal) BooksFault) → asked ≡ c
     → IfOk r (IsWhy arrival c facts) → IfOk r (IsWhyAmong kept arrival asked facts)
 among kept arrival c asked facts (Ok r) is h = λ slots keeps. h slots ∙ ap (refusal_under slots facts arrival) (sym is)

@@ -1,5 +1,6 @@
--- Lemmas that a correction is refused if and only if its entry is refused at the latest meter of
--- the accounting register.
+-- Lemmas about corrections: resets, changes of scale, and other entries that a person makes. A
+-- correction is refused if and only if its entry is refused at the latest meter of the accounting
+-- register.
 use Rattle.std.proofs.Common.{◌≡◌, ℕ, Bool, true, false, cond, ◌||◌, List, [], ◌∷◌, Option, Some, None, is_some, nat_le, length, refl, sym, ap, ◌∙◌}
 use Rattle.std.specs.List.{find}
 use Rattle.std.specs.Option.{is_none, option_and_then}
@@ -127,8 +128,8 @@ limited false true faulty = refl
 limited false false true = refl
 limited false false false = refl
 
--- If another reason to refuse applies, then the limit on the number of meters does not change the
--- refusal.
+-- The limit on the number of meters is the last reason to refuse a command's entry. The refusal is
+-- the same if the office checks this limit only after all other reasons.
 pub room_last : (arrival : Arrival) (off_scale limits crowded : Bool) (row : Installation) (e : Entry)
     → or_limit crowded (entry_refusal arrival off_scale limits row e) ≡ entry_refusal arrival off_scale (limits || crowded) row e
 room_last arrival off_scale limits false row e =

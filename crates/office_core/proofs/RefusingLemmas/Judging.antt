@@ -1,5 +1,5 @@
--- Lemmas that the verdict on the next entry is the same with the meter's total energy as with the
--- energy before the entry. The exception is a total energy above its limit.
+-- Lemmas about the verdict on the entry after a voided entry. The verdict is the same with the
+-- meter's total energy as with the energy before the entry, unless the total exceeds its limit.
 use Rattle.std.proofs.Common.{◌≡◌, ◌⊎◌, ℕ, ◌+◌, ◌*◌, ◌≤◌, ◌<◌, Bool, true, false, List, [], ◌∷◌, refl, sym, ap, subst, ◌∙◌, inl, inr, Option, Some, None, is_some, arith, lt-ltb, ltb-true}
 use Rattle.std.specs.List.{find}
 use Rattle.std.specs.Option.{option_map, option_and_then}
@@ -85,7 +85,7 @@ module _ (before : Installation) (many : ℕ) (le : before.total ≤ many) where
   following None less = refl
   following (Some next) less = between next.entry less
 
--- If two entries are equal, then the verdicts on their voids are equal.
+-- If two entries are equal, then the verdicts on their voids (cancellations) are equal.
 pub judged_itself : (own found : Option EntryContext) → found ≡ own → IsJudgedAs own found
 judged_itself own found is = record { there = ap is_some is; voidable = ap is_not_voidable is; verdict = ap verdict_at is }
 
@@ -103,7 +103,7 @@ by_opening facts place None found is le less = judged_itself None found is
 by_opening facts place (Some o) found is le less =
     by_whole (option_map (place_in facts o) (row_at place (rows_of facts o))) found (installation_of facts o).total is (λ p at. le (installation_of facts o) p refl at) less
 
--- Voids of the entry from `entry_near` and of the entry from `entry` get the same verdict, unless
--- the total energy exceeds its limit.
+-- A void (cancellation) of an entry gets the same verdict with the lookup `entry_near`, which reads
+-- only nearby rows, as with the lookup `entry`. The exception is a total energy above its limit.
 pub judged_near : (facts : List Fact) (meter : List ℕ) (place : ℕ) (found : Option EntryContext) → ReportsNear facts meter place found → is_full found ≡ false → IsJudgedAs (entry_at facts meter place) found
 judged_near facts meter place found reported less = by_opening facts place (opening_of facts meter) found reported.near reported.within less

@@ -25,7 +25,7 @@ rolled_place last row = elim (cases_Bool (row.stands && is_reading row.kind)) [
   | inr h ↦ ap (λ (r : EntryRow). r.place) (cond-false _ _ _ h)
 ]
 
--- After a void, the number of entry rows is unchanged.
+-- A void (cancellation) of an entry leaves the number of entry rows unchanged.
 void_length : (opening : Last) (place : ℕ) (rows : List EntryRow) → length (with_void opening place rows) ≡ length rows
 void_length opening place [] = refl
 void_length opening place (row ∷ rows) = elim (cases_Bool (row.place == place)) [
@@ -104,8 +104,8 @@ entry_there_of facts place (Some o) high =
     ∙ row_there place (rows_of facts o) (numbered (opened o) (journal_of facts o.meter))
     ∙ ap (λ b. b && nat_le place (length (rows_of facts o) + 1)) (le-leb 2 place high ∙ sym (le-leb 1 place (omega (arith, high))))
 
--- If a sequence number is at least 2, then an entry has this number if and only if the meter has
--- the number.
+-- A sequence number of at least 2 belongs to an entry if and only if `has_place` is true for the
+-- meter and the number.
 entry_there : (facts : List Fact) (given : Option (List ℕ)) (place : ℕ) → 2 ≤ place
     → is_some (option_and_then (λ m. entry_at facts m place) given) ≡ has_place facts place (option_and_then (opening_of facts) given)
 entry_there facts None place high = refl

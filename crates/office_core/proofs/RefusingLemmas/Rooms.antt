@@ -1,4 +1,4 @@
--- Lemmas about the number of polls that a session can start in a row.
+-- Lemmas about the number of polls that a Modbus session can start in a row.
 use Rattle.std.proofs.Common.{◌≡◌, ℕ, ◌+◌, ◌<◌, ◌≤◌, min, nat_lt, false, List, [], ◌∷◌, ◌++◌, length, get_or, refl, sym, ap, subst, ◌∙◌, inl, inr, Option, Some, None, append_assoc, arith}
 use Rattle.std.specs.Prelude.{IsSome}
 use Rattle.std.specs.List.{slice_get}
@@ -31,7 +31,7 @@ starts_more (s ∷ starts) send at device h = (h.0, starts_more starts send at d
 abbrev IsReadyFor : Device → List session.Event → (id count : ℕ) → Type 0
 IsReadyFor device events id count = IsReady device.timeout device.window events id count
 
--- If a session can start `count` polls, then it can start another poll as long as fewer than
+-- If a Modbus session can start `count` polls, then it can start another poll as long as fewer than
 -- `count` polls were started.
 startable : (device : Device) (events starts : List session.Event) (id count : ℕ) → IsReadyFor device events id count → AreStarts starts
     → length starts ≤ count → is_startable device (Some (events ++ starts)) ≡ nat_lt (length starts) count
@@ -46,8 +46,8 @@ startable device events starts id count ready are few =
           ∙ sym (le-ltb (length starts) count ge)
     ]
 
--- A session sends all of the given reads, or only the first reads if it cannot start the later
--- reads.
+-- A Modbus session sends all of the given reads, or only the first reads if it cannot start the
+-- later reads.
 sends_count : (at number : ℕ) (device : Device) (events starts : List session.Event) (id count : ℕ) (spans : List ReadSpan)
     → IsReadyFor device events id count → AreStarts starts → length starts ≤ count
     → length starts + length (sends_on number at device (events ++ starts) spans) ≡ min count (length starts + length spans)
@@ -86,8 +86,8 @@ room_after device events id count ready = record {
       omega (arith, all, same);
 }
 
--- The number of polls that a stored session can start equals the number of polls that its device
--- can start.
+-- The Modbus session that the office keeps and its model, the list of session events, can start the
+-- same number of polls in a row.
 pub room_kept : (device : Device) (kept : standing.State) (present : Option (List session.Event)) (id count : ℕ) → KeepsPresent device (Some kept) present
     → ((events : List session.Event) → standing.Stands kept events → IsReady kept.timeout kept.window events id count) → HasRoomOn device present count
 room_kept device kept None id count keeps ready = absurd keeps
@@ -97,8 +97,8 @@ room_kept device kept (Some events) id count keeps ready =
     (subst (λ w. IsReady device.timeout w events id count) this.window
     (subst (λ t. IsReady t kept.window events id count) this.timeout (ready events this.stands)))
 
--- The number of polls that a device can start equals the number of polls that the session in the
--- device's slot can start.
+-- The number of polls that a device can start equals the number of polls that the Modbus session in
+-- the device's slot can start.
 pub room_found : (given : Option (List ℕ)) (kept : List Slot) (slots : List sessions.Slot) (i : ℕ) (d : Slot) (count : ℕ)
     → ((device : Device) (present : Option (List session.Event)) → KeepsPresent device (get_or kept i d).session present → HasRoomOn device present count)
     → i < length kept → slot_of slots given ≡ slice_get slots i → KeepsSlots kept slots → HasRoomFor slots given count

@@ -15,11 +15,11 @@ use Rattle.office_rules.specs.Refusals.{reasons}
 use Rattle.office_core.specs.declared.refusing.arrivals.Arrival.{Arrival}
 use Rattle.office_core.specs.Refusing.Asking.{IsOfEvent}
 
--- True if the entry has this fault after the last entry of the installation.
+-- True if the entry has this fault after the last entry of the installed meter.
 abbrev pub entry_has_fault : Installation → Entry → TermFault → Bool
 entry_has_fault row e why = entering.refuses row.opening.range row.total row.last e why
 
--- True if the entry has this fault at the installation. False without an installation.
+-- True if the entry has this fault at the installed meter. False without a meter.
 abbrev pub is_faulty : Option Installation → Entry → TermFault → Bool
 is_faulty None e why = false
 is_faulty (Some row) e why = entry_has_fault row e why

@@ -1,4 +1,4 @@
--- The refusal of an event that the office computes from its slots and its store.
+-- The refusal of an event that the office computes from its device slots and its store.
 use Rattle.std.specs.Prelude.{◌≡◌, ℕ, List, Option, Result, IfOk, IfSome}
 use Rattle.office_events.specs.declared.events.Event.{Event}
 use Rattle.office_events.specs.declared.refusals.Refusal.{Refusal}
@@ -10,8 +10,8 @@ use Rattle.office_books.specs.declared.faults.BooksFault.{BooksFault}
 use Rattle.office_books.specs.Ledgers.{Ledger}
 use Rattle.office_core.specs.Refusing.Asking.{IsOfSession}
 
--- True if the result, computed from the slots and the store, is the refusal of the event. This
--- requires that no wrong result of the store went undetected.
+-- True if the result, computed from the device slots and the store, is the refusal of the event.
+-- This requires that no wrong result of the store went undetected.
 abbrev pub ReportsWhy : (old new : Ledger) → List Slot → (latest at : ℕ) → Event
     → Result (Option Refusal) BooksFault → Type 0
 ReportsWhy old new kept latest at e result =

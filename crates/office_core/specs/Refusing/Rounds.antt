@@ -1,4 +1,4 @@
--- The number of polls that a device's session can start in a row.
+-- The number of polls that a device's Modbus session can start in a row.
 use Rattle.std.specs.Prelude.{◌≡◌, ℕ, min, true, false, List, length, Option, Some, None, is_none, nat_lt}
 use Rattle.mb_wire.specs.declared.span.ReadSpan.{ReadSpan}
 use Rattle.poll_core.specs.Settling as session
@@ -14,7 +14,7 @@ pub record HasRoomFor (slots : List Slot) (device : Option (List ℕ)) (room : �
   pub sends : (number at : ℕ) (spans : List ReadSpan)
       → length (sends_from number at spans (slot_of slots device)) ≡ min room (length spans)
 
--- True if the session of the device can start exactly `room` polls in a row.
+-- True if the Modbus session of the device can start exactly `room` polls in a row.
 pub record HasRoomOn (device : Device) (present : Option (List session.Event))
     (room : ℕ) : Type 0 where
   pub starts : is_startable device present ≡ nat_lt 0 room

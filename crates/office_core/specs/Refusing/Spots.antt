@@ -1,5 +1,5 @@
--- The opening or the entry that a meter's journal has at a sequence number. The opening has number
--- 1, and the entries have the numbers from 2.
+-- The item that a meter's journal has at a sequence number. Number 1 is the opening, which installs
+-- the meter, and the entries have the numbers from 2.
 use Rattle.std.specs.Prelude.{◌≡◌, ℕ, Bool, true, false, not, List, Option, Some, None, is_some}
 use Rattle.std.specs.List.{find}
 use Rattle.std.specs.Option.{option_and_then}
@@ -29,13 +29,13 @@ entry_in spot.Nothing = None
 entry_in spot.Opening = None
 entry_in (spot.Entry place) = Some place
 
--- True if the entry after `found` would be rejected because the meter's total energy would exceed
--- its limit.
+-- True if a void (cancellation) of the entry `found` would let the next entry be rejected, because
+-- the meter's total energy would exceed its limit.
 abbrev pub is_full : Option EntryContext → Bool
 is_full found = is_held_for cause.TotalFull (verdict_at found)
 
--- True if voids of the two entries have the same result. Both entries exist or neither exists, both
--- can be voided or neither, and the next entry gets the same verdict.
+-- True if voids (cancellations) of the two entries have the same result. Both entries exist or
+-- neither exists, both can be voided or neither, and the next entry gets the same verdict.
 pub record IsJudgedAs (own found : Option EntryContext) : Type 0 where
   pub there : is_some found ≡ is_some own
   pub voidable : is_not_voidable found ≡ is_not_voidable own
@@ -57,8 +57,8 @@ abbrev pub IsSoundSpot : Spot → Type 0
 IsSoundSpot (spot.Entry place) = IsSound place.before
 IsSoundSpot _ = Unit {0}
 
--- True if this reason to refuse applies to a void of `found`, the journal's entry at a sequence
--- number.
+-- True if this reason to refuse applies to a void (cancellation) of `found`, the journal's entry at
+-- a sequence number.
 abbrev pub speaks_of_void : Arrival → Spot → Refusal → Bool
 speaks_of_void arrival found refusal.NotFound = is_nothing found
 speaks_of_void arrival found refusal.NotVoidable = is_not_voidable (entry_in found)
@@ -66,18 +66,19 @@ speaks_of_void arrival found (refusal.NotPlausible why) =
     is_held_for why (verdict_at (entry_in found))
 speaks_of_void arrival found why = comes_wrongly arrival why
 
--- The first reason to refuse a void of `found`, the journal's entry at a sequence number, or
--- `None`.
+-- The first reason to refuse a void (cancellation) of `found`, the journal's entry at a sequence
+-- number, or `None`.
 abbrev pub void_refusal : Arrival → Spot → Option Refusal
 void_refusal arrival found = find (speaks_of_void arrival found) reasons
 
--- True if this reason to refuse applies to a void of the entry, regardless of the timestamp of the
--- void.
+-- True if this reason to refuse applies to a void (cancellation) of the entry, regardless of the
+-- timestamp of the void.
 abbrev pub speaks_of_strike : EntryContext → Refusal → Bool
 speaks_of_strike place refusal.NotVoidable = is_not_voidable (Some place)
 speaks_of_strike place (refusal.NotPlausible why) = is_held_for why (verdict_at (Some place))
 speaks_of_strike place why = false
 
--- The first reason to refuse a void of the entry, or `None` if the entry can be voided.
+-- The first reason to refuse a void (cancellation) of the entry, or `None` if the entry can be
+-- voided.
 abbrev pub strike_refusal : EntryContext → Option Refusal
 strike_refusal place = find (speaks_of_strike place) reasons

@@ -20,7 +20,8 @@ fn moment(given: &GivenEntry) -> u64
     }
 }
 
-/// Returns the count that the counter would have without rollovers and without being set.
+/// Returns the count that the counter reached at the entry. For a `Step` the count includes the
+/// full range of each rollover. For a `Change` it is the count before the counter was set.
 fn reach(range: u64, given: &GivenEntry) -> u128
     requires { range ≤ MAX_RANGE }
     ensures value { result ≡ reached range (entry_of given.now) }

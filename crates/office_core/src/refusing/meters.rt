@@ -7,7 +7,7 @@ ghost use Rattle.office_books.specs.Ledgers.{Finds, OnlyReads};
 use office_books::{Books, BooksFault, meter_at};
 use office_events::{Installation, Name};
 
-/// Returns true if an installation exists and is open.
+/// Returns true if a meter was installed and is not closed.
 fn is_open(row: &Option<Installation>) -> bool
     ensures { result ≡ is_some (option_and_then if_open row.now) }
 {

@@ -20,7 +20,7 @@ use office_books::{Books, BooksFault, read_count_at};
 use office_events::{MAX_POLLS, Name, Refusal, StartPoll, StartRound, StoreCause};
 use poll_core::Session;
 
-/// Returns the number of polls that a session can start in a row, or 0 if the device has no
+/// Returns the number of polls that a Modbus session can start in a row, or 0 if the device has no
 /// session.
 fn session_room(kept: &Option<Session>) -> u64
     ensures { (device : Device) (present : Option (List session.Event))

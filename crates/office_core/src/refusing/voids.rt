@@ -1,4 +1,4 @@
-//! Finds the reason to refuse a void.
+//! Finds the reason to refuse a void, which cancels an entry of a meter.
 ghost use Rattle.std.specs.Prelude.{◌≡◌, IfOk, IfSome, Some};
 ghost use Rattle.office_events.specs.declared.commands.Command.TheVariants as command;
 ghost use Rattle.office_rules.specs.Meters.{entry_at};
@@ -25,8 +25,8 @@ enum Spot {
     Entry(EntryContext),
 }
 
-/// Returns true if the entry after `found` would be rejected because the meter's total energy would
-/// exceed its limit.
+/// Returns true if a void (cancellation) of the entry `found` would let the next entry be rejected,
+/// because the meter's total energy would exceed its limit.
 fn is_full(found: &Option<EntryContext>) -> bool
     requires { IfSome found.now (λ p. IsSound p.before) }
     ensures { result ≡ spots.is_full found.now }
@@ -41,9 +41,9 @@ fn is_full(found: &Option<EntryContext>) -> bool
     }
 }
 
-/// Returns the entry of a meter with sequence number `place`, or `None`. If the next entry gets the
-/// same verdict, the result may have the meter's total energy instead of the energy before the
-/// entry.
+/// Returns the entry of a meter with sequence number `place`, or `None`. The result may have the
+/// meter's total energy instead of the energy before the entry, if the verdict on a void is the
+/// same.
 ///
 /// The function first uses the meter's total energy from `entry_near`, which reads only the rows
 /// around the entry. It reads all rows only if the total energy might exceed its limit.
@@ -120,7 +120,8 @@ fn verdict(place: &EntryContext) -> Option<Verdict>
     }
 }
 
-/// Returns the first reason to refuse a void of the entry, or `None` if the entry can be voided.
+/// Returns the first reason to refuse a void (cancellation) of the entry, or `None` if the entry
+/// can be voided.
 fn refusal_of_voided_entry(place: &EntryContext) -> Option<Refusal>
     requires { IsSound place.now.before }
     ensures found { result ≡ spots.strike_refusal place.now }
@@ -136,8 +137,8 @@ fn refusal_of_voided_entry(place: &EntryContext) -> Option<Refusal>
     }
 }
 
-/// Returns the first reason to refuse a void of `spot`, the journal's entry at a sequence number,
-/// or `None`.
+/// Returns the first reason to refuse a void (cancellation) of `spot`, the journal's entry at a
+/// sequence number, or `None`.
 fn against(arrival: &Arrival, spot: &Spot) -> Option<Refusal>
     requires { spots.IsSoundSpot spot.now }
     ensures found { result ≡ spots.void_refusal arrival.now spot.now }
@@ -159,7 +160,8 @@ fn against(arrival: &Arrival, spot: &Spot) -> Option<Refusal>
     }
 }
 
-/// Returns the first reason to refuse a void, or `None` if no reason applies.
+/// Returns the first reason to refuse a void (the cancellation of an entry), or `None` if no reason
+/// applies.
 pub fn void_entry<B: Books>(
     books: &mut B,
     arrival: &Arrival,

@@ -62,8 +62,8 @@ asks_a_question table bytes head_state.TooLarge found holds tests = cc tests
 asks_a_question table bytes head_state.NoHead found holds tests = cc tests
 asks_a_question table bytes (head_state.Whole at) found holds tests = tests.1.1
 
--- If the body of a command's request is parsed twice, then both results are equal. Each result is a
--- command or a fault.
+-- If the bytes hold a request for a command, then parsing the body of the parsed request has that
+-- command as a result.
 gives_again : (table : Table) (bytes : List ℕ) (at : Head) (found : Found) (posted : Posted) (asked : Asked) → IsWhole table bytes at
     → TestsHead table (start_at bytes at) (Ok (AskedCommand found posted)) → (asks : AsksOffice table bytes asked)
     → Gives found.route (name_asked (name_of found)) (body_of table bytes at) (Ok asks.command)

@@ -40,17 +40,17 @@ AreTimed begun now [] = now ≡ begun
 AreTimed begun now (one ∷ earlier) =
     (between : Option (List ℕ)) × AreTimed begun between earlier × ReportsMoment between now one.at
 
--- The program's state matches its earlier history, extended by one connection that was accepted at
--- this time.
+-- The program's state results from its earlier history of accepted events and then one HTTP
+-- connection, which was accepted at the time `at`.
 pub record ServesOne {B : Type 0} (names : List (List ℕ)) (at : ℕ) (ledger : B → Ledger)
     (past : History) (office : Office B) : Type 0 where
   pub connection : Connection names
   pub moment : connection.at ≡ at
   pub stands : Stands ledger (with_asked past connection.at connection.asked) office
 
--- The program's state matches its earlier history, extended by at most `most` connections, each
--- with the clock's time at its acceptance. A connection has no command if the store or memory
--- failed or an earlier failure makes the program refuse all events.
+-- The program's state results from its earlier history of accepted events and then at most `most`
+-- HTTP connections. Each has the clock's time at its acceptance. A connection has no command if the
+-- store or memory failed, or if the program refuses all events.
 pub record ServesUpTo {B : Type 0} (names : List (List ℕ)) (most : ℕ)
     (begun now : Option (List ℕ)) (ledger : B → Ledger) (past : History)
     (office : Office B) : Type 0 where

@@ -41,7 +41,7 @@ use Rattle.office_program.specs.declared.entering.files.Shown.{Shown}
 use Rattle.office_program.specs.declared.entering.read_line.ReadRequest.{ReadRequest}
 use Rattle.office_program.specs.Entering.Lines.{IsEntry, ReadsEntry, Reporting}
 
--- The text of the office's answers equals the text that a script prints for them.
+-- The printed text of the office's answer equals the text that the contract defines for the answer.
 reported_is : {B : Type 0} (office : Office B) (past : History) (at : ℕ) (e : Event) (reply : Result Answer Refusal) → IsReported past at e reply office
     → reported_text office reply ≡ reply_text past at e reply
 reported_is office past at e (Ok given) reported =
@@ -52,14 +52,15 @@ reported_is office past at e (Err why) reported = refl
 abbrev pub one : (at : ℕ) → Event → Result Answer Refusal → Answered
 one at e reply = record { at = at; event = e; result = reply }
 
--- After an input line, the progress has the line's timestamp, and records whether a line was
--- refused.
+-- After an input line, the progress has the line's timestamp, and records that a line was refused
+-- if this line or an earlier one was refused.
 pub next_is : (progress next : Progress) (at : ℕ) (e : Event) (reply : Result Answer Refusal) (failed : Bool)
     → next ≡ record { latest = at; refused = progress.refused || failed } → failed ≡ is_err reply → next ≡ progress_after progress (Asked (one at e reply))
 next_is progress next at e reply failed is same =
     is ∙ ap (λ (b : Bool). let p : Progress = record { latest = at; refused = progress.refused || b } in p) same
 
--- If an event was fed to the office and its answer was printed, then `IsAsked` holds.
+-- If an event was fed to the office and its answer was printed, completely or in part, then the
+-- contract `IsAsked` holds.
 pub asked : {B : Type 0} (ledger : B → Ledger) (past : History) (progress : Progress) (before after : Failures) (had holds : Option (List ℕ)) (office : Office B)
     (at : ℕ) (e : Event) (reply : Result Answer Refusal) (result : Result Progress Error) (text : List ℕ) → Stands ledger (with_answer past at e reply) office
     → IsAnswer past at e before after reply → IsReported past at e reply office → text ≡ reported_text office reply → GotText result text had holds
@@ -77,7 +78,7 @@ asked ledger past progress before after had holds office at e reply result text 
       next = next;
     }
 
--- If a request is not doubted, then it was fed to the office.
+-- If a request is not doubted, then it was fed to the office, as `HasAsked` requires.
 pub undoubted : {B : Type 0} (ledger : B → Ledger) (past : History) (progress : Progress) (begun now : RoundState) (office : Office B) (at : ℕ) (request : Request)
     (between : Failures) (result : Result Progress Error) → IsAskedAt progress.latest begun.moments now.moments at
     → doubt_of (facts_of past) at request ≡ None → between ≡ begun.failures
@@ -102,7 +103,8 @@ undoubted ledger past progress begun now office at request between result timed 
       };
     }
 
--- If a request is doubted, then it was not fed to the office.
+-- If a request is doubted, then it was not fed to the office, and only the doubted energy was
+-- printed. So the contract `HasAsked` holds.
 pub doubted : {B : Type 0} (ledger : B → Ledger) (past : History) (progress : Progress) (begun now : RoundState) (office : Office B) (at mwh : ℕ) (request : Request)
     (result : Result Progress Error) → IsAskedAt progress.latest begun.moments now.moments at → Stands ledger past office
     → doubt_of (facts_of past) at request ≡ Some mwh → now.failures ≡ begun.failures → ReportsWhyNot (doubted_line mwh) at begun.printed now.printed result
@@ -117,8 +119,8 @@ doubted ledger past progress begun now office at mwh request result timed stands
   };
 }
 
--- If the office refused the query whether a request is doubted, then the request was not fed to the
--- office.
+-- If the office could not answer whether a request is doubted, then the request was not fed, and
+-- the refusal was printed. So the contract `HasAsked` holds.
 pub undecided : {B : Type 0} (ledger : B → Ledger) (past : History) (progress : Progress) (begun now : RoundState) (office : Office B) (at : ℕ) (request : Request)
     (reason : Refusal) (result : Result Progress Error) → IsAskedAt progress.latest begun.moments now.moments at → Stands ledger past office
     → IsOutside ⊥ begun.failures now.failures reason → ReportsWhyNot (refused_line reason) at begun.printed now.printed result
@@ -216,7 +218,8 @@ faulty ledger reports past progress begun now office rows reported result stands
       };
     }
 
--- After an input line was processed, its outcome was printed completely or in part.
+-- If an input line was processed and its outcome was printed, then the result satisfies the
+-- contract `EntersLine`.
 pub line_taken : {B : Type 0} (ledger : B → Ledger) (reports : Reporting) (caller : Option (List ℕ)) (line : Line) (past : History) (progress next : Progress)
     (begun now : RoundState) (old new : Office B) (e : Entry) → IsEntry reports caller line.text e
     → HasCome ledger reports e past progress begun now new (Ok next)

@@ -20,14 +20,15 @@ use Rattle.office_program.specs.declared.entering.checking.Look.{Look}
 use Rattle.office_program.specs.Entering.Checked.{AreLooks, Checks, IsChecked, IsKnown, IsKnownOf, IsLook, IsShown, Looked, LooksOver, OnlyLooks, any_refused, lines_with, look_text, looks_text}
 use Rattle.office_program.specs.Entering.Lines.{Reporting}
 
--- The result of checking a request is equal whether its caller is given separately or in the
+-- The result of checking a request is the same whether its caller is given separately or in the
 -- request.
 pub known_of : (facts : List Fact) (asked : Asked) (caller : Option (List ℕ)) (what : Known) → asked.caller ≡ caller → IsKnownOf facts asked caller what
     → IsKnown facts asked what
 known_of facts asked caller what who is =
     subst (λ (o : Option (List ℕ)). IsKnownOf facts asked o what) (sym who) is
 
--- If a store is only queried by two calls in a row, then it is only queried by both calls together.
+-- If a store is only queried in a first step and in a second step, then it is only queried in both
+-- steps together.
 pub looks_both : (old between new : Ledger) → OnlyLooks old between → OnlyLooks between new → OnlyLooks old new
 looks_both old between new first second = record {
   clean = λ clean. first.clean (second.clean clean);
@@ -53,13 +54,15 @@ still_stand old new past looks stand = record {
   leaves = record { left = stand.leaves.left; may = looks.keeps.left stand.leaves.left stand.leaves.may; each = stand.leaves.each };
 }
 
--- After an input line was checked, the result was printed completely or in part.
+-- If an input line was checked, then `IsChecked` holds: the result was printed completely or in
+-- part.
 pub line_shown : (reports : Reporting) (caller : Option (List ℕ)) (line : Line) (facts : List Fact) (had holds : Option (List ℕ)) (found : Look) (result : Result Bool ExitStatus)
     → IsLook reports caller line.text facts found → IsShown line.number found had holds result → IsChecked reports caller line facts had holds result
 line_shown reports caller line facts had holds found (Ok refused) is shown = (found, is, shown.0, shown.1)
 line_shown reports caller line facts had holds found (Err status) is part = inl (record { found = found; is = is; part = part })
 
--- The progress of checking an input, when the lines `rest` remain to be checked.
+-- The state of checking an input between two lines: some lines were checked, and the lines `rest`
+-- remain.
 pub record Underway (reports : Reporting) (caller : Option (List ℕ)) (lines rest : List Line) (facts : List Fact) (had holds : Option (List ℕ)) (refused : Bool) : Type 0 where
   pub looked : List Looked
   pub each : AreLooks reports caller facts looked

@@ -19,7 +19,8 @@ use Rattle.office_program.specs.Entering.Course.{AreAnswered, AreTaken, AreTimed
 use Rattle.office_program.specs.Entering.Entered.{EntersLines, IsStopped, status_of}
 use Rattle.office_program.specs.Entering.Lines.{Reporting}
 
--- The progress of entering an input, when the lines `rest` remain to be entered.
+-- The state of entering an input between two lines: some lines were processed, and the lines `rest`
+-- remain.
 pub record Underway {B : Type 0} (ledger : B → Ledger) (reports : Reporting) (caller : Option (List ℕ)) (lines rest : List Line) (past : History) (first : ℕ)
     (begun now : RoundState) (progress : Progress) (office : Office B) : Type 0 where
   pub taken : List Taken
@@ -28,7 +29,8 @@ pub record Underway {B : Type 0} (ledger : B → Ledger) (reports : Reporting) (
   pub printed : Appends begun.printed now.printed (text_after past taken)
   pub come : progress ≡ progress_of first taken
 
--- The progress before the first line of an input.
+-- Before the first line of an input, no line was processed and nothing was printed, so the loop
+-- invariant `Underway` holds.
 pub begins : {B : Type 0} (ledger : B → Ledger) (reports : Reporting) (caller : Option (List ℕ)) (lines rest : List Line) (past : History) (first : ℕ)
     (begun : RoundState) (progress : Progress) (office : Office B) → Stands ledger past office → rest ≡ lines → progress ≡ progress_of first []
     → Underway ledger reports caller lines rest past first begun begun progress office
@@ -40,7 +42,8 @@ begins ledger reports caller lines rest past first begun progress office stands 
   come = come;
 }
 
--- The progress after one more processed line of an input.
+-- If a list of lines was processed and then one more line, then the list with this line was
+-- processed.
 adds : {B : Type 0} (ledger : B → Ledger) (reports : Reporting) (caller : Option (List ℕ)) (past : History) (first : ℕ) (begun was now : RoundState)
     (old new : Office B) (taken : List Taken) (line : Line) (came : Came) → AreTaken ledger reports caller past first begun was old taken → Comes reports caller (history_with past taken) line.text came
     → Takes ledger (history_with past taken) (progress_of first taken).latest was now new came
@@ -70,7 +73,8 @@ one_more {B = B} ledger reports caller lines rest left past first begun was now 
       come = done.2.next;
     }
 
--- After an input line that made no request, the progress of the input is unchanged.
+-- If an input line made no request, then the list of processed lines still describes the office
+-- after it.
 untouched : {B : Type 0} (ledger : B → Ledger) (reports : Reporting) (caller : Option (List ℕ)) (past : History) (first : ℕ) (begun was now : RoundState)
     (old new : Office B) (taken : List Taken) → AreTaken ledger reports caller past first begun was old taken → IsUntouched was now old new
     → AreTaken ledger reports caller past first begun now new taken
@@ -95,7 +99,8 @@ then_nothing : (a b c : Option (List ℕ)) (x : List ℕ) → Appends a b x → 
 then_nothing a b c x whole none =
     (x ++ [], [], sym (append-nil x) ∙ sym (append-nil (x ++ [])), Appends-trans a b c x [] whole none)
 
--- If a line is bad or the command is broken off, then entering the input ends early.
+-- If a line is bad or a failure ends the command, then the result of entering the input satisfies
+-- `EntersLines`.
 pub ends_early : {B : Type 0} (ledger : B → Ledger) (reports : Reporting) (caller : Option (List ℕ)) (lines rest left : List Line) (past : History) (first : ℕ)
     (begun was now : RoundState) (progress : Progress) (old new : Office B) (line : Line) (status : ExitStatus)
     → (under : Underway ledger reports caller lines rest past first begun was progress old) → rest ≡ line ∷ left
@@ -157,7 +162,7 @@ ends_early ledger reports caller lines rest left past first begun was now progre
       }));
     }
 
--- After the last line was processed, entering the input ends.
+-- If the last line was processed, then the result of entering the input satisfies `EntersLines`.
 pub ends_whole : {B : Type 0} (ledger : B → Ledger) (reports : Reporting) (caller : Option (List ℕ)) (lines rest : List Line) (past : History) (first : ℕ)
     (begun now : RoundState) (progress : Progress) (office : Office B) (status : ExitStatus)
     → Underway ledger reports caller lines rest past first begun now progress office → rest ≡ [] → status ≡ status_of progress

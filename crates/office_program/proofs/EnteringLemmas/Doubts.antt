@@ -1,4 +1,5 @@
--- Proof that the definition of a doubted entry by hand agrees with its computation.
+-- Proof that the definition of a doubted entry by hand (one that needs a confirmation) agrees with
+-- its computation.
 use Rattle.std.proofs.Common.{◌≡◌, inl, inr, ℕ, ◌-◌, ◌*◌, nat_le, Bool, true, false, List, Option, Some, None, Result, Ok, Err, refl, sym, ap, subst, ◌∙◌, arith}
 use Rattle.std.specs.Prelude.{if◌then◌else◌, is_some}
 use Rattle.std.specs.Option.{option_and_then}
@@ -30,8 +31,8 @@ less_one up_to raw unit =
     sym (ap (λ (n : ℕ). n * unit) (sym order) ∙ mul_comm ((up_to - 1) - raw) unit ∙ mul-sub unit (up_to - 1) raw
     ∙ ap (λ (n : ℕ). n - unit * raw) (mul_comm unit (up_to - 1)) ∙ ap (λ (n : ℕ). (up_to - 1) * unit - n) (mul_comm unit raw))
 
--- The comparison of an entry's energy with the load and the time equals the rule `can_count`. This
--- rule says how far a load at the ceiling can advance a meter's counter.
+-- The program compares an entry's energy with the greatest load and the time. This equals the rule
+-- `can_count`: how far a load at the meter's ceiling can advance its counter.
 pub within_is : (energy seconds load ceiling up_to less raw unit moment at : ℕ) → energy ≡ less * unit - raw * unit → less ≡ up_to - 1 → load ≡ ceiling
     → seconds ≡ moment - at → nat_le (energy * 18) (load * seconds * 5) ≡ can_count ceiling unit (moment - at) (up_to - raw)
 within_is energy seconds load ceiling up_to less raw unit moment at energy_is less_is load_is seconds_is =
@@ -65,8 +66,8 @@ pub sound_there : (facts : List Fact) (register : Option (List ℕ)) (row : Inst
 sound_there facts None row ranges found = absurd (cc found)
 sound_there facts (Some name) row ranges found = ranges.at_register name row found
 
--- The doubt about an entry by hand is decided for the meter that was found. If no meter was found,
--- the entry is not doubted.
+-- Whether an entry by hand is doubted depends on the meter that was found at the register. If no
+-- meter was found, the entry is not doubted.
 pub found_doubt : (facts : List Fact) (at : ℕ) (c : Command) (register : Option (List ℕ)) (row : Installation)
     → option_and_then (installation_at facts) register ≡ Some row → doubted_in facts at c register ≡ option_and_then (doubted_at at c) (if_open row)
 found_doubt facts at c None row found = cc found
@@ -110,7 +111,8 @@ doubt_is facts at asked new unmarked =
 
 -- ---- The office's answer to the query whether an entry is doubted
 
--- If the query has no failure, then the office answers whether an entry is doubted.
+-- If an earlier query had no failure, then the answer about a doubt after this query is also a
+-- correct answer for the state before it.
 pub reported_on : {B : Type 0} (ledger : B → Ledger) (past : History) (before between after : Failures) (office : Office B) (doubt other : Option ℕ)
     (result : Result (Option ℕ) Refusal) → between ≡ before → doubt ≡ other → IsDoubtReported ledger past between after office doubt result
     → IsDoubtReported ledger past before after office other result

@@ -19,7 +19,7 @@ reported_at : (moments then : Option (List ℕ)) (listed : List ℕ) (following 
     → listed ≡ first ∷ [] → ReportsMoment (Some listed) following at → at ≡ first
 reported_at moments then listed following first at reported is opens = opens.0 ∙ ap next_moment is
 
--- If the opening of the office was refused, then entering an input prints only the refusal.
+-- If opening the office was refused, then entering an input prints only the refusal.
 pub unopened : {B : Type 0} (ledger : B → Ledger) (reports : Reporting) (past : History) (caller text : List ℕ) (moments then : Option (List ℕ)) (listed : List ℕ)
     (following : Option (List ℕ)) (first : ℕ) (books back : B) (had holds : Option (List ℕ)) (status : ExitStatus) → ReportsMoment moments then first → listed ≡ first ∷ []
     → ReportsUnopened past (Some listed) following (ledger books) (ledger back) status had holds

@@ -26,8 +26,8 @@ use Rattle.office_rules.proofs.Lookups.{same_itself, same_text}
 use Rattle.office_rules.proofs.LostPolls.{left_in, with_lost_is}
 use Rattle.office_rules.proofs.QuietFacts.{HoldsOfBooks, added_each, later_part_first, unseen}
 
--- If a record is a point list, register, opening, entry or void, then it has no stored answer to a
--- request.
+-- If a record is a point list, register, opening, entry or void (a cancelled reading), then it has
+-- no stored answer to a request.
 no_reply : HoldsOfBooks (λ f. as_reply f ≡ None)
 no_reply = record { list = λ l. refl; register = λ r. refl; opening = λ o. refl; entry = λ b. refl; void = λ v. refl }
 
@@ -164,7 +164,7 @@ keeps_next past at (event.Command c) asked kind accepted kept =
 keeps_next past at (event.Asked new) asked kind accepted kept =
     keeps_beside (next_poll (facts_of past)) at (slots_of past) (facts_of past) new asked kind new.caller refl accepted.0.new kept
 
--- After all later accepted events, the stored answer of a request is still in the store.
+-- After any number of later accepted events, the stored answer of a request is still in the store.
 pub keeps_on : (more past : History) (asked : Asked) (kind : CommandKind) → AreAccepted (more ++ past) → Keeps (facts_of past) asked kind
     → Keeps (facts_of (more ++ past)) asked kind
 keeps_on [] past asked kind accepted kept = kept

@@ -142,7 +142,7 @@ spelled_of words line h =
 pub none_of : (words : List (List ℕ)) → (let o : Option ReadLine = None in o) ≡ read_said words → IsNoReadLine words
 none_of words h = λ line is. let both : (let o : Option ReadLine = None in o) ≡ Some line = h ∙ said_of words line is in cc both
 
--- The words form at most one line with `@read`.
+-- If the words form two lines with `@read`, then the lines are equal.
 pub one_line : (words : List (List ℕ)) (a b : ReadLine) → IsReadLine words a → IsReadLine words b → a ≡ b
 one_line words a b first second = same a b (sym (said_of words a first) ∙ said_of words b second)
 

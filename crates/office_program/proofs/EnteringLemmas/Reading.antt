@@ -31,7 +31,8 @@ counter_reported reports facts register counter device None found there reported
 counter_reported reports facts register counter device (Some shown) found there reported =
     record { counter = counter; device = device; register_is = found; device_is = there; reported = reported }
 
--- If the query has no failure, then the office finds the counter's reading.
+-- If an earlier query had no failure, then the answer about the counter's reading after this query
+-- is also a correct answer for the state before it.
 pub read_on : {B : Type 0} (ledger : B → Ledger) (reports : Reporting) (register : Option (List ℕ)) (past : History) (before between after : Failures) (office : Office B)
     (result : Result (Option Shown) Refusal) → between ≡ before → IsReadThere ledger reports register past between after office result
     → IsReadThere ledger reports register past before after office result
@@ -53,7 +54,8 @@ filled ledger reports read register past before between after office (Err why) n
     let on = read_on ledger reports register past before between after office (Err why) none done in
     record { stands = on.stands; reported = on.reported }
 
--- If the request of a line with `@read` is stored, then the comparison finds the stored request.
+-- If the request of a line with `@read` is stored, then comparing it with the store finds a stored
+-- request.
 pub kept_read : (facts : List Fact) (read : ReadRequest) (repeat : Repeat) → repeat_of_read facts read ≡ Some repeat → is_some (repeat_of_read facts read) ≡ is_some (Some repeat)
 kept_read facts read repeat kept = ap is_some kept
 

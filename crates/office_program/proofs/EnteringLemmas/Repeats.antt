@@ -1,4 +1,5 @@
--- Proof that an input that is entered again does not act. Each of its lines is answered as a retry.
+-- Proof that entering an input a second time has no effect. Each of its lines is answered as a
+-- retry.
 use Rattle.std.proofs.Common.{◌≡◌, ℤ, pos, ◌⊎◌, inl, inr, ℕ, Bool, true, false, List, [], ◌∷◌, ◌++◌, Option, Some, None, Result, Ok, Err, refl, sym, ap, subst, ◌∙◌, append_assoc}
 use Rattle.std.specs.Prelude.{IsOk, if◌then◌else◌}
 use Rattle.command_io.specs.Lines.{Line}
@@ -57,8 +58,8 @@ requests_are_repeated past more at again_at asked again accepted same =
 
 -- ---- Proof that an input line makes one request
 
--- The request of a line with `@read` for an arbitrary reading. Its caller, number and bytes do not
--- depend on the counter's reading.
+-- The request of a line with `@read` with an arbitrary reading. Its caller, number and bytes are
+-- the same for every reading of the counter, so it identifies the line's retries.
 abbrev asked_like : ReadRequest → Asked
 asked_like read = asked_at read 0 (pos 0)
 
@@ -159,8 +160,8 @@ not_outside : (takes_memory : Type 0) (result : Result Answer Refusal) (before a
 not_outside takes_memory (Ok given) before after ok fails = fails
 not_outside takes_memory (Err why) before after ok fails = cc ok
 
--- If a command is newly accepted, then the history is longer by its event, because its answer is
--- not the answer to a retry.
+-- If a command is newly accepted, then the history is longer by its event. The answer to a newly
+-- accepted command is not the answer to a retry.
 fed_by : (history : History) (at : ℕ) (e : Event) (b : Bool) (first count of : ℕ) (kind : CommandKind)
     → with_answer history at e (Ok (if b then answer.Started first count of else answer.Done kind)) ≡ Fed at e ∷ history
 fed_by history at e true first count of kind = refl

@@ -60,7 +60,7 @@ printed {W} contents zone past register form before after from to left output st
     let P : W → Type 0 = λ w. IsReported (refused_line why) Refused status (contents w) (contents left.output.now) in
     (refused_line why, refl, subst P same rest.reported)
 
--- While the days of a report are written, the writer of the report remains the same writer.
+-- While the days of a report are written, the output of the report remains the same writer.
 taken_by : {W : Type 0} (contents : W → Option (List ℕ)) (days : List DayTotal) (from to : ReportRows W)
     → TakesAll (TakesDay contents) from days to → to.output.ghost_name ≡ from.output.ghost_name
 taken_by {W} contents [] from to took = ap (λ (rows : ReportRows W). rows.output.ghost_name) took

@@ -1,4 +1,5 @@
--- The results of checking an input with `--check`, line by line, without making a request.
+-- The results of checking an input with `--check`, line by line. Checking makes no request and
+-- changes nothing.
 use Rattle.std.specs.Prelude.{◌≡◌, ◌⊎◌, ◌||◌, ℕ, Bool, true, false, List, [], ◌∷◌, ◌++◌, Option, Some, None, Result, Ok, Err, codes, if◌then◌else◌}
 use Rattle.std.specs.Io.KnownBytes.{Appends}
 use Rattle.std.specs.declared.alloc.AllocError.{AllocError}
@@ -52,8 +53,8 @@ abbrev pub known_by : Option Repeat → Known
 known_by None = known.New
 known_by (Some repeat) = known_as repeat
 
--- True if `what` is a possible result of checking a request with this caller. If the store failed
--- or the caller's name is invalid, the result is a refusal.
+-- True if `what` is a possible result of checking a request with this caller. The result is a
+-- refusal if the store failed or the caller's name is invalid.
 abbrev pub IsKnownOf : List Fact → Asked → (caller : Option (List ℕ)) → Known → Type 0
 IsKnownOf facts asked None what = what ≡ known.Refused refusal.Limit
 IsKnownOf facts asked (Some caller) what =
@@ -83,8 +84,8 @@ IsLook reports caller text facts (look.Known what) =
 IsLook reports caller text facts (look.Faulty rows) = IsEntry reports caller text (entry.Faulty rows)
 IsLook reports caller text facts look.Bad = IsBad reports text
 
--- True if on `Ok` the result is the result of checking the line. If memory ran out, nothing is
--- known of the line.
+-- True if an `Ok` result is the outcome of checking the line. If memory ran out, nothing is claimed
+-- about the line.
 abbrev pub FindsLook : Reporting → (caller : Option (List ℕ)) → (text : List ℕ) → List Fact
     → Result Look AllocError → Type 0
 FindsLook reports caller text facts (Ok found) = IsLook reports caller text facts found
@@ -131,7 +132,7 @@ IsShown number found had holds (Ok refused) =
     Appends had holds (look_text number found) × (refused ≡ is_refused found)
 IsShown number found had holds (Err status) = GotPart (look_text number found) had holds
 
--- True if the line was checked, but a write failed, so that only a part of its text was printed.
+-- True if the line was checked and a write failed, so only a part of the line's text was printed.
 pub record IsCut (reports : Reporting) (caller : Option (List ℕ)) (line : Line) (facts : List Fact)
     (had holds : Option (List ℕ)) : Type 0 where
   pub found : Look
@@ -162,7 +163,8 @@ pub record Looked : Type 0 where
   pub line : Line
   pub found : Look
 
--- The lines of an input: the checked lines, the latest first, followed by the lines `rest`.
+-- The lines of an input in their original order. The checked lines are stored with the latest
+-- first, and `rest` are the lines after them.
 abbrev pub lines_with : List Looked → (rest : List Line) → List Line
 lines_with [] rest = rest
 lines_with (one ∷ earlier) rest = lines_with earlier (one.line ∷ rest)
@@ -183,7 +185,7 @@ abbrev pub any_refused : List Looked → Bool
 any_refused [] = false
 any_refused (one ∷ earlier) = any_refused earlier || is_refused one.found
 
--- True if all lines were checked and their texts were printed. The exit status reports whether any
+-- True if all lines were checked and their texts were printed. The exit status says whether any
 -- line counts as refused.
 pub record IsWhole (lines : List Line) (looked : List Looked) (status : ExitStatus)
     (had holds : Option (List ℕ)) : Type 0 where
@@ -200,8 +202,8 @@ pub record IsBrokenOff (lines : List Line) (looked : List Looked) (status : Exit
   pub printed : GotPart (looks_text looked) had holds
   pub means : status ≡ Failed
 
--- True if the lines were checked in order, to the end of the input or until the command was broken
--- off.
+-- True if the lines were checked in order, to the end of the input or until a failure ended the
+-- command.
 pub record Checks (reports : Reporting) (caller : Option (List ℕ)) (lines : List Line)
     (facts : List Fact) (status : ExitStatus) (had holds : Option (List ℕ)) : Type 0 where
   pub looked : List Looked
@@ -222,8 +224,8 @@ pub record LooksOver (reports : Reporting) (caller text : List ℕ) (new : Ledge
   pub checks : Checks reports (named caller) (speaking_lines text) (facts_of past) status had holds
   pub stand : BooksStand new past
 
--- True if `LooksOver` holds for every history that the store records, provided that no wrong result
--- of the store was used.
+-- The contract of the command that checks an input. It promises `LooksOver` for any history that
+-- the store records, if the command used no wrong result of the store.
 abbrev pub ChecksOver : {B : Type 0} → (B → Ledger) → Reporting → (caller text : List ℕ)
     → (books back : B) → (had holds : Option (List ℕ)) → ExitStatus → Type 0
 ChecksOver ledger reports caller text books back had holds status =

@@ -1,4 +1,5 @@
--- The progress of an input: the outcome and the text of each line, and the state of the office.
+-- The progress of entering an input: the outcome and the text of each line, and the state of the
+-- office after it.
 --
 -- Lists of processed lines have the latest line first.
 use Rattle.std.specs.Prelude.{◌≡◌, ◌⊎◌, ◌||◌, ℕ, max, true, false, List, [], ◌∷◌, ◌++◌, codes, Option, Some, None, Result, Ok, Err, IfOk, is_err}
@@ -44,8 +45,9 @@ use Rattle.office_program.specs.Entering.Reading.{AsksShown, IsShownFor}
 -- answered. Otherwise no request was fed:
 --
 -- - `Faulty`: the line's point list has faulty rows;
--- - `Doubted`: the line's entry by hand would pass the meter's ceiling; it would record `mwh`;
--- - `Undecided`: the office refused a query for a failure, about the doubt or the counter to read;
+-- - `Doubted`: the line's entry by hand would record more energy than the meter's power limit
+--   allows, namely `mwh`;
+-- - `Undecided`: the office could not answer a query that the line needs, because of a failure;
 -- - `Unread`: the meter's counter can't be read.
 pub data Came : Type 0 where
   Asked : Answered → Came
@@ -65,7 +67,7 @@ IsCameOf (entry.Read read) (Unread at tried) = tried ≡ read
 IsCameOf _ _ = ⊥
 
 -- True if the request has the present reading of the meter's counter, provided that the line
--- installs the meter at this reading.
+-- installs the meter at its present reading (`@read`).
 --
 -- The accounting register and its device are those in the store's records.
 abbrev pub IsShown : Reporting → List Fact → Entry → Came → Type 0
@@ -85,13 +87,14 @@ pub record Comes (reports : Reporting) (caller : Option (List ℕ)) (past : Hist
   pub comes : IsCameOf entry came
   pub shown : IsShown reports (facts_of past) entry came
 
--- The history of the office after an input line with this outcome.
+-- The history of the office after an input line with this outcome. Only a newly accepted request
+-- adds to the history.
 abbrev pub with_came : History → Came → History
 with_came past (Asked one) = with_answer past one.at one.event one.result
 with_came past _ = past
 
--- True if the requested entry is not doubted (above the meter's ceiling), and the office gave its
--- answer.
+-- True if the office answered the request, and the request's entry is not doubted: its energy is
+-- within what the meter's power limit allows.
 pub record IsAskedAndAnswered (past : History) (before after : Failures) (one : Answered) : Type 0
   where
     pub undoubted : doubt_in (facts_of past) one.at one.event ≡ None
@@ -99,8 +102,9 @@ pub record IsAskedAndAnswered (past : History) (before after : Failures) (one : 
 
 -- True if an input line had the outcome that the definitions give for the records before the line.
 --
--- A request has the defined answer or was refused for a failure. A doubted entry is doubted by its
--- definition, and an undecided line had a failure. The failure counts change accordingly.
+-- A request has the defined answer or was refused because of a failure. A doubted entry satisfies
+-- the definition of a doubt, and an undecided line had a failure. The failure counts change
+-- accordingly.
 abbrev pub IsCameAnswered : History → (before after : Failures) → Came → Type 0
 IsCameAnswered past before after (Asked one) = IsAskedAndAnswered past before after one
 IsCameAnswered past before after (Faulty rows) = after ≡ before
@@ -144,7 +148,8 @@ pub record IsAskedAt (latest : ℕ) (begun now : Option (List ℕ)) (at : ℕ) :
   pub reports : ReportsMoment begun now reported
   pub is : at ≡ max latest reported
 
--- True if the outcome has the timestamp of its input line. For faulty rows the clock is not read.
+-- True if the outcome has the timestamp of its input line. A line with a faulty point list needs no
+-- timestamp, so the clock is not read.
 abbrev pub IsTimed : (latest : ℕ) → (begun now : Option (List ℕ)) → Came → Type 0
 IsTimed latest begun now (Asked one) = IsAskedAt latest begun now one.at
 IsTimed latest begun now (Faulty rows) = now ≡ begun
@@ -162,8 +167,8 @@ progress_after progress (Doubted at request mwh) = record { latest = at; refused
 progress_after progress (Undecided at request why) = record { latest = at; refused = true }
 progress_after progress (Unread at read) = record { latest = at; refused = true }
 
--- True if the office processed the input line. Its state, the answer, the failure counts and the
--- timestamp follow from the outcome.
+-- True if the office processed the input line with the outcome `came`. The outcome determines the
+-- office's new history, its answer, the failure counts and the timestamp.
 pub record Takes {B : Type 0} (ledger : B → Ledger) (past : History) (latest : ℕ)
     (begun now : RoundState) (office : Office B) (came : Came) : Type 0 where
   pub stands : Stands ledger (with_came past came) office
@@ -212,7 +217,8 @@ pub record Taken : Type 0 where
   pub line : Line
   pub came : Came
 
--- The lines of an input: the processed lines, the latest first, followed by the lines `rest`.
+-- The lines of an input in their original order. The processed lines are stored with the latest
+-- first, and `rest` are the lines after them.
 abbrev pub lines_with : List Taken → (rest : List Line) → List Line
 lines_with [] rest = rest
 lines_with (one ∷ earlier) rest = lines_with earlier (one.line ∷ rest)

@@ -1,8 +1,8 @@
--- The entries by hand that need a confirmation. Their energy is more than the meter's ceiling
--- allows since the meter's last entry.
+-- The entries by hand that need a confirmation, because their energy is more than the meter's
+-- ceiling (its greatest power) allows since the meter's last entry.
 --
--- An entry by hand can't be voided. So a doubted entry is requested only if its line ends with the
--- mark ` !`.
+-- An entry by hand can't be voided later. So a doubted entry is recorded only if its line ends with
+-- the mark ` !`.
 use Rattle.std.specs.Prelude.{◌≡◌, ◌⊎◌, ℕ, ◌-◌, ◌*◌, nat_lt, nat_le, Bool, not, ◌&&◌, List, Option, Some, None, is_some, Result, Ok, if◌then◌else◌}
 use Rattle.std.specs.Option.{option_and_then}
 use Rattle.energy_core.specs.Account.{moment_of, reached}
@@ -35,8 +35,8 @@ use Rattle.office_program.specs.Entering.Marks.{is_marked}
 abbrev pub goes_on : Installation → (moment up_to : ℕ) → Bool
 goes_on row moment up_to = nat_lt row.last.at moment && nat_le row.last.raw up_to
 
--- True if a load at the meter's ceiling can advance the counter to `up_to` since the last entry.
--- The same rule rejects a meter's reading as too fast.
+-- True if a load at the meter's ceiling (its greatest power) can advance the counter to `up_to`
+-- since the last entry. The same rule rejects a meter's reading as too fast.
 abbrev pub is_within_ceiling : Installation → (moment up_to : ℕ) → Bool
 is_within_ceiling row moment up_to =
     can_count row.opening.ceiling (unit_of row.last.sf) (moment - row.last.at)
@@ -48,8 +48,8 @@ energy_by row up_to = up_to * unit_of row.last.sf - value_of row.last
 
 -- The energy that a doubted entry would record, in mWh.
 --
--- `None` if the entry is within the meter's ceiling. Also `None` if the office refuses the entry
--- anyway as not later or as decreasing.
+-- `None` if the energy is within what the meter's ceiling (its greatest power) allows. Also `None`
+-- if the office refuses the entry anyway, because it is not later or decreases the counter.
 abbrev pub doubted_up_to : Installation → (moment up_to : ℕ) → Option ℕ
 doubted_up_to row moment up_to =
     if goes_on row moment up_to && not (is_within_ceiling row moment up_to)
@@ -68,19 +68,19 @@ doubted_by row e = doubted_up_to row (moment_of e) (reached row.opening.range e)
 abbrev pub doubted_at : (at : ℕ) → Command → Installation → Option ℕ
 doubted_at at c row = option_and_then (λ made. doubted_by row made.entry) (made_by at row.last c)
 
--- The energy in mWh that the command's entry would record at the open meter of the register, if the
--- entry is doubted. Otherwise `None`.
+-- The energy in mWh that the command's entry would record at the register's open meter (the one
+-- that is not closed), if the entry is doubted. Otherwise `None`.
 abbrev pub doubted_in : List Fact → (at : ℕ) → Command → (register : Option (List ℕ)) → Option ℕ
 doubted_in facts at c register =
     option_and_then (doubted_at at c) (option_and_then (open_at facts) register)
 
--- The comparison of a request with the stored request of the same key (caller and number). `None`
--- if no request with this key is stored.
+-- The comparison of a request with the stored request of the same key (caller and number), to
+-- detect a retry. `None` if no request with this key is stored.
 abbrev pub repeat_in : List Fact → Asked → Option Repeat
 repeat_in facts asked =
     option_and_then (λ caller. repeat_of facts caller asked.number asked.request) asked.caller
 
--- The energy in mWh that a request would record, if its entry is doubted.
+-- The energy in mWh that a request would record, if its entry is doubted (needs a confirmation).
 --
 -- `None` if the request's key is stored, its line has the mark ` !`, or its entry is within the
 -- meter's ceiling. The stored bytes of the request include the mark.
@@ -98,8 +98,8 @@ doubt_in facts at _ = None
 
 -- ---- The office's answer to the query whether an entry is doubted
 
--- True if the history of the office is still `past`, and the office answered whether an entry is
--- doubted or refused the query for a failure.
+-- True if the history of the office is still `past`, since a query records nothing. The office
+-- answered whether an entry is doubted, or refused the query because of a failure.
 pub record IsDoubtReported {B : Type 0} (ledger : B → Ledger) (past : History) (before after : Failures)
     (office : Office B) (doubt : Option ℕ) (result : Result (Option ℕ) Refusal) : Type 0 where
   pub stands : Stands ledger past office

@@ -1,5 +1,5 @@
--- The result of entering an input. The lines of the input are requested in order, up to the first
--- bad line.
+-- The result of entering an input: its lines are processed in order, up to the first bad line. Each
+-- line makes a request to the office.
 use Rattle.std.specs.Prelude.{◌≡◌, ◌⊎◌, ℕ, List, [], ◌∷◌, ◌++◌, Option, if◌then◌else◌}
 use Rattle.std.specs.Io.KnownBytes.{Appends}
 use Rattle.std.specs.declared.io.Write as writers
@@ -59,7 +59,7 @@ pub record IsStoppedReported (reports : Reporting) (lines : List Line) (past : H
   pub printed : Appends had holds (stopped_text past stopped)
   pub means : status ≡ Refused
 
--- True if the command was broken off with the exit status `Failed`.
+-- True if a failed write or lack of memory ended the command, with the exit status `Failed`.
 --
 -- A part of the text of the processed lines was printed, or the complete text and a part of the
 -- message for a bad line.
@@ -71,8 +71,8 @@ pub record IsBrokenOff (reports : Reporting) (lines : List Line) (past : History
       ⊎ ((stopped : IsStopped reports lines taken) × GotPart (stopped_text past stopped) had holds)
   pub means : status ≡ Failed
 
--- True if entering an input ended in one of three ways: after the last line, at a bad line, or
--- broken off.
+-- True if entering an input ended in one of three ways: after the last line, at a bad line, or by a
+-- failure.
 abbrev pub IsEnd : Reporting → List Line → History → (first : ℕ) → List Taken → ExitStatus
     → (had holds : Option (List ℕ)) → Type 0
 IsEnd reports lines past first taken status had holds =
@@ -89,8 +89,8 @@ pub record EntersLines {B : Type 0} (ledger : B → Ledger) (reports : Reporting
   pub are : AreTaken ledger reports caller past first begun now office taken
   pub ends : IsEnd reports lines past first taken status begun.printed now.printed
 
--- True if `EntersLines` holds for every history of the office, with the clock and the writer before
--- and after the input.
+-- The contract of entering an input. It promises `EntersLines` for any history of the office, and
+-- names the clock and the writer before and after the input.
 abbrev pub EntersTextOf : {B C W : Type 0} → stores.Ghosts B → clocks.Ghosts C → writers.Ghosts W
     → Reporting → (caller : Option (List ℕ)) → (text : List ℕ) → (first : ℕ) → (old new : Office B)
     → (before after : C) → (had holds : W) → ExitStatus → Type 0
@@ -99,7 +99,7 @@ EntersTextOf b c w reports caller text first old new before after had holds stat
     (desk_of b c w old before had) (desk_of b c w new after holds) new status)
 
 -- True if the input was entered into an office that was opened for the input. The timestamp of each
--- line is at least the timestamp of the opening.
+-- line is at least the timestamp at which the office was opened.
 abbrev pub Enters : {B : Type 0} → (B → Ledger) → Reporting → (caller : Option (List ℕ))
     → (text : List ℕ) → (later had holds : Option (List ℕ)) → ExitStatus
     → (following : History) → (since : Option (List ℕ)) → (opened left : Office B) → Type 0
@@ -108,8 +108,8 @@ Enters ledger reports caller text later had holds status following since opened 
     (round_state had since (failures_of ledger opened))
     (round_state holds later (failures_of ledger left)) left status following
 
--- True if the office was opened and the input was entered. If the opening was refused, only the
--- refusal was printed.
+-- True if the office was opened and the input was entered. If opening the office was refused, only
+-- the refusal was printed.
 abbrev pub ReportsEntering : {B : Type 0} → (B → Ledger) → (past : History) → Reporting
     → (caller text : List ℕ) → (moments later : Option (List ℕ)) → (books back : B)
     → (had holds : Option (List ℕ)) → ExitStatus → Type 0
@@ -118,8 +118,8 @@ ReportsEntering ledger past reports caller text moments later books back had hol
     ⊎ WithOffice ledger past moments back
     (Enters ledger reports (named caller) text later had holds status)
 
--- True if `ReportsEntering` holds for every history that the store records, with the clock and the
--- writer before and after the command.
+-- The contract of the command that enters an input. It promises `ReportsEntering` for any history
+-- that the store records, and names the clock and the writer before and after.
 abbrev pub EntersOver : {B C W : Type 0} → stores.Ghosts B → clocks.Ghosts C → writers.Ghosts W
     → Reporting → (caller text : List ℕ) → (books back : B) → (before after : C) → (had holds : W)
     → ExitStatus → Type 0

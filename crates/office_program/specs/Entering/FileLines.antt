@@ -1,4 +1,5 @@
--- An input line that names the file of a point list: `NUMBER list DEVICE @NAME`.
+-- An input line that names the file of a point list, the SunSpec points to poll from a device:
+-- `NUMBER list DEVICE @NAME`.
 use Rattle.std.specs.Prelude.{ℕ, ◌==◌, List, [], ◌∷◌, Option, Some, None, codes, if◌then◌else◌, option_map}
 use Rattle.std.specs.Str.{bytes_eq}
 use Rattle.script_lines.specs.LineWords.Fields.{AnyName, Field, Number, Of, Spell, Word, first_value, end_of_words, ◌>>=◌}
@@ -46,7 +47,7 @@ abbrev pub list_word : List (List ℕ) → Option (List (List ℕ))
 list_word [] = None
 list_word (word ∷ words) = if bytes_eq word (codes "list") then Some words else None
 
--- The input line that names a file, if the words form such a line. Otherwise `None`.
+-- Parses the words of an input line that names a file. `None` if the words don't form such a line.
 abbrev pub file_said : List (List ℕ) → Option FileLine
 file_said words =
     first_value Number words >>= λ number.

@@ -59,25 +59,25 @@ is_by_hand (command.Manual c) = true
 is_by_hand (command.Close c) = true
 is_by_hand _ = false
 
--- True if an input line can request the command. A line with the mark ` !` can request only an
--- entry by hand.
+-- True if an input line can request the command. The mark ` !` confirms an entry by hand, so a line
+-- with the mark can request only such an entry.
 abbrev pub can_be_asked : (marked : Bool) → Command → Bool
 can_be_asked marked c = if marked then is_by_hand c else is_request c
 
--- The request in a line with this command. It is the command with the request's number, or nothing
--- if the command can't be requested.
+-- The request in a line with this command. It is the command with the request's number, or
+-- `Nothing` if the line can't request the command.
 abbrev pub wanted_by : (marked : Bool) → (number : ℕ) → Command → Wanted
 wanted_by marked number c =
     if can_be_asked marked c then wanted.Command number c else wanted.Nothing
 
--- The request in a line with this event. It is the event's command, or nothing for an event of a
+-- The request in a line with this event. It is the event's command, or `Nothing` for an event of a
 -- device.
 abbrev pub wanted_of : (marked : Bool) → (number : ℕ) → Event → Wanted
 wanted_of marked number (event.Command c) = wanted_by marked number c
 wanted_of marked number _ = wanted.Nothing
 
--- The request in a line with a point list. It is the list, or nothing if the line has the mark `
--- !`.
+-- The request in a line with a point list. It is the list, or `Nothing` if the line has the mark `
+-- !`, which only an entry by hand may have.
 abbrev pub wanted_list : (marked : Bool) → (number : ℕ) → GivenList → Wanted
 wanted_list marked number list = if marked then wanted.Nothing else wanted.List number list
 
@@ -100,12 +100,12 @@ pub record IsListOf (text : List ℕ) (list : Planned) : Type 0 where
   pub points : SpellsList text list.points
   pub planned : IsPlanned list
 
--- The command that stores a point list for a device.
+-- The command that stores a point list (the points to poll) for a device.
 abbrev pub append_by : (device : Option (List ℕ)) → Planned → Command
 append_by device list = command.PutList (record { device = device; list = list })
 
--- True for the parsed form of a line with a point list. It is the request for the list in the text,
--- or the text's faulty rows.
+-- True for the parsed form of a line with a point list. It is a request for the list that `text`
+-- spells, or the faulty rows of `text`.
 abbrev pub IsListEntry : (caller : Option (List ℕ)) → (number : ℕ) → (device : Option (List ℕ))
     → (text request : List ℕ) → Entry → Type 0
 IsListEntry caller number device text request (Ask asked) =
@@ -115,8 +115,8 @@ IsListEntry caller number device text request (Faulty rows) =
     (list_faults (rows_read text) ≢ []) × (rows ≡ list_faults (rows_read text))
 IsListEntry caller number device text request (Read read) = ⊥
 
--- True for the parsed form of a script's line by the line's request. The store keeps the line's
--- bytes with the mark ` !`.
+-- True if `entry` is the parsed form of a script's line with this request. The store keeps the
+-- line's bytes, including the mark ` !`.
 abbrev pub IsWantedEntry : (caller : Option (List ℕ)) → (text : List ℕ) → Wanted → Entry → Type 0
 IsWantedEntry caller text (wanted.Command number c) entry =
     entry ≡ Ask (asked_by caller number text c)
@@ -135,7 +135,7 @@ pub record IsScriptEntry (caller : Option (List ℕ)) (text : List ℕ) (entry :
 abbrev pub file_request : (text bytes : List ℕ) → List ℕ
 file_request text bytes = text ++ 10 ∷ bytes
 
--- True for the parsed form of a line that names the file of a point list. The file exists.
+-- True for the parsed form of a line that names the file of a point list, when the file exists.
 pub record IsFileEntry (reports : Reporting) (caller : Option (List ℕ)) (text : List ℕ) (entry : Entry)
     : Type 0 where
   pub line : FileLine
@@ -144,8 +144,8 @@ pub record IsFileEntry (reports : Reporting) (caller : Option (List ℕ)) (text 
   pub reported : reports.files line.name (Some bytes)
   pub comes : IsListEntry caller line.number line.device bytes (file_request text bytes) entry
 
--- True for the parsed form of a line with `@read`. The store keeps the line's bytes, whatever the
--- counter's reading is.
+-- True for the parsed form of a line with `@read`, a placeholder for the counter's present reading.
+-- The store keeps the line's own bytes, so that a retry matches at any reading.
 pub record IsReadEntry (caller : Option (List ℕ)) (text : List ℕ) (entry : Entry) : Type 0 where
   pub line : ReadLine
   pub is : IsRead text line
@@ -159,8 +159,8 @@ IsEntry reports caller text entry =
     ⊎ (IsNoFileLine (words_of text)
     × (IsReadEntry caller text entry ⊎ (IsNoRead text × IsScriptEntry caller text entry)))
 
--- True if a parsed line may make this request. A line with `@read` may make one request for each
--- possible reading of the counter.
+-- True if a parsed line may make this request. A line with `@read` makes one request, whose reading
+-- is known only after the counter is read. So any reading is allowed.
 abbrev pub MayAsk : Entry → Asked → Type 0
 MayAsk (Ask asked) request = request ≡ asked
 MayAsk (Read read) request = (raw : ℕ) × (sf : ℤ) × (request ≡ asked_at read raw sf)
@@ -176,24 +176,24 @@ abbrev pub IsNoRequest : (text : List ℕ) → Type 0
 IsNoRequest text = (said : ScriptLine) → IsLine (words_of (unmarked text)) said
     → wanted_in (is_marked text) said ≡ wanted.Nothing
 
--- True if the line is bad. A bad line names a file that does not exist, or is of none of the three
--- kinds of input line.
+-- True if the line is bad. A bad line names a file that does not exist, or has none of the three
+-- forms of an input line: it names no file, has no `@read`, and is no request of a script.
 abbrev pub IsBad : Reporting → (text : List ℕ) → Type 0
 IsBad reports text =
     LacksFile reports text ⊎ (IsNoFileLine (words_of text) × IsNoRead text × IsNoRequest text)
 
 -- ---- The result of parsing an input line. If memory runs out, nothing is known of the line.
 
--- True if on `Ok` the result is the parsed form of the script's line, or `Bad` if the line requests
--- nothing. If memory ran out, nothing is known of the line.
+-- True if an `Ok` result is the parsed form of the script's line, and the result `Bad` means that
+-- the line requests nothing. If memory ran out, nothing is claimed about the line.
 abbrev pub ReadsWanted : (caller : Option (List ℕ)) → (text : List ℕ) → Wanted
     → Result Entry LineFault → Type 0
 ReadsWanted caller text want (Ok entry) = IsWantedEntry caller text want entry
 ReadsWanted caller text want (Err Bad) = want ≡ wanted.Nothing
 ReadsWanted caller text want (Err Memory) = Unit {0}
 
--- True if on `Ok` the result is the parsed form of the line with the point list `text`. The result
--- is never `Bad`.
+-- True if an `Ok` result is the parsed form of the line with the point list `text`. The result is
+-- never `Bad`.
 abbrev pub ReadsList : (caller : Option (List ℕ)) → (number : ℕ) → (device : Option (List ℕ))
     → (text request : List ℕ) → Result Entry LineFault → Type 0
 ReadsList caller number device text request (Ok entry) =
@@ -201,16 +201,15 @@ ReadsList caller number device text request (Ok entry) =
 ReadsList caller number device text request (Err Bad) = ⊥
 ReadsList caller number device text request (Err Memory) = Unit {0}
 
--- True if on `Ok` the result is the parsed form of the script's line, or `Bad` if the line makes no
--- request.
+-- True if an `Ok` result is the parsed form of the script's line, and the result `Bad` means that
+-- the line makes no request.
 abbrev pub ReadsScript : (caller : Option (List ℕ)) → (text : List ℕ) → Result Entry LineFault
     → Type 0
 ReadsScript caller text (Ok entry) = IsScriptEntry caller text entry
 ReadsScript caller text (Err Bad) = IsNoRequest text
 ReadsScript caller text (Err Memory) = Unit {0}
 
--- True if on `Ok` the result is the parsed form of the line with `@read`. The result is never
--- `Bad`.
+-- True if an `Ok` result is the parsed form of the line with `@read`. The result is never `Bad`.
 abbrev pub ReadsCounter : (caller : Option (List ℕ)) → (text : List ℕ) → ReadLine
     → Result Entry LineFault → Type 0
 ReadsCounter caller text line (Ok entry) =
@@ -218,8 +217,8 @@ ReadsCounter caller text line (Ok entry) =
 ReadsCounter caller text line (Err Bad) = ⊥
 ReadsCounter caller text line (Err Memory) = Unit {0}
 
--- True if on `Ok` the result is the parsed form of a line that names no file. The result is `Bad`
--- if the line has no `@read` and is no request of a script.
+-- True if an `Ok` result is the parsed form of a line that names no file. The result `Bad` means
+-- that the line has no `@read` and is no request of a script.
 abbrev pub ReadsUnnamed : (caller : Option (List ℕ)) → (text : List ℕ) → Result Entry LineFault
     → Type 0
 ReadsUnnamed caller text (Ok entry) =
@@ -227,8 +226,8 @@ ReadsUnnamed caller text (Ok entry) =
 ReadsUnnamed caller text (Err Bad) = IsNoRead text × IsNoRequest text
 ReadsUnnamed caller text (Err Memory) = Unit {0}
 
--- True if on `Ok` the result is the parsed form of a line that names a file, or `Bad` if the file
--- does not exist.
+-- True if an `Ok` result is the parsed form of a line that names a file, and the result `Bad` means
+-- that the file does not exist.
 abbrev pub ReadsFile : Reporting → (caller : Option (List ℕ)) → (text : List ℕ) → FileLine
     → Result Entry LineFault → Type 0
 ReadsFile reports caller text named (Ok entry) =
@@ -237,8 +236,8 @@ ReadsFile reports caller text named (Ok entry) =
 ReadsFile reports caller text named (Err Bad) = reports.files named.name None
 ReadsFile reports caller text named (Err Memory) = Unit {0}
 
--- True if on `Ok` the result is the parsed form of the line, or `Bad` if the line is bad. If memory
--- ran out, nothing is known of the line.
+-- True if an `Ok` result is the parsed form of the line, and the result `Bad` means that the line
+-- is bad. If memory ran out, nothing is claimed about the line.
 abbrev pub ReadsEntry : Reporting → (caller : Option (List ℕ)) → (text : List ℕ)
     → Result Entry LineFault → Type 0
 ReadsEntry reports caller text (Ok entry) = IsEntry reports caller text entry

@@ -12,7 +12,8 @@ use Rattle.office_program.specs.declared.entering.read_line.ReadLine.TheVariants
 use Rattle.office_program.specs.declared.entering.read_line.ReadRequest.{ReadRequest}
 use Rattle.office_program.specs.Entering.Marks.{is_marked, unmarked}
 
--- The words of an input line with `@read`, which is an installation or an exchange.
+-- The words of an input line with `@read`, which installs a meter or exchanges one meter for
+-- another.
 abbrev pub read_form : ReadLine → List Field
 read_form (read.Install number register meter ceiling range) =
     Of Number number ∷ Word (codes "install") ∷ Of AnyName register ∷ Of AnyName meter
@@ -22,15 +23,17 @@ read_form (read.Exchange number register last rolls meter ceiling range) =
     ∷ Of Number rolls ∷ Of AnyName meter ∷ Word (codes "@read") ∷ Of Number ceiling
     ∷ Of Range range ∷ []
 
--- True if the words form exactly this line with `@read`.
+-- True if the words form exactly this line with `@read`, the placeholder for a counter's present
+-- reading.
 abbrev pub IsReadLine : (words : List (List ℕ)) → ReadLine → Type 0
 IsReadLine words line = Spell words (read_form line)
 
--- True if the words form no line with `@read`.
+-- True if the words form no line with `@read`, the placeholder for a counter's present reading.
 abbrev pub IsNoReadLine : (words : List (List ℕ)) → Type 0
 IsNoReadLine words = (line : ReadLine) → IsReadLine words line → ⊥
 
--- ---- The number, register and command of a line with `@read`
+-- ---- The number, register and command of a line with `@read`, a placeholder for the counter's
+-- reading
 
 -- The number of the request in the line.
 abbrev pub number_of : ReadLine → ℕ
@@ -42,7 +45,8 @@ abbrev pub register_of : ReadLine → Option (List ℕ)
 register_of (read.Install number register meter ceiling range) = register
 register_of (read.Exchange number register last rolls meter ceiling range) = register
 
--- The command of the line with `@read`, for the given reading of the counter.
+-- The command of the line with `@read`, where the counter's reading `raw` and `sf` replaces
+-- `@read`.
 abbrev pub command_at : ReadLine → (raw : ℕ) → (sf : ℤ) → Command
 command_at (read.Install number register meter ceiling range) raw sf =
     command.Install (record {
@@ -65,7 +69,8 @@ command_at (read.Exchange number register last rolls meter ceiling range) raw sf
       range = range;
     })
 
--- The request of the line with `@read`, for the given reading of the counter.
+-- The request of the line with `@read`, where the counter's reading `raw` and `sf` replaces
+-- `@read`.
 abbrev pub asked_at : ReadRequest → (raw : ℕ) → (sf : ℤ) → Asked
 asked_at read raw sf = record {
   caller = read.caller;
@@ -76,18 +81,19 @@ asked_at read raw sf = record {
 
 -- ---- The text of an input line with `@read`. An entry by hand may end with the mark ` !`.
 
--- True if the line may end with or without the mark ` !`, as `marked` says. An installation has no
--- mark, but an exchange may have the mark.
+-- True if the line may end with or without the mark ` !` (a confirmation), as `marked` says. An
+-- installation needs no confirmation. An exchange may need one, because it makes an entry by hand.
 abbrev pub may_end : (marked : Bool) → ReadLine → Bool
 may_end marked (read.Install number register meter ceiling range) = not marked
 may_end marked (read.Exchange number register last rolls meter ceiling range) = true
 
--- True if the text is this line with `@read`, with or without the mark ` !`.
+-- True if the text is this line with `@read` (the placeholder for a counter's reading), with or
+-- without the mark ` !` (a confirmation).
 pub record IsRead (text : List ℕ) (line : ReadLine) : Type 0 where
   pub is : IsReadLine (words_of (unmarked text)) line
   pub may : may_end (is_marked text) line ≡ true
 
--- True if the text is no line with `@read`.
+-- True if the text is no line with `@read`, the placeholder for a counter's present reading.
 abbrev pub IsNoRead : (text : List ℕ) → Type 0
 IsNoRead text = (line : ReadLine) → IsRead text line → ⊥
 
@@ -122,8 +128,8 @@ exchange_said number words =
     end_of_words range.1 >>= λ none.
     Some (read.Exchange number register.0 last.0 rolls.0 meter.0 ceiling.0 range.0)
 
--- The line with `@read` that the words after the given verb form, or `None` if they form no such
--- line.
+-- Parses the words after the verb (`install` or `exchange`) of a line with `@read`. `None` if the
+-- words are no such line.
 abbrev pub line_said : (number : ℕ) → (verb : List ℕ) → List (List ℕ) → Option ReadLine
 line_said number verb words =
     if bytes_eq verb (codes "install") then install_said number words

@@ -1,4 +1,4 @@
--- The reading of a meter's counter for an input line, so that the meter is installed at the
+-- The reading of a meter's counter for an input line with `@read`, which installs the meter at the
 -- counter's present reading.
 use Rattle.std.specs.Prelude.{◌≡◌, ◌⊎◌, ℕ, pos, List, true, Option, Some, None, is_some, Result, Ok, Err}
 use Rattle.std.specs.Option.{option_and_then}
@@ -23,8 +23,9 @@ use Rattle.office_program.specs.Entering.Lines.{Reporting}
 use Rattle.office_program.specs.Entering.ReadLines as line
 use Rattle.office_program.specs.Entering.ReadLines.{asked_at}
 
--- The comparison of a request with the stored request of the same key (caller and number). `None`
--- if no such request is stored. The comparison does not depend on the counter's reading.
+-- The comparison of a request with the stored request of the same key (caller and number), to
+-- detect a retry. `None` if no such request is stored. The comparison does not depend on the
+-- counter's reading.
 abbrev pub repeat_of_read : List Fact → ReadRequest → Option Repeat
 repeat_of_read facts read = repeat_in facts (asked_at read 0 (pos 0))
 
@@ -52,11 +53,11 @@ IsNotShown reports facts register =
     (option_and_then (register_of facts) register ≡ None) ⊎ LacksDevice facts register
     ⊎ IsCounterReported reports facts register None
 
--- True for the reading at which the line installs its meter, or for `None` if the counter can't be
--- read.
+-- True if `Some` has the reading at which the line installs its meter, or if the counter can't be
+-- read and the result is `None`.
 --
--- If the store already has the request, the counter is not read. Otherwise the reading is that of
--- the register's counter.
+-- If the store already has the request, the counter need not be read. Otherwise the reading is that
+-- of the register's counter.
 abbrev pub IsShownFor : Reporting → List Fact → ReadRequest → Option Shown → Type 0
 IsShownFor reports facts read (Some shown) =
     (is_some (repeat_of_read facts read) ≡ true)
@@ -72,23 +73,24 @@ AsksShown reports facts read request =
 
 -- ---- The office's answer to the query for the counter's reading
 
--- True if the office found the reading, or found that there is no reading, and the store did not
--- fail. Also true if the office refused the query for a failure.
+-- True if the office found the reading (or that there is none) and the store did not fail, or if
+-- the office refused the query because of a failure.
 abbrev pub HasShown : Reporting → List Fact → ReadRequest → (before after : Failures)
     → Result (Option Shown) Refusal → Type 0
 HasShown reports facts read before after (Ok found) =
     IsShownFor reports facts read found × (after ≡ before)
 HasShown reports facts read before after (Err why) = IsOutside ⊥ before after why
 
--- True if the history of the office is still `past`. The office found the reading for the line, or
--- refused the query for a failure.
+-- True if the history of the office is still `past`, since a query records nothing. The office
+-- found the reading for the line, or refused the query because of a failure.
 pub record IsFilled {B : Type 0} (ledger : B → Ledger) (reports : Reporting) (read : ReadRequest)
     (past : History) (before after : Failures) (office : Office B)
     (result : Result (Option Shown) Refusal) : Type 0 where
   pub stands : Stands ledger past office
   pub reported : HasShown reports (facts_of past) read before after result
 
--- True if `IsFilled` holds for every history of the office before the query.
+-- The contract of finding the counter's reading for an input line. It promises `IsFilled` for any
+-- history of the office before the query.
 abbrev pub Fills : {B : Type 0} → (B → Ledger) → Reporting → ReadRequest → (old new : Office B)
     → Result (Option Shown) Refusal → Type 0
 Fills ledger reports read old new result = After ledger old new (λ past.
@@ -101,31 +103,32 @@ abbrev pub IsCounterFor : Reporting → List Fact → (register : Option (List �
 IsCounterFor reports facts register (Some shown) = IsCounterReported reports facts register (Some shown)
 IsCounterFor reports facts register None = IsNotShown reports facts register
 
--- True if the office found the register's counter and its reading, and the store did not fail. Also
--- true if the office refused the query for a failure.
+-- True if the office found the counter's reading (or that there is none) and the store did not
+-- fail, or if the office refused the query because of a failure.
 abbrev pub HasCounter : Reporting → List Fact → (register : Option (List ℕ))
     → (before after : Failures) → Result (Option Shown) Refusal → Type 0
 HasCounter reports facts register before after (Ok found) =
     IsCounterFor reports facts register found × (after ≡ before)
 HasCounter reports facts register before after (Err why) = IsOutside ⊥ before after why
 
--- True if the history of the office is still `past`. The office found the counter's reading, or
--- refused the query for a failure.
+-- True if the history of the office is still `past`, since a query records nothing. The office
+-- found the counter's reading, or refused the query because of a failure.
 pub record IsReadThere {B : Type 0} (ledger : B → Ledger) (reports : Reporting)
     (register : Option (List ℕ)) (past : History) (before after : Failures) (office : Office B)
     (result : Result (Option Shown) Refusal) : Type 0 where
   pub stands : Stands ledger past office
   pub reported : HasCounter reports (facts_of past) register before after result
 
--- True if `IsReadThere` holds for every history of the office before the query.
+-- The contract of reading the counter of a register by its name. It promises `IsReadThere` for any
+-- history of the office before the query.
 abbrev pub ReadsThere : {B : Type 0} → (B → Ledger) → Reporting → (register : Option (List ℕ))
     → (old new : Office B) → Result (Option Shown) Refusal → Type 0
 ReadsThere ledger reports register old new result = After ledger old new (λ past.
     IsReadThere ledger reports register past (failures_of ledger old) (failures_of ledger new) new
     result)
 
--- True if `IsReadThere` holds for every history of the office, and for every name under which the
--- store records this register.
+-- The contract of reading the counter of a register that was looked up. It promises `IsReadThere`
+-- for any history of the office, and for any name under which the store records this register.
 abbrev pub ReadsAt : {B : Type 0} → (B → Ledger) → Reporting → Register → (old new : Office B)
     → Result (Option Shown) Refusal → Type 0
 ReadsAt ledger reports counter old new result = (register : Option (List ℕ)) → After ledger old new

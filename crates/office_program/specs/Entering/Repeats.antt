@@ -31,36 +31,38 @@ RequestsAreRepeated = (past more : History) (at then : ℕ) (asked again : Asked
     → decision_of (more ++ Fed at (event.Asked asked) ∷ past) then (event.Asked again)
     ≡ Ok (answer.Again (kind_of asked.command))
 
--- True if each file has the same contents whenever the file is read.
+-- True if each file has the same contents at every read. Theorems on retries need this, because a
+-- line that names a file requests the file's contents.
 abbrev pub AreSteady : Reporting → Type 0
 AreSteady reports =
     (name : List ℕ) (a b : Option (List ℕ)) → reports.files name a → reports.files name b → a ≡ b
 
--- True if the request of an input line was accepted, now or earlier.
+-- True if the request of an input line was accepted, either when the line was processed or earlier.
 abbrev pub HasActed : Came → Type 0
 HasActed (course.Asked one) = IsOk one.result
 HasActed _ = ⊥
 
--- True if the request of each input line was accepted, now or earlier.
+-- True if the request of each input line was accepted, either when the line was processed or
+-- earlier.
 abbrev pub HaveActed : List Taken → Type 0
 HaveActed [] = Unit {0}
 HaveActed (one ∷ earlier) = HasActed one.came × HaveActed earlier
 
 -- True for the answer to a retry: the request was done earlier, the store failed, or the office had
--- stopped. No memory outside the store is needed.
+-- stopped after a failure. A retry never fails for lack of memory outside the store.
 abbrev pub IsRepeated : Result Answer Refusal → Type 0
 IsRepeated result =
     ((kind : CommandKind) × (result ≡ Ok (answer.Again kind)))
     ⊎ ((before after : Failures) × FailsOutside ⊥ before after result)
 
--- True if the input line was answered as a retry, or refused for a failure.
+-- True if the input line was answered as a retry, or refused because of a failure.
 abbrev pub HasRepeated : Came → Type 0
 HasRepeated (course.Asked one) = IsRepeated one.result
 HasRepeated (Undecided at request why) =
     (before after : Failures) × IsOutside ⊥ before after why
 HasRepeated _ = ⊥
 
--- True if each input line was answered as a retry, or refused for a failure.
+-- True if each input line was answered as a retry, or refused because of a failure.
 abbrev pub HaveRepeated : List Taken → Type 0
 HaveRepeated [] = Unit {0}
 HaveRepeated (one ∷ earlier) = HasRepeated one.came × HaveRepeated earlier
@@ -90,10 +92,10 @@ pub record EntersAgain (reports : Reporting) (caller : Option (List ℕ)) (lines
   pub after : Failures
   pub answered : AreAnswered later before after again
 
--- True if the lines that are entered again do not act.
+-- True if the lines that are entered again have no effect.
 --
--- The history of the office is unchanged, and each line is answered as a retry or refused for a
--- failure.
+-- The history of the office is unchanged, and each line is answered as a retry or refused because
+-- of a failure.
 pub record ActsNoMore (later : History) (again : List Taken) : Type 0 where
   pub same : history_with later again ≡ later
   pub repeated : HaveRepeated again

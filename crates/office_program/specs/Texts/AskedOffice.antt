@@ -1,5 +1,5 @@
--- The result of opening an office for queries. The office is opened at the clock's time, or at the
--- latest timestamp in the store if that timestamp is later.
+-- The result of opening an office for queries. Opening uses the clock's time, or the latest
+-- timestamp in the store if that timestamp is later.
 use Rattle.std.specs.Prelude.{ℕ, List, ◌∷◌, Option, Result, IfOk, IfErr}
 use Rattle.std.specs.declared.io.Write as writers
 use Rattle.socket_link.specs.declared.clock.Clock as a_clock
@@ -18,15 +18,16 @@ use Rattle.socket_link.specs.Clocks as clocks
 use Rattle.office_program.specs.Texts.EndTexts.{IsReported}
 use Rattle.office_program.specs.declared.texts.opened_office.Unopened.{Unopened}
 
--- True if the office was opened for queries. The office is in the state after the opening, and the
--- polls that were pending are lost.
+-- True if the office was opened for queries. The office is in the state after the opening, and each
+-- poll that was pending in the store has the outcome `lost`.
 pub record OpensToAsk {B : Type 0} (ledger : B → Ledger) (past : History)
     (moments later : Option (List ℕ)) (office : Office B) : Type 0 where
   pub reported : ℕ
   pub timed : clocks.ReportsMoment moments later reported
   pub stands : Stands ledger (Opened (asking_moment past reported) ∷ past) office
 
--- True if `OpensToAsk` holds, provided that no wrong result of the store was used.
+-- True if the office was opened for queries as `OpensToAsk` describes. This is promised only if no
+-- wrong result of the store was used.
 abbrev pub OpensToAskWhereClean : {B : Type 0} → (B → Ledger) → (past : History)
     → (moments later : Option (List ℕ)) → Office B → Type 0
 OpensToAskWhereClean ledger past moments later office =
@@ -42,8 +43,8 @@ pub record ReportsUnasked (past : History) (moments later : Option (List ℕ)) (
   pub refused : IsNotOpened past (asking_moment past reported) old new why
   pub printed : IsReported (refused_line why) Refused status had holds
 
--- True if `ReportsUnasked` holds with the returned store, provided that no wrong result of the
--- store was used.
+-- True if the office was not opened and the reason was printed, as `ReportsUnasked` describes. This
+-- is promised only if no wrong result of the store was used.
 abbrev pub ReportsUnaskedWhereClean : {B : Type 0} → (B → Ledger) → (past : History)
     → (moments later : Option (List ℕ)) → (books : B) → (had holds : Option (List ℕ))
     → Unopened B → Type 0

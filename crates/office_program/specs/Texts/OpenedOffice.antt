@@ -18,8 +18,8 @@ use Rattle.office_program.specs.Texts.EndTexts.{IsReported}
 use Rattle.office_program.specs.Texts.Passing.{Lasts}
 use Rattle.office_program.specs.declared.texts.opened_office.Unopened.{Unopened}
 
--- True if the office was opened. The office is in the state after the opening, and the polls that
--- were pending are lost.
+-- True if the office was opened. The office is in the state after the opening, and each poll that
+-- was pending in the store has the outcome `lost`.
 pub record Opens {B : Type 0} (ledger : B → Ledger) (past : History)
     (moments later : Option (List ℕ))
     (office : Office B) : Type 0 where
@@ -27,7 +27,8 @@ pub record Opens {B : Type 0} (ledger : B → Ledger) (past : History)
   pub timed : clocks.ReportsMoment moments later at
   pub stands : Stands ledger (Opened at ∷ past) office
 
--- True if `Opens` holds, provided that no wrong result of the store was used.
+-- True if the office was opened as `Opens` describes. This is promised only if no wrong result of
+-- the store was used.
 abbrev pub OpensWhereClean : {B : Type 0} → (B → Ledger) → (past : History)
     → (moments later : Option (List ℕ)) → Office B → Type 0
 OpensWhereClean ledger past moments later office =
@@ -44,8 +45,8 @@ pub record ReportsUnopened (past : History) (moments later : Option (List ℕ)) 
   pub refused : IsNotOpened past at old new why
   pub reported : IsReported (refused_line why) Refused status had holds
 
--- True if `ReportsUnopened` holds with the returned store, provided that no wrong result of the
--- store was used.
+-- True if the office was not opened and the reason was printed, as `ReportsUnopened` describes.
+-- This is promised only if no wrong result of the store was used.
 abbrev pub ReportsWhereClean : {B : Type 0} → (B → Ledger) → (past : History)
     → (moments later : Option (List ℕ)) → (books : B) → (had holds : Option (List ℕ))
     → Unopened B → Type 0

@@ -1,4 +1,4 @@
--- The properties of a store that an opening of an office keeps, whatever the store returned.
+-- The properties of a store that opening an office preserves, whatever the store returned.
 use Rattle.std.specs.Prelude.{◌≡◌}
 use Rattle.office_books.specs.Ledgers.{Ledger}
 

@@ -39,8 +39,8 @@ IsRangedReport zone past register form (Err why) text = text ≡ refused_line wh
 
 -- The text and the exit status of a register's report on a range of days.
 --
--- The report is refused if no register has the name, and otherwise only for a failure. Memory
--- outside the store is needed only if a register has the name.
+-- The report is refused if no register has the name, and otherwise only because of a failure. Lack
+-- of memory outside the store is a possible failure only if a register has the name.
 pub record RangePrints (zone : Zone) (past : History) (register : Option (List ℕ))
     (form : ReportForm) (before after : Failures) (text : List ℕ) (meant : ExitStatus) :
     Type 0 where
@@ -67,14 +67,15 @@ pub record PrintsRefusal {W : Type 0} (contents : W → Option (List ℕ)) (why 
   pub reported : IsReported (refused_line why) Refused status (contents old.output.now)
       (contents new.output.now)
 
--- True if the last text of the report was printed. If any write failed, the exit status is
--- `Failed`.
+-- True if the text after the report's last row was printed. If any write of the report failed, the
+-- exit status is `Failed`.
 pub record PrintsLast {W : Type 0} (contents : W → Option (List ℕ)) (status : ExitStatus)
     (old new : ReportRows W) : Type 0 where
   pub finishes : Finishes contents old new
   pub means : status ≡ (if new.failed then Failed else Fine)
 
--- True if the last text of the report was printed, or the refusal if the report was refused.
+-- True if the text after the report's last row was printed, or the refusal if the report was
+-- refused.
 abbrev pub PrintsRest : {W : Type 0} → (W → Option (List ℕ)) → Result (Unit {0}) Refusal
     → ExitStatus → (old new : ReportRows W) → Type 0
 PrintsRest contents (Ok done) status old new = PrintsLast contents status old new

@@ -45,8 +45,8 @@ IsReport zone past register (Err why) text = text ≡ refused_line why
 
 -- The text and the exit status of a register's report.
 --
--- The report is refused if no register has the name, and otherwise only for a failure. Memory
--- outside the store is needed only if a register has the name.
+-- The report is refused if no register has the name, and otherwise only because of a failure. Lack
+-- of memory outside the store is a possible failure only if a register has the name.
 pub record ReportPrints (zone : Zone) (past : History) (register : Option (List ℕ))
     (before after : Failures)
     (text : List ℕ) (meant : ExitStatus) : Type 0 where
@@ -65,7 +65,8 @@ ReportsDays b w register old new had holds status = After b.ledger old new
     (failures_of b.ledger old) (failures_of b.ledger new))
     status (w.contents had) (w.contents holds))
 
--- True if the office was only queried, and answered or refused the query.
+-- True if the office was only queried, so its history is unchanged. It answered or refused the
+-- query.
 pub record Asks {B : Type 0} (ledger : B → Ledger) (old new : Office B) : Type 0 where
   pub reply : Result (Unit {0}) Refusal
   pub only : OnlyAsks ledger old new reply

@@ -1,4 +1,5 @@
--- The text of a device's polling round, and of the refusal that broke the round off.
+-- The text of a device's polling round (one poll for each Modbus read of its plan), and of the
+-- refusal that ended the round early.
 use Rattle.std.specs.Prelude.{◌≡◌, ◌⊎◌, ℕ, List, Option, Result, Ok, Err}
 use Rattle.std.specs.Io.KnownBytes.{Appends}
 use Rattle.std.specs.declared.io.Write as writers
@@ -19,8 +20,8 @@ use Rattle.office_rounds.specs.declared.fault.RoundFault.TheVariants.{Refused, L
 use Rattle.script_text.specs.AnswerText.{refused_line}
 use Rattle.sun_points.specs.Writing.{GotPart}
 
--- True if the refusal that broke the polling round off was printed. If the write failed, a part of
--- the refusal was printed, and the fault is `Output`.
+-- True if the refusal that ended the polling round early was printed. If the write failed, a part
+-- of the refusal was printed, and the fault is `Output`.
 --
 -- For other results of the round, nothing was printed.
 abbrev pub IsRefusalReported : (done result : Result (Unit {0}) RoundFault)
@@ -33,14 +34,14 @@ IsRefusalReported (Err Link) result old new = (result ≡ Err Link) × (new ≡ 
 IsRefusalReported (Err Output) result old new = (result ≡ Err Output) × (new ≡ old)
 IsRefusalReported (Err TurnsUsed) result old new = (result ≡ Err TurnsUsed) × (new ≡ old)
 
--- The state at the start of the polling round and at its end. The end is before the refusal that
--- broke the round off was printed.
+-- The passage of a polling round, from its start state to its end state, before the final refusal
+-- was printed. `printed` is the text that was printed until then.
 abbrev pub without_cause : Passage → (printed : Option (List ℕ)) → Passage
 without_cause through printed =
     passage through.begun
     (round_state printed through.ended.moments through.ended.failures) through.from through.to
 
--- True if the device was polled in a polling round. If a refusal broke the round off, the refusal
+-- True if the device was polled in a polling round. If a refusal ended the round early, the refusal
 -- was printed.
 pub record PollsRound {B : Type 0} (ledger : B → Ledger) (device : Option (List ℕ)) (past : History)
     (through : Passage)
@@ -50,8 +51,8 @@ pub record PollsRound {B : Type 0} (ledger : B → Ledger) (device : Option (Lis
   pub round : one.Rounds ledger device past (without_cause through printed) office done
   pub reported : IsRefusalReported done result printed through.ended.printed
 
--- True if `PollsRound` holds for every history of the office, with the link, the clock and the
--- writer before and after the polling round.
+-- The contract of a polling round of one device. It promises `PollsRound` for any history of the
+-- office, and names the link, the clock and the writer before and after the round.
 abbrev pub PollsRoundOver : {L B C W : Type 0} → links.Ghosts L → stores.Ghosts B → clocks.Ghosts C
     → writers.Ghosts W → (device : Option (List ℕ)) → (from to : L) → (old new : Office B)
     → (before after : C) → (had holds : W) → Result (Unit {0}) RoundFault → Type 0

@@ -1,4 +1,5 @@
--- The statements of the meters at an accounting register, on a range of days.
+-- The statements of the meters at an accounting register, on a range of days. A statement has the
+-- numbers against which a bill is checked.
 use Rattle.std.specs.Prelude.{◌≡◌, ℕ, List, ◌++◌, map, filter, All, is_some, true, Option, Some, Result, Ok, Err}
 use Rattle.std.specs.Option.{option_map, option_and_then}
 use Rattle.std.specs.declared.alloc.Global.{Global}
@@ -38,10 +39,10 @@ use Rattle.office_program.specs.Texts.EndTexts.{ReportsEnd}
 
 -- ---- The statement of one meter
 
--- The statement of a meter with this name and opening. It has the meter's entries, its energy in
--- mWh, and the counts of its rejected readings.
+-- The statement of a meter with this name and opening (the record that installs the meter). It has
+-- the meter's entries, its energy in mWh, and the counts of its rejected readings.
 --
--- Without an opening the meter has neither entries nor energy.
+-- A meter without an opening has neither entries nor energy.
 abbrev pub reported_of : Zone → DayRange → List Fact → (meter : List ℕ) → Option Opening
     → MeterStatement
 reported_of zone range facts meter opening = record {
@@ -85,8 +86,8 @@ abbrev pub statement_in : Zone → DayRange → List Fact → (meter : List ℕ)
 statement_in zone range facts meter =
     option_map (λ opening. reported_of zone range facts meter (Some opening)) (opening_of facts meter)
 
--- True if the office answered a query from the records of all accepted events. The query needs
--- memory outside the store.
+-- True if the office answered a query from the records of all accepted events, or refused the query
+-- because of a failure. Lack of memory outside the store is one such failure.
 abbrev pub AnswersOf : {B T : Type 0} → (B → Ledger) → (old new : Office B) → Result T Refusal
     → (List Fact → Option T) → Type 0
 AnswersOf ledger old new result found = After ledger old new (λ past.
@@ -95,12 +96,12 @@ AnswersOf ledger old new result found = After ledger old new (λ past.
 
 -- ---- The statements of the meters at a register
 
--- True if each installation in `rows` is in the store's records.
+-- True if the records have the installation of each meter in `rows`.
 abbrev pub AreRecorded : List Fact → List Installation → Type 0
 AreRecorded facts rows = All (λ row. is_some (opening_of facts row.opening.meter) ≡ true) rows
 
 -- True if the statements of the meters in `rows` were appended to the list of statements, or the
--- office refused a query for a failure.
+-- office refused a query because of a failure.
 abbrev pub IsStated : Zone → DayRange → List Fact → List Installation
     → (before after : List MeterStatement) → (had has : Failures) → Result (Unit {0}) Refusal
     → Type 0
@@ -108,7 +109,8 @@ IsStated zone range facts rows before after had has (Ok done) =
     (after ≡ before ++ statements_of zone range facts rows) × (has ≡ had)
 IsStated zone range facts rows before after had has (Err why) = IsOutside (Unit {0}) had has why
 
--- True if `IsStated` holds for every history of the office before the queries.
+-- The contract of appending the statements of the meters in `rows`. It promises `IsStated` for any
+-- history of the office before the queries.
 abbrev pub States : {B : Type 0} → (B → Ledger) → Zone → DayRange → List Installation
     → (old new : Office B) → (before after : List MeterStatement) → Result (Unit {0}) Refusal
     → Type 0
@@ -141,7 +143,7 @@ meant_by (Ok rows) = Fine
 meant_by (Err why) = Refused
 
 -- The text and the exit status of the statements. The statements are refused if no register has the
--- name, or for a failure.
+-- name, or because of a failure.
 pub record StatementPrints (zone : Zone) (past : History) (register : Option (List ℕ))
     (form : StatementForm) (before after : Failures) (text : List ℕ) (meant : ExitStatus)
     : Type 0 where

@@ -1,4 +1,5 @@
-//! Processes one input line: feeds the line's request to the office and prints the answer.
+//! Processes one input line: feeds the line's request to the office (the engine that records
+//! energy) and prints the answer.
 ghost use Rattle.std.specs.Prelude.{◌≡◌, IfOk, true};
 ghost use Rattle.office_rounds.specs.Passing.{Lasts};
 ghost use Rattle.sun_points.specs.Writing.{GotText};
@@ -78,8 +79,8 @@ fn print_doubt<W: Write>(mwh: u128, output: &mut W) -> io::Result<()>
     output.take_text(doubted_line(mwh).bytes())
 }
 
-// Prints that an entry by hand is doubted (above the meter's ceiling). Returns the progress of the
-// input after the entry's line.
+// Prints that an entry by hand is doubted: it would record more energy than the meter's power limit
+// allows. Returns the progress of the input after the entry's line.
 fn print_doubted<W: Write>(mwh: u128, at: u64, output: &mut W) -> io::Result<Progress>
     ensures { ReportsWhyNot (course.doubted_line mwh) at
         (W.contents output.old) (W.contents output.new) result }
@@ -90,8 +91,8 @@ fn print_doubted<W: Write>(mwh: u128, at: u64, output: &mut W) -> io::Result<Pro
     }
 }
 
-// Prints the refusal of a query that an input line needs. Returns the progress of the input after
-// the line.
+// Prints the refusal of a query that an input line needs, for example whether its entry is doubted.
+// Returns the progress of the input after the line.
 fn print_undecided<W: Write>(why: Refusal, at: u64, output: &mut W) -> io::Result<Progress>
     ensures { ReportsWhyNot (refused_line why) at
         (W.contents output.old) (W.contents output.new) result }
@@ -121,8 +122,8 @@ fn moment<C: Clock>(progress: Progress, clock: &mut C) -> u64
     progress.latest.max(reported)
 }
 
-// Feeds a request to the office and prints the office's answer. If the request's entry is doubted,
-// prints the doubt and feeds nothing.
+// Feeds a request to the office and prints the office's answer. If the request's entry needs a
+// confirmation, prints the doubted energy and feeds nothing.
 fn ask<B: Books, W: Write>(
     office: &mut Office<B>,
     progress: Progress,
@@ -143,8 +144,8 @@ fn ask<B: Books, W: Write>(
     }
 }
 
-// Reads the meter's counter for a line with `@read`, and then feeds the line's request to the
-// office as `ask` does.
+// Reads the meter's counter for a line with `@read`, a placeholder for the reading. Then feeds the
+// line's request to the office as `ask` does.
 fn read_and_ask<B: Books, F: NamedFiles, W: Write>(
     office: &mut Office<B>,
     progress: Progress,
@@ -192,8 +193,8 @@ fn print_list_faults<W: Write>(
     }
 }
 
-// Feeds the request of an input line to the office. If the line's point list has faulty rows, or
-// its entry is doubted, prints these rows or the doubt instead.
+// Feeds the request of an input line to the office. If the line's point list has faulty rows,
+// prints these rows instead. If its entry needs a confirmation, prints the doubted energy instead.
 fn enter_entry<B: Books, C: Clock, F: NamedFiles, W: Write>(
     office: &mut Office<B>,
     progress: Progress,

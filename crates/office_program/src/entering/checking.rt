@@ -60,7 +60,8 @@ fn known_by(found: Option<Repeat>) -> Known
     }
 }
 
-// Looks up in the store whether the same request was made earlier. Does not change the store.
+// Looks up in the store whether the same request was made earlier. `--check` uses this, and the
+// store does not change.
 fn look_up<B: Books>(books: &mut B, asked: &Asked) -> Known
     ensures known { KnowsRequest (B.ledger books.old) (B.ledger books.new) asked.now result }
     ensures looks { OnlyLooks (B.ledger books.old) (B.ledger books.new) }

@@ -1,5 +1,5 @@
-//! Decides whether an entry by hand needs a confirmation. An entry needs a confirmation if its
-//! energy is more than the meter's ceiling allows.
+//! Decides whether an entry by hand needs a confirmation. An entry needs one if its energy is more
+//! than the meter's ceiling (its greatest power) allows since the last entry.
 ghost use Rattle.std.specs.Prelude.{◌≡◌, ◌≤◌, ◌+◌, ◌*◌, ◌^◌};
 ghost use Rattle.std.specs.Option.{option_and_then};
 ghost use Rattle.office_rules.specs.History as history;
@@ -16,8 +16,8 @@ use office_core::Office;
 use office_events::{Asked, Command, Installation, Name, Refusal};
 use office_rules::{facts_are_lawful, installations_are_in_range};
 
-// Returns the value of a counter without overflow: the count `raw` plus `rolls` full turns of the
-// counter.
+// Returns the value that a counter without rollovers would have: the count `raw` plus one full
+// counter range for each of `rolls` rollovers.
 fn turned(row: &Installation, raw: u64, rolls: u64) -> u128
     requires { IsSound row.now }
     ensures value { result ≡ raw + rolls * row.now.opening.range }
@@ -26,15 +26,17 @@ fn turned(row: &Installation, raw: u64, rolls: u64) -> u128
     u128::from(raw) + u128::from(rolls) * u128::from(row.opening.range)
 }
 
-// Returns whether an entry is later than the meter's last entry, and does not decrease the counter.
+// Returns true if an entry is later than the meter's last entry and does not decrease the counter.
+// The office refuses any other entry, so it needs no confirmation.
 fn goes_on(row: &Installation, moment: u64, up_to: u128) -> bool
     ensures { result ≡ spec.goes_on row.now moment up_to }
 {
     row.last.at < moment && u128::from(row.last.raw) <= up_to
 }
 
-// Returns true if a load at the meter's ceiling can advance the counter to `up_to`. The last count
-// is subtracted, because the counter may have been about to advance.
+// Returns true if a load at the meter's ceiling (its greatest power) can advance the counter to
+// `up_to`. One count is subtracted from `up_to`, because the counter may have been about to advance
+// at the last entry.
 fn is_within_ceiling(row: &Installation, moment: u64, up_to: u128) -> bool
     requires sound { IsSound row.now }
     requires small { up_to ≤ 2 ^ 97 }
@@ -45,8 +47,8 @@ fn is_within_ceiling(row: &Installation, moment: u64, up_to: u128) -> bool
     energy * 18 <= u128::from(row.opening.ceiling) * u128::from(seconds) * 5
 }
 
-// Returns the energy of an entry, in mWh, if the entry is doubted (above the meter's ceiling).
-// Otherwise returns `None`.
+// Returns the energy of an entry, in mWh, if it is more than the meter's ceiling (its greatest
+// power) allows. Otherwise returns `None`.
 fn doubted_up_to(row: &Installation, moment: u64, up_to: u128) -> Option<u128>
     requires sound { IsSound row.now }
     requires small { up_to ≤ 2 ^ 97 }
@@ -83,8 +85,8 @@ fn doubted_at(at: u64, command: &Command, row: &Installation) -> Option<u128>
     }
 }
 
-// Returns the result of `doubted_at` for an open meter, or `None` for a closed meter. The store
-// returns no meter with numbers out of range.
+// Returns the result of `doubted_at` for an open meter, or `None` for a closed meter. Also returns
+// `None` for a meter with numbers out of range, which the store never returns.
 fn doubted_if_open(at: u64, command: &Command, row: &Installation) -> Option<u128>
     ensures { IsSound row.now
         → result ≡ option_and_then (spec.doubted_at at command.now) (if_open row.now) }
@@ -140,8 +142,9 @@ fn doubted_in<B: Books>(
     }
 }
 
-/// Returns the energy, in mWh, that a request would record, if its entry is doubted (above the
-/// meter's ceiling). Otherwise returns `None`. The office is only queried.
+/// Returns the energy, in mWh, that a request would record, if its entry is doubted: above what the
+/// meter's ceiling (its greatest power) allows. Otherwise returns `None`. The office is only
+/// queried.
 pub(crate) fn doubt_of<B: Books>(
     office: &mut Office<B>,
     at: u64,

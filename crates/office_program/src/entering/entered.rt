@@ -17,8 +17,8 @@ use socket_link::{Clock, FixedClock};
 use std::alloc::Global;
 use std::io::Write;
 
-// Processes the lines of an input in order, until the first bad line. No line has a timestamp
-// before `first`.
+// Processes the lines of an input in order, until the first bad line. The timestamp of a line is at
+// least `first`.
 fn enter_text<B: Books, C: Clock, F: NamedFiles, W: Write>(
     alloc: Global,
     office: &mut Office<B>,

@@ -1,4 +1,4 @@
-//! Parses an input line into a request, before the request is fed to the office.
+//! Parses an input line into a request. The request is fed to the office later.
 ghost use Rattle.std.specs.Prelude.{◌≡◌, Some, IfOk};
 ghost use Rattle.script_lines.specs.LineWords.Words.{words_of};
 ghost use Rattle.office_program.specs.Entering.FileLines.{seen_line};
@@ -27,7 +27,8 @@ pub(crate) enum Entry {
     Faulty(FaultyRows),
 }
 
-// Parses the point list of an input line. `request` are the bytes of the line that the store keeps.
+// Parses the point list (the points to poll) of an input line. `request` has the bytes of the line
+// that the store keeps.
 fn list_entry(
     alloc: Global,
     caller: Option<Name>,
@@ -55,15 +56,16 @@ fn list_entry(
     }
 }
 
-// Returns a copy of the input line, which the store keeps as the bytes of the line's request.
+// Returns a copy of the input line. The store keeps these bytes to recognize a retry of the line's
+// request.
 fn kept_line(alloc: Global, line: &[u8]) -> Result<Piece, AllocError>
     ensures { IfOk result (λ kept. kept ≡ line.now) }
 {
     Ok(Piece::new(Vec::from_slice(alloc, line)?))
 }
 
-// Returns the bytes that the store keeps for an input line that names a file. These are the line, a
-// line feed, and the bytes of the file.
+// Returns the bytes that the store keeps for an input line that names a file: the line, a line
+// feed, and the bytes of the file. A retry must match all of them.
 fn file_request(alloc: Global, line: &[u8], text: &[u8]) -> Result<Piece, AllocError>
     ensures { IfOk result (λ kept. kept ≡ lines.file_request line.now text.now) }
 {
@@ -73,8 +75,8 @@ fn file_request(alloc: Global, line: &[u8], text: &[u8]) -> Result<Piece, AllocE
     Ok(Piece::new(bytes))
 }
 
-// Returns the parsed form of a script's line, by the request in the line. Returns `Bad` if the line
-// requests nothing.
+// Returns the parsed form of a script's line that contains the request `want`. Returns `Bad` if the
+// line requests nothing.
 fn wanted_entry(
     alloc: Global,
     caller: Option<Name>,
@@ -105,7 +107,7 @@ fn wanted_entry(
     }
 }
 
-// Parses a script's line, which may end with the mark ` !`.
+// Parses a script's line, which may end with the mark ` !` (a confirmation of an entry by hand).
 fn script_entry(alloc: Global, caller: Option<Name>, line: &[u8]) -> Result<Entry, LineFault>
     ensures { ReadsScript caller line.now result }
 {
@@ -154,7 +156,8 @@ fn file_entry<F: NamedFiles>(
     }
 }
 
-// Returns the parsed form of an input line with `@read`. The meter's counter is read later.
+// Returns the parsed form of an input line with `@read`, a placeholder for the counter's reading.
+// The meter's counter is read later.
 fn read_entry(
     alloc: Global,
     caller: Option<Name>,

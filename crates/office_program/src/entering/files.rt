@@ -1,4 +1,5 @@
-//! The source of the files that an input names, and of the meter counters that an input reads.
+//! A trait for reading the files that an input names, and the meter counters that an input reads
+//! with `@read`.
 
 use office_events::{Device, Register};
 use std::alloc::{AllocError, Global};
@@ -13,7 +14,7 @@ pub struct Shown {
     pub sf: i16,
 }
 
-/// A source of the files that an input names, and of the counter readings at which it installs
+/// A reader of the files that an input names, and of the counters at whose readings it installs
 /// meters.
 pub trait NamedFiles {
     ghost use Rattle.std.specs.Prelude.{◌≤◌, ℕ, List, Option, IfOk, IfSome, length, option_map};

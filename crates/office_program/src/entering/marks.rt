@@ -5,7 +5,7 @@ ghost use Rattle.office_program.specs.Entering.Marks as spec;
 
 use office_events::Command;
 
-/// Returns true if the input line ends with the mark ` !`.
+/// Returns true if the input line ends with the mark ` !`, which confirms an entry by hand.
 pub(crate) fn is_marked(line: &[u8]) -> bool
     ensures marked { result ≡ spec.is_marked line.now }
     ensures long { IsTrue result → 2 ≤ length line.now }
@@ -13,7 +13,8 @@ pub(crate) fn is_marked(line: &[u8]) -> bool
     line.ends_with(b" !")
 }
 
-/// Returns the input line without its mark ` !`, or the complete line if it has no mark.
+/// Returns the input line without its mark ` !` (a confirmation), or the complete line if it has no
+/// mark.
 pub(crate) fn unmarked(line: &[u8]) -> &[u8]
     ensures { result.now ≡ spec.unmarked line.now }
 {
@@ -24,8 +25,8 @@ pub(crate) fn unmarked(line: &[u8]) -> &[u8]
     }
 }
 
-/// Returns true if the command makes an entry by hand. Lines of other commands may not end with the
-/// mark ` !`.
+/// Returns true if the command makes an entry by hand. Only lines of such commands may end with the
+/// mark ` !`, which confirms the entry.
 pub(crate) fn is_by_hand(command: &Command) -> bool
     ensures { result ≡ lines.is_by_hand command.now }
 {

@@ -4,21 +4,22 @@ ghost use Rattle.office_program.specs.Entering.Entered.{status_of};
 
 use command_io::ExitStatus;
 
-/// The latest timestamp of an input's lines, and whether any line was refused.
+/// The progress of entering an input: the latest timestamp of its lines, and whether any line was
+/// refused.
 #[derive(Clone, Copy, Debug, PartialEq, Eq)]
 pub(crate) struct Progress {
     /// The timestamp of the latest input line that needed a timestamp, in seconds since 1970-01-01
     /// UTC.
     ///
-    /// Such a line made a request, or made no request because of a doubt, a failed query or an
-    /// unread counter.
+    /// Such a line made a request, or made none because of a doubted entry, a failed query or a
+    /// counter that can't be read.
     pub(crate) latest: u64,
     /// True if any line was refused or made no request.
     pub(crate) refused: bool,
 }
 
 impl Progress {
-    /// Creates the progress before the first input line. The timestamp of this line is at least
+    /// Creates the progress before the first input line. No input line has a timestamp before
     /// `moment`.
     pub(crate) fn from(moment: u64) -> Progress
         ensures { result ≡ record { latest = moment; refused = false } }

@@ -88,8 +88,8 @@ fn exchange(number: u64, words: &mut Words<'_>) -> Option<ReadLine>
     })
 }
 
-// Parses the words after the number and the verb of an input line. Returns `None` if the line has
-// neither of the two forms with `@read`.
+// Parses the words after the number and the verb of an input line. Returns `None` if the line is
+// neither an installation nor an exchange with `@read`.
 fn line_of(number: u64, verb: &[u8], words: &mut Words<'_>) -> Option<ReadLine>
     ensures { result ≡ spec.line_said number verb.now words.old }
 {
@@ -102,7 +102,7 @@ fn line_of(number: u64, verb: &[u8], words: &mut Words<'_>) -> Option<ReadLine>
     }
 }
 
-// Parses an input line with `@read`, without its mark ` !`.
+// Parses an input line with `@read`. The caller has removed the mark ` !` (a confirmation).
 fn read_line(line: &[u8]) -> Option<ReadLine>
     ensures { result ≡ spec.read_said (words_of line.now) }
 {
@@ -112,8 +112,8 @@ fn read_line(line: &[u8]) -> Option<ReadLine>
     line_of(number, verb, &mut words)
 }
 
-/// Parses an input line with `@read`. The line may end with the mark ` !` if it makes an entry by
-/// hand.
+/// Parses an input line with `@read`. The line may end with the mark ` !` (a confirmation) if it
+/// makes an entry by hand.
 pub(crate) fn read_in(line: &[u8]) -> Option<ReadLine>
     ensures { MatchOption result (spec.IsNoRead line.now) (λ read. spec.IsRead line.now read) }
 {
@@ -130,8 +130,8 @@ pub(crate) fn read_in(line: &[u8]) -> Option<ReadLine>
 }
 
 impl ReadLine {
-    // Returns true if the line may end with or without the mark ` !`, as `marked` says. Only an
-    // exchange may have the mark.
+    // Returns true if the line may end with or without the mark ` !` (a confirmation), as `marked`
+    // says. Only an exchange may have the mark.
     fn may_end(&self, marked: bool) -> bool
         ensures { result ≡ spec.may_end marked self.now }
     {
@@ -141,7 +141,7 @@ impl ReadLine {
         }
     }
 
-    /// Returns the number of the line's request.
+    /// Returns the number of the line's request, a part of its idempotency key.
     pub(crate) fn number(&self) -> u64
         ensures { result ≡ spec.number_of self.now }
     {
@@ -203,7 +203,8 @@ impl ReadLine {
     }
 }
 
-/// The request of an input line with `@read`, before the meter's counter is read.
+/// The request of an input line with `@read`, before the meter's counter is read. `@read` is the
+/// placeholder for the reading.
 #[derive(Drop)]
 pub(crate) struct ReadRequest {
     pub(crate) caller: Option<Name>,
@@ -212,7 +213,7 @@ pub(crate) struct ReadRequest {
 }
 
 impl ReadRequest {
-    /// Returns the command that the line with `@read` asks for, with the counter's reading in it.
+    /// Returns the request of the line with `@read`, with the counter's reading in it.
     pub(crate) fn asked(self, shown: Shown) -> Asked
         ensures { result ≡ spec.asked_at self shown.raw shown.sf }
     {

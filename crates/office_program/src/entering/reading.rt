@@ -9,7 +9,8 @@ use office_books::Books;
 use office_core::Office;
 use office_events::{Name, Refusal, Register};
 
-/// The reading to use if the counter is not read because the store already has the request.
+/// The placeholder for a reading when the counter is not read, because the store already has the
+/// request.
 pub(crate) const NOT_READ: Shown = Shown { raw: 0, sf: 0 };
 
 // Returns the reading of the register's counter from the register's device. Returns `None` if the
@@ -52,10 +53,10 @@ fn shown_there<B: Books, F: NamedFiles>(
     }
 }
 
-/// Returns the counter's reading for the request of an input line. Returns `None` if the counter
-/// can't be read.
+/// Returns the counter's reading for the request of an input line with `@read`. Returns `None` if
+/// the counter can't be read.
 ///
-/// If the store already has the request, the counter is not read.
+/// If the store already has the request, the line is a retry and the counter is not read.
 pub(crate) fn shown_for<B: Books, F: NamedFiles>(
     office: &mut Office<B>,
     read: &ReadRequest,

@@ -1,4 +1,5 @@
-//! Finds the request in a line of a script. The number of the request is the line's first word.
+//! Finds the request in a line of a script. In an input, the first word of a line is the request's
+//! number instead of a timestamp.
 ghost use Rattle.std.specs.Prelude.{◌≡◌};
 ghost use Rattle.office_program.specs.Entering.Lines as lines;
 
@@ -15,7 +16,7 @@ pub(crate) enum Wanted {
     Nothing,
 }
 
-// Returns true if an input line can request the command. Only commands that start polls can't be
+// Returns true if an input line can request the command. Commands that start polls can't be
 // requested.
 fn is_request(command: &Command) -> bool
     ensures { result ≡ lines.is_request command.now }

@@ -1,4 +1,4 @@
-//! Opens an office over a store for queries.
+//! Opens an office (the engine that records meters' energy) over a store, for queries only.
 ghost use Rattle.std.specs.Prelude.{◌≡◌, ◌≢◌, IfOk, IfErr};
 ghost use Rattle.office_core.specs.Standing.{IsFresh};
 ghost use Rattle.office_program.specs.Texts.AskedOffice.{OpensToAskOver, RefusesToAskOver};
@@ -15,9 +15,9 @@ use std::io::Write;
 
 /// Opens an office over a store for queries.
 ///
-/// The office is opened at the clock's time, or at the latest timestamp in the store if that
-/// timestamp is later, since queries need no clock. If the opening is refused, the function prints
-/// `refused N`.
+/// Opening uses the clock's time, or the latest timestamp in the store if that timestamp is later.
+/// So a clock that was set back prevents no query. If opening the office is refused, the function
+/// prints `refused N`.
 pub fn open_office_to_ask<B: Books, C: Clock, W: Write>(
     alloc: Global,
     books: B,

@@ -1,4 +1,4 @@
-//! Opens an office over a store at the clock's time.
+//! Opens an office (the engine that records meters' energy) over a store at the clock's time.
 ghost use Rattle.std.specs.Prelude.{◌≡◌, ◌≢◌, IfOk, IfErr};
 ghost use Rattle.office_core.specs.Standing.{IsFresh};
 ghost use Rattle.office_program.specs.Texts.OpenedOffice.{LastsInside, OpensOver, RefusesOver};
@@ -18,8 +18,8 @@ pub struct Unopened<B> {
     pub status: ExitStatus,
 }
 
-/// Opens an office over a store at the clock's time. If the opening is refused, the function prints
-/// `refused N`.
+/// Opens an office over a store at the clock's time. If opening the office is refused, the function
+/// prints `refused N`.
 pub fn open_office<B: Books, C: Clock, W: Write>(
     alloc: Global,
     books: B,

@@ -10,7 +10,7 @@ use office_core::Office;
 use office_events::{Name, Refusal};
 use std::io::Write;
 
-// Prints the last text of a report, or `refused N` if the report was refused.
+// Prints the text after the report's last row, or `refused N` if the report was refused.
 fn print_rest<W: Write>(reported: Result<(), Refusal>, rows: &mut ReportRows<'_, W>) -> ExitStatus
     ensures { PrintsRest W.contents reported result rows.old rows.new }
 {

@@ -15,7 +15,8 @@ use socket_link::Clock;
 use std::alloc::Global;
 use std::io::Write;
 
-// Prints `refused N` if a refusal broke the polling round off. Prints nothing for any other result.
+// Prints `refused N` if a refusal ended the polling round early. Prints nothing for any other
+// result.
 fn print_cause<W: Write>(done: Result<(), RoundFault>, output: &mut W) -> Result<(), RoundFault>
     ensures { IsRefusalReported done result (W.contents output.old) (W.contents output.new) }
 {
@@ -28,8 +29,8 @@ fn print_cause<W: Write>(done: Result<(), RoundFault>, output: &mut W) -> Result
     }
 }
 
-/// Polls the complete plan of a device once over a new link, and prints the polling round as
-/// `round_over` does.
+/// Polls a device once over a new link: one poll for each Modbus read of the device's plan. Prints
+/// the polling round as `round_over` does.
 ///
 /// If the office refused an event, `refused N` is printed last. If `device` is `None`, no device
 /// has the name.

@@ -19,14 +19,14 @@ use office_events::{Installation, Name, Refusal};
 use std::alloc::Global;
 use std::io::Write;
 
-// The number of meter entries in one query. `MOST_PIECES` is the largest number of queries, since
-// entry indexes have 64 bits.
+// The number of meter entries in one query. `MOST_PIECES` is the largest number of queries whose
+// entry indexes all fit in 64 bits.
 const PIECE: u32 = 65536;
 
 const MOST_PIECES: u64 = 281_474_976_710_655;
 
-// Returns the tally of a meter's entries in a range of days. Each query returns a chunk of the
-// entries.
+// Returns the tally of a meter's entries in a range of days: the first and last entry, and the
+// corrections. Each query returns a chunk of the entries.
 fn tally<B: Books>(
     office: &mut Office<B>,
     zone: &Zone,

@@ -1,4 +1,4 @@
--- Properties of a change of the polling round in one slot.
+-- Properties of a change of the polling round in one slot (index).
 use Rattle.std.proofs.Common.{◌≡◌, ℕ, ◌<◌, ◌≤◌, zero, suc, List, [], ◌∷◌, length, set, get_or, Some, None, refl, ap, arith}
 use Rattle.std.specs.Prelude.{slice_get}
 use Rattle.office_rounds.specs.declared.device_rounds.round.Round.{Round}

@@ -1,4 +1,4 @@
--- Properties of a call of the driver's `turn`, which feeds events to the office one by one.
+-- Properties of a call of the function `turn`, which feeds events to the office one by one.
 use Rattle.std.proofs.Common.{◌≡◌, inl, inr, ℕ, ◌+◌, ◌≤◌, List, [], ◌∷◌, map, length, Option, Some, None, Result, refl, sym, ap, ◌∙◌, subst, arith}
 use Rattle.office_events.specs.declared.answers.Answer.{Answer}
 use Rattle.office_events.specs.declared.answers.Note.{Note}
@@ -72,7 +72,8 @@ feeds_next ledger sees at place e answer old new mid notes frames feeds mid_is n
       },
     )
 
--- The state of a call of `turn` that has fed at least `steps` events.
+-- The state of a call of `turn` that has fed at least `steps` events. It is the invariant of the
+-- call's loop.
 pub record GoesFar {B V : Type 0} (ledger : B → Ledger) (sees : V → Shown → V → Type 0) (at steps : ℕ) (past : History) (begun : Start V)
     (now : Scene B V) : Type 0 where
   pub fed : List Answered
@@ -128,7 +129,8 @@ turns_on ledger sees at past old new goes stands clean =
     let so = goes past (start old.failures (table None old.rounds) old.observer) [] (begins ledger sees at past None old stands) clean in
     record { fed = so.0; going = so.1; settled = so.2 }
 
--- If a call of `turn` has a device event, then it feeds this event first.
+-- If a call of `turn` has a device event to feed first, then it feeds this event and then the
+-- requested events.
 pub turns_first : {B V : Type 0} (ledger : B → Ledger) (sees : V → Shown → V → Type 0) (at : ℕ) (past : History) (one : Wished) (old mid new : Scene B V)
     → FeedsNext ledger sees at one old mid → OfficeGoesOn ledger sees at mid new
     → ((ledger (books_in new.office)).is_clean → (ledger (books_in mid.office)).is_clean) → Stands ledger past old.office
@@ -140,8 +142,8 @@ turns_first ledger sees at past one old mid new feeds goes lasts stands clean =
     let so = goes past begun (fed.0 ∷ []) fed.1 clean in
     record { fed = so.0; going = so.1; settled = so.2 }
 
--- If `TakesTurn` holds for a state at the start of a call of `turn`, then it holds for an equal
--- state.
+-- If the contract `TakesTurn` holds for a state at the start of a call of `turn`, then it holds for
+-- an equal state.
 pub turns_as : {B V : Type 0} (ledger : B → Ledger) (sees : V → Shown → V → Type 0) (at : ℕ) (past : History) (failures : Failures) (one other : Table) (observer : V)
     (new : Scene B V) → one ≡ other → TakesTurn ledger sees past (start failures one observer) at new
     → TakesTurn ledger sees past (start failures other observer) at new

@@ -1,4 +1,5 @@
--- The effects of a connection, and of the office's answers and notifications, on a polling round.
+-- How a connection, and the office's answers and notifications, change the state of a polling
+-- round.
 use Rattle.std.specs.Prelude.{ℕ, ◌+◌, ◌-◌, ◌^◌, ◌==◌, nat_lt, nat_le, min, Bool, true, false, List, [], ◌++◌, length, Option, Some, None, Result, Ok, Err, if◌then◌else◌}
 use Rattle.std.specs.List.{filter}
 use Rattle.poll_core.specs.declared.outcome.Closing.{Closing}
@@ -17,7 +18,8 @@ use Rattle.office_rounds.specs.declared.device_rounds.round.Round.{Round}
 use Rattle.office_rounds.specs.declared.device_rounds.stage.Stage.{Stage}
 use Rattle.office_rounds.specs.declared.device_rounds.stage.Stage.TheVariants.{Off, Joining, Starting, Waiting, Leaving}
 
--- The polling round of a device that is not connected.
+-- The polling round of a device that is not connected. It requests nothing until the device
+-- connects.
 abbrev pub unconnected : (device : Option (List ℕ)) → Round
 unconnected device = record {
   device = device;
@@ -32,8 +34,8 @@ unconnected device = record {
 abbrev pub has_request : Round → Bool
 has_request round = stages.has_request round.stage
 
--- The event that a polling round requests at a stage. It is the connection, a start of the
--- remaining reads, or that the device is gone. `None` if the round is waiting for its device.
+-- The event that a polling round requests at a stage: `Connected`, a start of the remaining reads,
+-- or `Gone`. `None` if the round waits for responses, or its device is not connected.
 abbrev pub wish_at : Stage → (device : Option (List ℕ)) → (started : ℕ) → Option Event
 wish_at Off device started = None
 wish_at Joining device started = Some (event.Connected device)
@@ -46,8 +48,8 @@ wish_at (Leaving closing) device started = Some (event.Gone device closing)
 abbrev pub wish_of : Round → Option Event
 wish_of round = wish_at round.stage round.device round.started
 
--- A polling round at a stage after its device connected. If no round was running, a new round.
--- Otherwise the unchanged round.
+-- A polling round at a stage after its device connected. If no round was running, a new round. A
+-- running round is unchanged.
 abbrev pub joined_at : Stage → Round → Round
 joined_at Off round = record {
   device = round.device;
@@ -70,12 +72,13 @@ joined round = joined_at round.stage round
 abbrev pub leaving : Closing → Round → Round
 leaving closing round = record round { stage = stages.left closing round.stage }
 
--- The polling round after it was broken off. Its last event will be that the device is gone.
+-- The polling round after a fault. Its last event will be `Gone` (the device is disconnected), with
+-- the cause `Failed`.
 abbrev pub broken_off : Round → Round
 broken_off round = record round { stage = Leaving closing.Failed }
 
 -- The stage after Modbus reads were started. If a poll is pending, the polling round waits for
--- responses. Otherwise it leaves.
+-- responses. Otherwise it ends.
 abbrev pub stage_after : List ℕ → Stage
 stage_after polls = if length polls == 0 then Leaving closing.Gone else Waiting
 
@@ -92,7 +95,8 @@ begun first count planned round = record {
 
 -- The polling round after the office's answer to its start of Modbus reads.
 --
--- If the answer reports no started polls, or more than 16 pending polls, the round is broken off.
+-- If the answer reports no started polls, or there are more than 16 pending polls, the round ends
+-- early.
 abbrev pub started_by : Answer → Round → Round
 started_by answer.Noted round = broken_off round
 started_by (answer.Done kind) round = broken_off round
@@ -103,8 +107,8 @@ started_by (answer.Started first count of) round =
 
 -- A polling round at a stage after the office's answer to the round's event.
 --
--- After the connection the round starts its Modbus reads. A refusal breaks the round off. If the
--- connection was refused, the round is over.
+-- After `Connected` the round starts its Modbus reads. A refusal ends the round early. If the
+-- office refused `Connected`, the round is over at once.
 abbrev pub answered_at : Stage → Result Answer Refusal → Round → Round
 answered_at Off result round = round
 answered_at Joining (Ok given) round = record round { stage = Starting }
@@ -120,15 +124,15 @@ abbrev pub answered : Result Answer Refusal → Round → Round
 answered result round = answered_at round.stage result round
 
 -- The polling round after one of its polls ended. The round starts the remaining Modbus reads. If
--- no read remains and no poll is pending, the round leaves.
+-- no read remains and no poll is pending, the round disconnects.
 abbrev pub gone_on : Round → Round
 gone_on round =
     if nat_lt round.started round.planned then record round { stage = Starting }
     else if length round.polls.items == 0 then record round { stage = Leaving closing.Gone }
     else round
 
--- A polling round at a stage after notifications. `ended` is true if the notifications end one of
--- the round's polls.
+-- A polling round at a stage after the office's notifications of an event. `ended` is true if the
+-- notifications end one of the round's polls.
 abbrev pub going_on : Stage → (ended : Bool) → Round → Round
 going_on Off ended round = round
 going_on Joining ended round = round

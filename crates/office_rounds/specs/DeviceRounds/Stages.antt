@@ -1,4 +1,4 @@
--- The stages of a device's polling round.
+-- The stages of a device's polling round, from its connection to its end.
 use Rattle.std.specs.Prelude.{Bool, true, false}
 use Rattle.poll_core.specs.declared.outcome.Closing.{Closing}
 use Rattle.office_rounds.specs.declared.device_rounds.stage.Stage.{Stage}
@@ -14,8 +14,8 @@ has_request (Leaving closing) = true
 
 -- The stage of a polling round after the connection to its device ended.
 --
--- If the office knows of the connection, the round requests the event that ends the connection. If
--- the round already has a cause for leaving, this cause is kept.
+-- If the office has processed the event `Connected`, the round requests the event `Gone` with the
+-- cause `closing`. An earlier cause is kept.
 abbrev pub left : Closing → Stage → Stage
 left closing Off = Off
 left closing Joining = Off

@@ -1,4 +1,4 @@
--- The counts of a polling round's ended polls: answered, timed out, or failed otherwise.
+-- The counts of a polling round's ended polls by outcome: answered, timed out, or failed otherwise.
 use Rattle.std.specs.Prelude.{ℕ, ◌==◌, List, [], ◌∷◌, if◌then◌else◌}
 use Rattle.std.specs.List.{list_any}
 use Rattle.poll_core.specs.declared.outcome.Outcome.{Outcome}

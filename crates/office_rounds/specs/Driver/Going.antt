@@ -1,5 +1,5 @@
--- The events that one call of the driver's `turn` has fed so far, and the state of the office and
--- of the polling rounds.
+-- The events that one call of `turn` has fed to the office so far, and the state of the office and
+-- of the polling rounds. A call of `turn` processes one device event.
 use Rattle.std.specs.Prelude.{◌≡◌, ◌⊎◌, ◌≤◌, ℕ, List, [], ◌∷◌, length, Option, Some, None}
 use Rattle.office_rules.specs.History.{History}
 use Rattle.office_books.specs.declared.failures.Failures.{Failures}
@@ -14,7 +14,7 @@ use Rattle.office_events.specs.Showing.{Shown}
 use Rattle.office_rounds.specs.Driver.Turns.{AreNext, AreShown, Table, Wished, first_request, next_by, table, table_with}
 
 -- The state during a call of `turn`: the office, the failure counts of its store, the polling
--- rounds, and the observer.
+-- rounds, and the observer that is shown each event.
 pub record Scene (B V : Type 0) : Type 0 where
   pub office : Office B
   pub failures : Failures
@@ -26,8 +26,8 @@ abbrev pub scene : {B V : Type 0} → Office B → Failures → List Round → V
 scene office failures rounds observer =
     record { office = office; failures = failures; rounds = rounds; observer = observer }
 
--- The state at the start of a call of `turn`. It has the store's failure counts, the polling rounds
--- with the event to feed first, and the observer.
+-- The state at the start of a call of `turn`: the store's failure counts, the observer, and the
+-- polling rounds with the event to feed first.
 pub record Start (V : Type 0) : Type 0 where
   pub failures : Failures
   pub table : Table
@@ -42,7 +42,7 @@ abbrev pub AreAt : ℕ → List Answered → Type 0
 AreAt at [] = Unit {0}
 AreAt at (one ∷ earlier) = AreAt at earlier × (one.at ≡ at)
 
--- The state during a call of `turn` that has fed exactly the events that were next, all with one
+-- The invariant of a call of `turn`: it has fed exactly the events that were next, all with one
 -- timestamp.
 --
 -- Each event has the defined answer, the office and the polling rounds are in the state after the
@@ -60,7 +60,7 @@ pub record Going {B V : Type 0} (ledger : B → Ledger) (sees : V → Shown → 
 -- True if the event `one` was fed and the state follows from it, provided that `one` is the next
 -- event to feed.
 --
--- No wrong result of the store was used so far.
+-- This assumes that no wrong result of the store was used so far.
 abbrev pub FeedsNext : {B V : Type 0} → (B → Ledger) → (V → Shown → V → Type 0) → (at : ℕ) → Wished
     → (old new : Scene B V) → Type 0
 FeedsNext {B} {V} ledger sees at one old new =
@@ -69,8 +69,8 @@ FeedsNext {B} {V} ledger sees at one old new =
     → (ledger (books_in new.office)).is_clean
     → (next : Answered) × Going ledger sees past begun at (next ∷ fed) None new
 
--- True if a call of `turn` is complete, because no polling round requests an event or at least 256
--- events were fed.
+-- True if a call of `turn` is complete, because no polling round requests an event, or the call has
+-- fed 256 or more events.
 abbrev pub IsSettled : List Round → (before after : List Answered) → Type 0
 IsSettled rounds before after = (first_request rounds ≡ None) ⊎ (256 ≤ length after)
 
@@ -84,16 +84,16 @@ OfficeGoesOn {B} {V} ledger sees at old new =
     → (later : List Answered) × Going ledger sees past begun at later None new
     × IsSettled new.rounds fed later
 
--- True if `FeedsNext` holds for an office, its polling rounds and its observer before and after the
--- call.
+-- The contract of feeding one event. It promises `FeedsNext` for the office, its polling rounds and
+-- its observer before and after the call.
 abbrev pub FeedsOne : {B V : Type 0} → (B → Ledger) → (V → Shown → V → Type 0) → (at : ℕ) → Wished
     → (old new : Office B) → (before after : List Round) → (from to : V) → Type 0
 FeedsOne ledger sees at one old new before after from to =
     FeedsNext ledger sees at one (scene old (failures_of ledger old) before from)
     (scene new (failures_of ledger new) after to)
 
--- True if `OfficeGoesOn` holds for an office, its polling rounds and its observer before and after
--- the call.
+-- The contract of feeding the requested events. It promises `OfficeGoesOn` for the office, its
+-- polling rounds and its observer before and after the call.
 abbrev pub Settles : {B V : Type 0} → (B → Ledger) → (V → Shown → V → Type 0) → (at : ℕ)
     → (old new : Office B) → (before after : List Round) → (from to : V) → Type 0
 Settles ledger sees at old new before after from to =

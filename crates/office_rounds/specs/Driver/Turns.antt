@@ -1,5 +1,5 @@
--- The order of the events that one call of the driver's `turn` feeds. The device event comes first,
--- and then the events that polling rounds request, in the order of their slots.
+-- The order of the events that one call of `turn` feeds to the office. The device event comes
+-- first, and then the events that polling rounds request, in the order of their slots.
 --
 -- Lists of fed events have the latest event first.
 use Rattle.std.specs.Prelude.{◌≡◌, ℕ, zero, suc, List, [], ◌∷◌, map, position, slice_get, Option, Some, None, Result}
@@ -20,8 +20,8 @@ use Rattle.office_events.specs.Showing.{Shown, shown}
 use Rattle.office_rounds.specs.declared.driver.device_events.DeviceEvent.{DeviceEvent}
 use Rattle.office_rounds.specs.declared.driver.device_events.DeviceEvent.TheVariants.{Connected, Received, Closed, Tick}
 
--- An event to feed, with the slot of the polling round that requests the event. The slot is `None`
--- for an event of a device.
+-- An event to feed to the office, with the slot (index) of the polling round that requests the
+-- event. The slot is `None` for an event of a device.
 pub record Wished : Type 0 where
   pub place : Option ℕ
   pub event : Event
@@ -57,8 +57,8 @@ abbrev pub as_wished : Option (ℕ × Event) → Option Wished
 as_wished None = None
 as_wished (Some one) = Some (wished (Some one.0) one.1)
 
--- The polling rounds during a call of `turn`, and the event to feed before any event that the
--- rounds request.
+-- The state of the polling rounds during a call of `turn`, and the event to feed before any event
+-- that the rounds request.
 pub record Table : Type 0 where
   pub first : Option Wished
   pub rounds : List Round
@@ -67,8 +67,8 @@ pub record Table : Type 0 where
 abbrev pub table : Option Wished → List Round → Table
 table first rounds = record { first = first; rounds = rounds }
 
--- The next event to feed. If an event is to be fed first, this event. Otherwise the event of the
--- first polling round that requests an event.
+-- The next event to feed: the event in `first` if there is one, otherwise the event of the first
+-- polling round that requests an event.
 abbrev pub next_by : Option Wished → List Round → Option Wished
 next_by None rounds = first_request rounds
 next_by (Some one) rounds = Some one
@@ -84,14 +84,14 @@ at_place place change [] = []
 at_place zero change (round ∷ rounds) = change round ∷ rounds
 at_place (suc place) change (round ∷ rounds) = round ∷ at_place place change rounds
 
--- The polling rounds after the office's answer to an event. Only the round in the event's slot gets
--- the answer.
+-- The polling rounds after the office's answer to an event. Only the round that requested the
+-- event, in its slot, gets the answer.
 abbrev pub answered_for : Option ℕ → Result Answer Refusal → List Round → List Round
 answered_for None answer rounds = rounds
 answered_for (Some place) answer rounds = at_place place (answered answer) rounds
 
--- The polling rounds after an event. The round in the event's slot gets the answer, and then all
--- rounds get the notifications.
+-- The polling rounds after an event. The round that requested the event gets the answer, and then
+-- all rounds get the notifications.
 abbrev pub reported : Option ℕ → Result Answer Refusal → List Note → List Round → List Round
 reported place answer notes rounds = map (heard notes) (answered_for place answer rounds)
 
@@ -143,7 +143,7 @@ AreShown {V} sees from to past begun (one ∷ earlier) =
     × sees between (shown_of past begun earlier one) to
 
 -- The event for bytes from the device in slot `place`. `None` if the stage of the device's polling
--- round is not `Waiting`.
+-- round is not `Waiting`, since no response is expected then.
 abbrev pub came_at : Stage → ℕ → Option (List ℕ) → List ℕ → Option Wished
 came_at Off place device piece = None
 came_at Joining place device piece = None
@@ -168,8 +168,8 @@ came_from place (Some device) piece = Some (wished (Some place) (event.Bytes dev
 abbrev pub brought : ℕ → List ℕ → List Round → Table
 brought place piece rounds = table (came place (slice_get rounds place) piece) rounds
 
--- The state at the start of a call of `turn`. The device event is fed first, or changes the event
--- that the device's polling round requests.
+-- The state at the start of a call of `turn`. Awaited bytes and a timer event are fed first. A
+-- connection or its end only changes the event that the device's polling round requests.
 abbrev pub opened : DeviceEvent → List Round → Table
 opened (Connected place) rounds = table None (at_place place joined rounds)
 opened (Received place piece) rounds = brought place piece rounds

@@ -1,12 +1,12 @@
-//! The polling round of one device: its stage, its pending polls, and the counts of its ended
-//! polls.
+//! The state of the polling round of one device: its stage, its pending polls, and the counts of
+//! its ended polls.
 use crate::device_rounds::polls::{MOST_WAITING, Polls, Sum, add, waiting_after};
 use crate::device_rounds::stage::Stage;
 use office_events::{Answer, Command, Event, Name, Note, Refusal, StartRound};
 use poll_core::Closing;
 
-/// The progress of a device's polling round, which follows from the office's answers and
-/// notifications.
+/// The state of a device's polling round (one poll for each Modbus read of its plan). The office's
+/// answers and notifications determine it.
 #[derive(Drop)]
 pub struct Round {
     pub device: Option<Name>,
@@ -41,8 +41,8 @@ impl Round {
         }
     }
 
-    /// Returns the event that the polling round requests next. Returns `None` if the round is
-    /// waiting for its device, or is over.
+    /// Returns the event that the polling round requests next. Returns `None` if the round waits
+    /// for responses, or its device is not connected.
     pub fn requested_event(&self) -> Option<Event>
         ensures { result ≡ rounds.wish_of self.now }
     {
@@ -72,14 +72,16 @@ impl Round {
         }
     }
 
-    /// Marks the polling round as leaving, because the connection to its device ended.
+    /// Ends the polling round, because the connection to its device ended. If the office processed
+    /// the connection, the round requests the event `Gone` next.
     pub fn leave(&mut self, closing: Closing)
         ensures { self.new ≡ rounds.leaving closing self.old }
     {
         self.stage = self.stage.left(closing);
     }
 
-    // Adds the polls that the office's answer reports as started to the polling round.
+    // Adds the polls that the office's answer reports as started. If the answer reports none, or
+    // there are too many pending polls, the round ends early.
     fn start(&mut self, answer: Answer)
         ensures { self.new ≡ rounds.started_by answer self.old }
     {
@@ -97,7 +99,8 @@ impl Round {
         }
     }
 
-    /// Updates the polling round by the office's answer to an event of the round.
+    /// Changes the stage of the polling round according to the office's answer to an event of the
+    /// round.
     pub fn answer(&mut self, answer: Result<Answer, Refusal>)
         ensures { self.new ≡ rounds.answered answer self.old }
     {
@@ -114,7 +117,7 @@ impl Round {
     }
 
     // Requests the next Modbus reads after a poll has ended. If no read remains and no poll is
-    // pending, ends the polling round.
+    // pending, the round disconnects from its device.
     fn request_next_reads(&mut self)
         ensures { self.new ≡ rounds.gone_on self.old }
     {
@@ -125,7 +128,7 @@ impl Round {
         }
     }
 
-    /// Updates the polling round by the office's notifications.
+    /// Updates the polling round by the office's notifications, which report the outcomes of polls.
     pub fn apply_notes(&mut self, notes: &[Note])
         ensures { self.new ≡ rounds.heard notes.now self.old }
     {

@@ -1,4 +1,4 @@
-//! The stages of a device's polling round.
+//! The stages of a device's polling round, from its connection to its end.
 use poll_core::Closing;
 
 /// The stage of a polling round, which determines the event that the round requests next.
@@ -6,13 +6,14 @@ use poll_core::Closing;
 pub enum Stage {
     /// The device is not connected. The round requests nothing.
     Off,
-    /// The device is connected. The round requests that the connection is fed to the office.
+    /// The device is connected. The round requests the event `Connected` next.
     Joining,
-    /// Modbus reads of the plan remain. The round requests a start of these reads.
+    /// Modbus reads of the plan remain. The round requests the command that starts these reads.
     Starting,
     /// The round waits for responses of the device, and requests nothing.
     Waiting,
-    /// The device is gone. The round requests that this event is fed to the office.
+    /// The device is disconnected, or the round has ended. The round requests the event `Gone`
+    /// next.
     Leaving(Closing),
 }
 
@@ -33,7 +34,8 @@ impl Stage {
         }
     }
 
-    /// Returns the stage of a polling round after the connection to its device has ended.
+    /// Returns the stage of a polling round after the connection to its device has ended with the
+    /// cause `closing`. An earlier cause is kept.
     pub fn left(self, closing: Closing) -> Stage
         ensures { result ≡ stages.left closing self }
     {

@@ -1,4 +1,4 @@
-//! The events of the devices that an office polls.
+//! The events of the devices that an office polls, as input of the function `turn`.
 use office_events::Piece;
 use poll_core::Closing;
 
@@ -9,7 +9,7 @@ pub enum DeviceEvent {
     Connected(usize),
     /// Bytes arrived from the device in the slot.
     Received(usize, Piece),
-    /// The connection to the device in the slot has ended, or is to be closed.
+    /// The connection to the device in the slot has ended, or the run closes it.
     Closed(usize, Closing),
     /// A timer event: a second has passed.
     Tick,

@@ -10,8 +10,8 @@ use office_books::Books;
 use office_core::Office;
 use office_events::{Answer, Event, Observer, Refusal};
 
-// Passes the office's answer to the polling round in slot `place`. If `place` is `None`, does
-// nothing.
+// Passes the office's answer to the polling round in slot `place`, which requested the event. If
+// `place` is `None`, no round requested it.
 fn answer_for(rounds: &mut [Round], place: Option<usize>, answer: Result<Answer, Refusal>)
     ensures { rounds.new ≡ answered_for place answer rounds.old }
 {
@@ -22,8 +22,8 @@ fn answer_for(rounds: &mut [Round], place: Option<usize>, answer: Result<Answer,
     }
 }
 
-/// Feeds one event to the office. The polling round in slot `place` requested the event. `None` if
-/// no round requested it.
+/// Feeds one event to the office. `place` is the slot of the polling round that requested the
+/// event, or `None` if no round did.
 ///
 /// Shows the event to the observer, and passes the answer and the notifications to the rounds.
 pub(crate) fn feed_one<B: Books, V: Observer>(

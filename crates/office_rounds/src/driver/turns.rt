@@ -1,4 +1,4 @@
-//! Processes one device event: feeds the event to the office, and then the events that the polling
+//! Processes one device event: feeds it to the office, and then feeds the events that the polling
 //! rounds request.
 ghost use Rattle.std.specs.Prelude.{◌≡◌, ℕ, List, Some, None, slice_get};
 ghost use Rattle.office_rounds.specs.Passing.{Lasts};
@@ -55,7 +55,8 @@ fn leave(rounds: &mut [Round], place: usize, closing: Closing)
     }
 }
 
-// Feeds the event `event` first, and then the events that the polling rounds request.
+// Feeds the event `event` first, and then the events that the polling rounds request. `place` is
+// the slot of the polling round that gets the answer to `event`.
 fn begin<B: Books, V: Observer>(
     rounds: &mut [Round],
     place: Option<usize>,
@@ -102,7 +103,7 @@ fn waiting_at(rounds: &[Round], place: usize) -> Option<Option<Name>>
 }
 
 // Feeds bytes of a device to the office, if the device's polling round is waiting for responses.
-// Drops the bytes of any other device.
+// Drops the bytes otherwise, since no poll expects them.
 fn take_bytes<B: Books, V: Observer>(
     rounds: &mut [Round],
     place: usize,

@@ -1,4 +1,4 @@
--- Worked examples of polls that time out or are lost, of rounds, and of concurrent polls.
+-- Worked examples of polls that time out or are lost, of polling rounds, and of concurrent polls.
 use Rattle.std.proofs.Common.{◌≡◌, ℕ, ◌++◌, [], ◌∷◌, replicate, Some, Ok, Err, refl, lit≤}
 use Rattle.energy_core.specs.Value.{unit_of}
 use Rattle.mb_wire.specs.Frames.{frames, frames_in, rest, rest_in, is_garbled}
@@ -91,7 +91,7 @@ no_room_for_the_second : decision_of (Fed 1000 (round 0) ∷ listed 1) 1000 (rou
 unfolding unit_of frames frames_in rest rest_in is_garbled is_over is_closed stream next_id frames_at ending_at settled_by pending outcomes_at
 no_room_for_the_second = refl
 
--- The events up to the response to the first read of a round.
+-- The events up to the response to the first read of a polling round.
 abbrev first_read : History
 first_read = Fed 1001 (bytes ((0 ∷ 0 ∷ 0 ∷ 0 ∷ 0 ∷ 253 ∷ 1 ∷ 3 ∷ 250 ∷ []) ++ replicate 250 0)) ∷ Fed 1000 (round 0) ∷ listed 1
 

@@ -1,4 +1,4 @@
--- Worked examples of voids, and of the entries that may be voided.
+-- Worked examples of voids (cancelled readings), and of the entries that may be voided.
 use Rattle.std.proofs.Common.{◌≡◌, ℕ, pos, true, false, [], ◌∷◌, Some, None, Ok, Err, refl}
 use Rattle.std.specs.Option.{option_map}
 use Rattle.energy_core.specs.Value.{unit_of}

@@ -60,8 +60,8 @@ module _ (meter : List ℕ) where
         there = earlier (HasEntry meter at found) before mid reported.same asked.answers;
       })
 
-  -- If three queries find a meter entry and its nearest neighbours that are not voided, they find
-  -- them together in sequence.
+  -- If queries in sequence find a meter entry and its nearest valid entries before and after it,
+  -- they together find the neighbours of the entry.
   pub nearby : (place : ℕ) (near : Neighbours) (before : Content) (mid : Content) (late : Content) (after : Content) → FindsEntry meter place near.entry before mid → FindsBefore meter place near.before mid late
       → FindsAfter meter place near.next late after → AreNear meter place near before after
   nearby place near before mid late after entry lower higher = record {
@@ -79,8 +79,8 @@ module _ (meter : List ℕ) where
   standing_later : (standing : Standing) (content mid after : Content) → after ≡ mid → IsStanding meter standing content mid → IsStanding meter standing content after
   standing_later standing content mid after same is = record { same = same ∙ is.same; following = is.following; last = is.last; range = is.range }
 
-  -- Queries in sequence find an entry, its neighbours, its meter's state, and the time of the
-  -- meter's opening.
+  -- If queries in sequence find a meter's state, the time of its opening, an entry and its
+  -- neighbours, they together find all data that a void needs.
   pub around : (place : ℕ) (found : Surroundings) (before : Content) (mid : Content) (late : Content) (after : Content) → IsStanding meter found.standing before mid → OpenedAt meter found.opened mid late
       → AreNear meter place found.near late after → IsAround meter place found before after
   around place found before mid late after standing opened near = record {

@@ -27,8 +27,8 @@ module _ (range : ℕ) (opening : Last) where
   abbrev at_end : List EntryRow → ℕ
   at_end rows = (last_of opening (entries_in rows)).at
 
-  -- If the meter entries of a journal may follow one another, the entries before its latest row may
-  -- also follow one another.
+  -- If each entry of a journal may follow the entry before it, the same holds without the latest
+  -- row.
   follow_tail : (row : EntryRow) (rows : List EntryRow) (stands : Bool) → row.stands ≡ stands → AllFollow range opening (entries_in (row ∷ rows)) → AllFollow range opening (entries_in rows)
   follow_tail row rows true is h = (subst (AllFollow range opening) (entries_standing row rows is) h).1
   follow_tail row rows false is h = subst (AllFollow range opening) (entries_struck row rows is) h

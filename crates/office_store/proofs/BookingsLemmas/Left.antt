@@ -150,15 +150,16 @@ abbrev pub next_put : Option Rejoined → List Share
 next_put None = []
 next_put (Some joined) = shares_of joined.put
 
--- True if the rejoined meter entry is the next entry that is not voided, with rollovers counted
--- from the entry before the void. None means no next entry.
+-- True if the next valid entry after a voided entry has the rollovers that are counted from the
+-- entry before the voided entry. None means no next entry.
 abbrev pub HasRolls : (opening : Last) → Around → Option Rejoined → Type 0
 HasRolls opening around None = around.next ≡ None
 HasRolls opening around (Some joined) =
     (next : EntryRow) × (around.next ≡ Some next)
     × (joined.rollover ≡ record { place = next.place; rolls = rolls_of (with_rolls (last_before opening around) next.entry) })
 
--- True if a correction has exactly the changes that the records require for a void.
+-- True if a correction (the changes that a void makes) has exactly the changes that the records
+-- require.
 pub record IsLeft (facts : List Fact) (o : Opening) (place : ℕ) (made : Correction) : Type 0 where
   pub around : Around
   pub there : row_at place (rows_of facts o) ≡ Some around

@@ -131,8 +131,7 @@ entry_entered moves others sums limits traces booked standing advance row advanc
     (subst (λ (s : Step). BooksShares meter (shares_of s) enters.one enters.two) (step_is booked facts o on standing advance advances last_is range_is) enters.energy)
     enters.stands
 
--- If the calls that write a meter entry succeed, the tables encode the record of the entry. The
--- lemma refers to the arguments of the calls.
+-- If the calls that write a meter entry succeed, the tables encode the record of the entry.
 pub entry_booked : EntriesMoveOn → OtherMetersStay → MetersAreKept → InstallationsAreInRange → VoidsLeaveNoTrace
     → (booked : BookedEntry) (meter : List ℕ) (standing : Standing) (advance : Advance) (row : EntryRow) (closing : Bool) → meter ≡ booked.meter → Advances standing booked.entry advance
     → row ≡ entry_row advance.last.sf (record { place = standing.place; kind = booked.kind; entry = booked.entry; stands = true }) → closing ≡ is_closing booked.kind

@@ -87,8 +87,8 @@ one_shares s = append-nil (shares_of s)
 two_shares : (s t : Step) → all_shares (s ∷ t ∷ []) ≡ shares_of s ++ shares_of t
 two_shares s t = ap (λ (l : List Share). shares_of s ++ l) (append-nil (shares_of t))
 
--- True if the removed and the added energy and the next meter entry's rollovers agree with the
--- records. The energy agrees in total and by quarter hours.
+-- True if the new rollovers of the next meter entry, and the energies that the void removes and
+-- adds, agree with the records.
 record NextLeft (o : Opening) (around : Around) (out : Step) (next : Option Rejoined) : Type 0 where
   rolls : HasRolls (opened o) around next
   outs : all_shares (steps_out (installed o) around) ≡ next_out next ++ shares_of out

@@ -25,7 +25,7 @@ use Rattle.store_queries.proofs.MeteringLemmas.Shapes.{IsBelow, below, FoundTher
 
 -- ---- the next meter entry of a journal that is not voided
 
--- True if the next meter entry is the only entry at its index, and its index is greater than
+-- True if the next valid entry is the only entry at its index, and its index is greater than
 -- `place`.
 pub record IsNextThere (place : ℕ) (next : EntryRow) (rows : List EntryRow) : Type 0 where
   pub each : AllByRecursion (FoundThere next.place next) rows
@@ -134,7 +134,7 @@ module _ (o : Opening) where
   rolled_scale true last row rows rest more = same_scale row.stands row (record row { entry = with_rolls last row.entry }) rows rest refl refl (λ l. sf_rolled last l row.entry) more
   rolled_scale false last row rows rest more = same_scale row.stands row row rows rest refl refl (λ l. refl) more
 
-  -- True if a row at the index of the void is a reading.
+  -- True if a row with the index of the voided entry is a reading.
   abbrev pub IsRead : (place : ℕ) → EntryRow → Type 0
   IsRead place row = row.place ≡ place → is_read row.kind row.entry ≡ true
 
@@ -158,7 +158,7 @@ module _ (o : Opening) where
 
   -- ---- the rows of `entries` after a void
 
-  -- The row of `entries` for a journal row, after an edit of `entries`.
+  -- The edit of `entries` changes each row as the void changes its journal entry.
   module _ (place : ℕ) (next : Option EntryRow) (last : Last) (edit : Entered → Entered) where
     abbrev pub IsEdited : EntryRow → Type 0
     IsEdited row = (s : ℤ) → entered o.meter (entry_row s (changed_by place next last row)) ≡ edit (entered o.meter (entry_row s row))

@@ -81,8 +81,7 @@ void_recorded others kept_law ranges stand lying law change v found made late co
       replies = stay poll_tree.replies reply_columns (map kept (replies_in facts)) mid after (far 16 (λ is. omega (arith, is)) (λ is. omega (arith, is)) (λ is. omega (arith, is)) (λ is. omega (arith, is))) a.replies;
     }
 
--- If the calls that write a void succeed, the tables encode the record of the void. The lemma
--- refers to the arguments of the calls.
+-- If the calls that write a void succeed, the tables encode the record of the void.
 pub void_entered : OtherMetersStay → MetersAreKept → InstallationsAreInRange → RowsStand → RowsLieWithin → SharesAddUp → VoidsChangeTwoRows → (v : VoidedEntry) (meter : List ℕ) (found : Surroundings) (made : Correction) → 2 ≤ v.place → meter ≡ v.meter
     → Corrects found made → (before mid after : Content) → IsAround meter v.place found before mid → EntersVoid meter v.place v.at made mid after → Records (fact.Void v) before after
 void_entered others kept_law ranges stand lying law change v meter found made late meter_is corrects before mid after at enters =

@@ -52,8 +52,8 @@ scale_by o place k (entry.Change at before new set) stands rows h =
     let row : EntryRow = record { place = place; kind = k; entry = entry.Change at before new set; stands = stands } in
     sym (ap (λ es. (last_of (opened o) es).sf) (entries_standing row rows (h refl)))
 
--- If two meter entries have the same kind, either both set the counter (a reset or a rescale), or
--- neither does.
+-- If two meter entries of one kind have equal columns in the table `entries`, the entries are
+-- equal.
 entry_reported : (k : journal.EntryKind) (a b : Entry) (sf : ℤ) → sets k ≡ is_change a → sets k ≡ is_change b → HasScale a sf → HasScale b sf
     → moment_of a ≡ moment_of b → raw_of a ≡ raw_of b → rolls_of a ≡ rolls_of b → after_of a ≡ after_of b → a ≡ b
 entry_reported k (entry.Step at raw rolls) (entry.Step at' raw' rolls') sf p q s t moment r turns after = λ i. entry.Step (moment i) (r i) (turns i)

@@ -98,7 +98,7 @@ pub all_installed : (facts : List Fact) → AreLawful facts → AllByRecursion (
 all_installed facts h =
     recursion_from_All (IsInstalled facts) (openings_in facts) (each_found (λ (o : Opening). o.meter) (openings_in facts) (openings_apart facts h))
 
--- The properties of a meter's entries in records that the rules accepted.
+-- The properties of a meter's entries, if the rules accepted all records.
 pub record HasRows (facts : List Fact) (o : Opening) : Type 0 where
   pub numbered : AreNumbered (rows_of facts o)
   pub formed : AllByRecursion IsFormed (rows_of facts o)

@@ -60,7 +60,8 @@ rolled_formed last row h =
       | inr e ↦ subst IsFormed (sym (cond-false _ _ _ e)) h
     ]
 
--- If a reading is marked as voided, its row is still a valid row of a journal.
+-- If a reading is marked as voided, its row is still a valid row of the journal (the meter's
+-- history).
 struck_formed : (row : EntryRow) → is_read row.kind row.entry ≡ true → IsFormed (record row { stands = false })
 struck_formed row read =
     by_read (λ k e. IsFormed (record { place = row.place; kind = k; entry = e; stands = false }))

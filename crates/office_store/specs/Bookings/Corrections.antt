@@ -1,5 +1,5 @@
--- Defines which changes voiding an entry makes to its meter, given the entries around the voided
--- entry.
+-- Defines which changes voiding an entry makes to its meter, given the valid entries around the
+-- voided entry. A void marks a false reading, which then no longer counts.
 use Rattle.std.specs.Prelude.{◌≡◌, ℕ, ◌+◌, ◌<◌, ◌≤◌, ◌==◌, Bool, Option, Some, None, IfSome, is_none, if◌then◌else◌}
 use Rattle.energy_core.specs.declared.limits.TheConstants.{MAX_INTERVALS}
 use Rattle.energy_core.specs.declared.entries.Entry.{Entry}
@@ -32,7 +32,7 @@ pub record CanBeShared (step : Step) : Type 0 where
   pub energy : step.mwh ≤ greatest_total
   pub till : step.till ≤ latest_moment
 
--- True if the steps and the index of a rejoined meter entry are in the ranges of the tables.
+-- True if the tables allow the new rollovers and energies of the next entry after a voided entry.
 pub record CanBeRejoined (joined : Rejoined) : Type 0 where
   pub place : joined.rollover.place ≤ greatest_place
   pub out : CanBeShared joined.out
@@ -45,8 +45,8 @@ pub record CanBeBooked (made : Correction) : Type 0 where
   pub last : IsSoundLast made.last
   pub from : made.from ≤ latest_moment
 
--- True if `joined` has the next meter entry's new rollovers, counted from the counter's state
--- before the voided entry.
+-- True if `joined` has the new rollovers and energies of the next meter entry, which now follows
+-- the counter's state before the voided entry.
 pub record Rejoins (range : ℕ) (before voided : Last) (next : EntryRow) (joined : Rejoined) : Type 0
   where
     pub entry : Entry
@@ -56,7 +56,8 @@ pub record Rejoins (range : ℕ) (before voided : Last) (next : EntryRow) (joine
     pub out : joined.out ≡ step_to range voided entry
     pub put : joined.put ≡ step_to range before (with_rolls before entry)
 
--- True if `joined` has the next meter entry's new rollovers, or is None if there is no next entry.
+-- True if `joined` has the new rollovers and energies of the next meter entry, or is None if there
+-- is no next entry.
 abbrev pub RejoinsNext : (range : ℕ) → (before voided : Last) → Option EntryRow → Option Rejoined
     → Type 0
 RejoinsNext range before voided None joined = joined ≡ None
@@ -82,8 +83,8 @@ abbrev pub StandsAt : Surroundings → (before : Last) → (total : ℕ) → (is
 StandsAt found before total is_last last =
     last ≡ stands_at (if is_last then before else counter_of found.standing.last) total
 
--- The start from which a void deletes rows of `intervals`: the time of the meter's last entry, or 0
--- if this entry is the opening.
+-- The time from which a void deletes rows of `intervals`: the time of the meter's last entry, or 0
+-- if the last entry is the opening, after which no energy is recorded.
 abbrev pub gone_from : (opened last : ℕ) → ℕ
 gone_from opened last = if last == opened then 0 else last
 

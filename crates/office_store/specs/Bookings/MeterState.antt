@@ -49,7 +49,7 @@ Advances standing e advance =
     ≡ Ok (last, step)
     → (advance.last ≡ stands_at last (standing.last.total + step.mwh)) × (advance.step ≡ step)
 
--- An installation with a new last meter entry. A closing also marks the installation as closed.
+-- A meter's row of `installations` with a new last entry. A closing also marks the meter as closed.
 abbrev pub settled : LastRow → (is_closing : Bool) → Installed → Installed
 settled last is_closing i =
     record i {
@@ -65,7 +65,7 @@ Settles meter last is_closing =
     (changed_where (is_meter meter) (settled last is_closing))
 
 -- The effect of storing one more entry of a meter. The effect consists of the entry's row, the
--- energy of its step, and the meter's new state.
+-- energy since the previous entry, and the meter's new state.
 pub record EntersEntry (meter : List ℕ) (row : EntryRow) (advance : Advance) (is_closing : Bool)
     (content after : Content) : Type 0 where
   pub one : Content

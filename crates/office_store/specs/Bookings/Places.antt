@@ -30,14 +30,14 @@ place_after (Some row) = following_place row
 abbrev pub next_in : List Row → Result ℕ RowFault
 next_in rows = place_after (slice_get rows 0)
 
--- True if `Makes` relates the old and the new tables to an Ok answer. An error implies nothing
--- about the tables.
+-- If the answer is Ok, `Makes` relates the answer, the tables before the call, and the tables after
+-- it. An error implies nothing about the tables.
 abbrev pub Answered : {X E : Type 0} → Result X E → (X → Content → Content → Type 0) → Content
     → Content → Type 0
 Answered (Ok x) Makes = Makes x
 Answered (Err e) Makes = λ content after. ⊤
 
--- True if the answer is the value in one row that passes a test, and the query changed nothing.
+-- True if a query found the answer in the one row that passes a test, and changed nothing.
 pub record IsSeenIn {X A : Type 0} (tree : ℕ) (columns : X → Row) (passes : X → Bool)
     (IsSeen : X → A → Type 0) (answer : A) (content after : Content) : Type 0 where
   pub same : after ≡ content

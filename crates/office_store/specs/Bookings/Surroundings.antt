@@ -1,4 +1,5 @@
--- Definitions about an entry of a meter and the entries around it, in the tables.
+-- Definitions about an entry of a meter in the tables, and about the valid entries before and after
+-- it.
 use Rattle.std.specs.Prelude.{◌≡◌, ℕ, List, Option, Some}
 use Rattle.store_tables.specs.Answer.{IsFound}
 use Rattle.store_tables.specs.Content.{Content, HasRows}
@@ -62,7 +63,7 @@ pub record AreNear (meter : List ℕ) (place : ℕ) (near : Neighbours)
   pub before : FindsBefore meter place near.before content after
   pub next : FindsAfter meter place near.next content after
 
--- True if a query found the time of the meter's opening, and changed nothing.
+-- True if a query found the time of the meter's opening (its first entry), and changed nothing.
 pub record OpenedAt (meter : List ℕ) (opened : ℕ) (content after : Content) : Type 0 where
   pub opening : EntryRow
   pub moment : opened ≡ opening.moment

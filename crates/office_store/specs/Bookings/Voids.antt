@@ -11,7 +11,7 @@ use Rattle.office_store.specs.declared.bookings.corrections.Correction.{Correcti
 use Rattle.office_store.specs.declared.bookings.corrections.Rejoined.{Rejoined}
 use Rattle.office_store.specs.Bookings.MeterState.{Settles}
 
--- The rows of `entries` after a void set the rollovers of the next entry.
+-- The rows of `entries` after a void, which sets the rollovers of the next entry.
 abbrev pub rolled_next : (meter : List ℕ) → Option Rejoined → List Entered → List Entered
 rolled_next meter None rows = rows
 rolled_next meter (Some next) rows =
@@ -42,8 +42,9 @@ pub record TakesSteps (meter : List ℕ) (step : Step) (joined : Option Rejoined
   pub next : TakesNext meter joined content one
   pub out : TakesShares meter (shares_of step) one after
 
--- The effect of a void on `intervals`. The step past the voided entry replaces the two steps to and
--- from the voided entry. Rows that start at or after the meter's last entry are deleted.
+-- The effect of a void on `intervals`. The energy between the entries before and after the voided
+-- entry replaces the energies to and from the voided entry. Rows that start at or after the meter's
+-- last entry are deleted.
 pub record ExchangesRows (meter : List ℕ) (made : Correction) (content after : Content) : Type 0
   where
     pub one : Content

@@ -20,19 +20,19 @@ NewFilesHaveNone = (zone : List ℕ) (content : Content) → IsNew zone content 
 
 -- ---- the records of a file of any version
 
--- True if the counter of an opening has 2^32 values.
+-- True if the counter of an installed meter has 2^32 values.
 abbrev pub HasFullRange : Opening → Type 0
 HasFullRange opening = opening.range ≡ 2 ^ 32
 
--- True if the records need no table that the layout lacks. If the layout lacks `ranges`, each
--- counter rolls over at 2^32. If it lacks `voids`, no meter entry is voided.
+-- True if the records need no table that a file version (its layout) lacks. If the version lacks
+-- `ranges`, each counter rolls over at 2^32. If it lacks `voids`, no meter entry is voided.
 abbrev pub FitIn : Layout → List Fact → Type 0
 FitIn First facts = All HasFullRange (openings_in facts) × (voids_in facts ≡ [])
 FitIn Second facts = voids_in facts ≡ []
 FitIn Third facts = ⊤
 
--- True if a file of this layout encodes the records. Each of its tables except `meta` has the rows
--- that version 3 has for the records.
+-- True if a file of this version (its layout) encodes the records. Each of its tables except `meta`
+-- has the rows that version 3 has for the records.
 pub record HasFactsIn (layout : Layout) (zone : List ℕ) (facts : List Fact)
     (db : Database) : Type 0
   where

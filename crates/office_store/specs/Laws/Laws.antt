@@ -23,8 +23,8 @@ DatabasesTellTheirFacts = (zone others_zone : List ℕ) (facts others : List Fac
     → HasFacts zone facts db → HasFacts others_zone others db
     → AreSame facts others × (zone ≡ others_zone)
 
--- Theorem: the next open after a crash finds the records that the crash left, because the B-trees
--- of a database determine its schema.
+-- Theorem: if a crash leaves B-trees that encode a list of records, the database that is opened
+-- from these B-trees encodes these records. The B-trees of a database determine its schema.
 abbrev pub LeftFactsAreFound : Type 0
 LeftFactsAreFound = (zone : List ℕ) (left : List (List Fact)) (trees : Trees) (db : Database)
     → (it : IsLeft zone left trees) → IsDatabase db → db.trees ≡ trees → HasFacts zone it.facts db

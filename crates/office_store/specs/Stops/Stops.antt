@@ -18,7 +18,8 @@ pub record HasOneOf (zone : List ℕ) (left : List (List Fact)) (db : Database) 
   pub one : IsOneOf left facts
   pub has : HasFacts zone facts db
 
--- True if `db` is the database that SQLite finds in a database file and its write-ahead log.
+-- True if `db` is the database that SQLite finds in `image`, a database file and its write-ahead
+-- log.
 pub record IsFoundIn (image : Image) (db : Database) : Type 0 where
   pub sound : IsDatabase db
   pub holds : (trees : Trees) → HoldsDatabase image trees → db.trees ≡ trees

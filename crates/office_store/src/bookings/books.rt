@@ -76,8 +76,8 @@ fn commit_facts<S: Alter>(
 }
 
 /// Appends records to the stored records, if the rules accept them. Stores either all records or
-/// none, even after a crash. The commit is the last call of the database. If the list is empty,
-/// makes no call.
+/// none, even after a crash. The commit is the last database call. If the list is empty, the
+/// function makes no database call.
 pub fn book_facts<S: Alter>(
     alloc: Global,
     conn: &mut Connection<S>,

@@ -1,4 +1,5 @@
-//! Computes the changes that voiding an entry makes to its meter.
+//! Computes the changes that a void makes to its meter. A void marks a false reading, which then no
+//! longer counts.
 ghost use Rattle.std.specs.Prelude.{◌≡◌, ◌≤◌, ◌+◌, IfOk, IfSome};
 ghost use Rattle.energy_core.specs.Account.{step_to};
 ghost use Rattle.meter_journal.specs.Journal.{with_rolls};
@@ -24,8 +25,8 @@ pub struct Rollover {
     pub rolls: u8,
 }
 
-/// The next meter entry after a voided entry, joined to the entry before the voided entry. The next
-/// entry gets new rollovers, and the step `put` replaces the step `out`.
+/// The changes at the next valid entry after a voided entry. The next entry now follows the entry
+/// before the voided entry: it gets new rollovers, and the energy `put` replaces the energy `out`.
 #[derive(Clone, Copy, Debug, PartialEq, Eq)]
 pub struct Rejoined {
     pub rollover: Rollover,
@@ -33,10 +34,9 @@ pub struct Rejoined {
     pub put: Step,
 }
 
-/// The changes that voiding an entry makes to its meter. The step `out` (the energy up to the
-/// voided entry) is removed, and `next` joins the next entry to the entry before the voided entry.
-/// The meter's last entry becomes `last`, and rows of `intervals` that start at `from` or later are
-/// deleted.
+/// The changes that voiding an entry makes to its meter. The energy `out`, up to the voided entry,
+/// is removed. `next` has the changes at the next valid entry. The meter's last entry becomes
+/// `last`, and rows of `intervals` that start at `from` or later are deleted.
 #[derive(Clone, Copy, Debug, PartialEq, Eq)]
 pub struct Correction {
     pub out: Step,
@@ -89,7 +89,8 @@ fn step_from(range: u64, last: &Last, entry: &Entry) -> Result<Step, RowFault>
     Ok(step)
 }
 
-/// Returns a reading with its rollovers counted from the counter's state `last`.
+/// Returns a reading with new rollovers, for the case that the reading directly follows the
+/// counter's state `last`. Returns a reset or a rescale unchanged.
 fn rolled(last: &Last, entry: &Entry) -> Entry
     ensures { result ≡ with_rolls last.now entry.now }
 {
@@ -114,7 +115,8 @@ fn rolls(entry: &Entry) -> u8
     }
 }
 
-/// Joins the next entry to the counter's state before the voided entry.
+/// Computes the new rollovers and energy of the next entry after a voided entry. The next entry now
+/// follows the counter's state `before`.
 fn rejoin(range: u64, before: &Last, voided: &Last, next: &EntryRow) -> Result<Rejoined, RowFault>
     ensures joins { IfOk result (Rejoins range before.now voided.now next.now) }
     ensures sound { IfOk result CanBeRejoined }
@@ -133,8 +135,8 @@ fn rejoin(range: u64, before: &Last, voided: &Last, next: &EntryRow) -> Result<R
     Ok(Rejoined { rollover, out, put })
 }
 
-/// Joins the next meter entry to the counter's state before the voided entry. Returns None if there
-/// is no next entry.
+/// Computes the new rollovers and energy of the next entry after a voided entry. Returns None if
+/// there is no next entry.
 fn rejoin_next(
     range: u64,
     before: &Last,
@@ -150,8 +152,9 @@ fn rejoin_next(
     }
 }
 
-/// Computes the total energy of a meter without the removed steps, and with the step that replaces
-/// them. Reports a negative total, or more than the greatest total of a meter, as damage.
+/// Computes the total energy of a meter after a void: without the steps (the energy between two
+/// entries) that the void removes, and with the step that replaces them. Reports a negative total,
+/// or a total above a meter's limit, as damage.
 fn total_after(total: u64, out: &Step, next: &Option<Rejoined>) -> Result<u64, RowFault>
     requires total { total ≤ greatest_total }
     requires out { CanBeShared out.now }
@@ -199,8 +202,8 @@ fn new_last_entry(
     Ok(last_row(last, total))
 }
 
-/// Returns the start from which a void deletes rows of `intervals`: the time of the meter's last
-/// entry, or 0 if this entry is the opening.
+/// Returns the time from which a void deletes the meter's rows of `intervals`. This time is the
+/// meter's last entry, or 0 if the last entry is the opening, after which no energy is recorded.
 fn end_of_rows(opened: u64, last: &LastRow) -> u64
     requires { last.now.moment ≤ latest_moment }
     ensures end { result ≡ gone_from opened last.now.moment }
@@ -213,8 +216,8 @@ fn end_of_rows(opened: u64, last: &LastRow) -> u64
     }
 }
 
-/// Computes the changes of a void from the entries around the voided entry. Reports an entry that
-/// may not be voided, or steps that may not follow one another, as damage.
+/// Computes the changes that a void makes to a meter, from the entries around the voided entry.
+/// Reports an entry that can't be voided, or entries in an impossible order, as damage.
 pub fn correct(found: &Surroundings) -> Result<Correction, RowFault>
     requires { found.now.standing.last.total ≤ greatest_total }
     ensures corrects { IfOk result (Corrects found.now) }

@@ -25,8 +25,8 @@ use store_tables::{
     EntryRow, LATEST_MOMENT, LastRow, RowFault, close_installation, insert_entry, update_last,
 };
 
-/// The last entry of a meter after one more entry was added, with the meter's total energy. Also
-/// has the step to the last entry: the energy since the previous entry.
+/// The last entry of a meter and the meter's total energy, after one more entry was added. `step`
+/// is the energy since the previous entry.
 #[derive(Clone, Copy, Debug, PartialEq, Eq)]
 pub struct Advance {
     pub last: LastRow,
@@ -50,7 +50,7 @@ fn is_in_time(entry: &Entry) -> bool
     }
 }
 
-/// Computes a meter's state after one more entry. Reports an entry that may not follow as damage.
+/// Computes a meter's state after one more entry. Reports an entry that the rules reject as damage.
 fn advance_meter(standing: &Standing, entry: &Entry) -> Result<Advance, RowFault>
     requires { IsSoundLast standing.now.last }
     ensures advances { IfOk result (Advances standing.now entry.now) }
@@ -112,7 +112,7 @@ pub fn settle<S: Alter>(
     Ok(())
 }
 
-/// Writes the row of an entry, the energy of its step, and its meter's new state.
+/// Writes the row of an entry, the energy since the previous entry, and the meter's new state.
 fn book_entry<S: Alter>(
     tx: &mut Transaction<'_, S>,
     meter: &str,
@@ -136,8 +136,8 @@ fn book_entry<S: Alter>(
     settle(tx, meter, advance.last, is_closing)
 }
 
-/// Writes an entry of a meter after its other entries. Writes the row, the energy of its step by
-/// quarter hours, and the meter's new state.
+/// Writes an entry of a meter after its other entries. Writes the row, the energy since the
+/// previous entry by quarter hours, and the meter's new state.
 pub fn enter_entry<S: Alter>(
     tx: &mut Transaction<'_, S>,
     booked: &BookedEntry,

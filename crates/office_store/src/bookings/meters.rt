@@ -12,8 +12,8 @@ use sqlite::{Alter, Transaction};
 use store_facts::{begun_row, is_sound_opening, opening_row, text};
 use store_tables::{RowFault, insert_entry, insert_installation, insert_range};
 
-/// Writes the opening of a meter. Inserts its installation with the index after the last
-/// installation, its counter's range, and its first entry.
+/// Writes a new meter with its opening, the first entry. Inserts its installation with the index
+/// after the last installation, its counter's range, and the opening.
 pub fn enter_opening<S: Alter>(
     tx: &mut Transaction<'_, S>,
     opening: &Opening,

@@ -68,7 +68,7 @@ pub fn next_hold<S: Alter>(tx: &mut Transaction<'_, S>) -> Result<u64, RowFault>
     next_place(&rows)
 }
 
-/// Returns the index of the next accounting register.
+/// Returns the index of the next accounting register (a named counter of a device).
 pub fn next_register<S: Alter>(tx: &mut Transaction<'_, S>) -> Result<u64, RowFault>
     ensures same_reference { IsSameBorrow tx.old.conn tx.new.conn }
     ensures sound { IfOk result IsPlace }
@@ -79,7 +79,7 @@ pub fn next_register<S: Alter>(tx: &mut Transaction<'_, S>) -> Result<u64, RowFa
     next_place(&rows)
 }
 
-/// Returns the index of the next installation.
+/// Returns the index of the next row of `installations`.
 pub fn next_installation<S: Alter>(tx: &mut Transaction<'_, S>) -> Result<u64, RowFault>
     ensures same_reference { IsSameBorrow tx.old.conn tx.new.conn }
     ensures sound { IfOk result IsPlace }

@@ -59,7 +59,8 @@ pub fn enter_hold<S: Alter>(tx: &mut Transaction<'_, S>, held: &HeldReading) -> 
     Ok(())
 }
 
-/// Writes an accepted request under its idempotency key.
+/// Writes an accepted request under its idempotency key. A retry of the request then acts only
+/// once.
 pub fn enter_reply<S: Alter>(tx: &mut Transaction<'_, S>, reply: &Reply) -> Result<(), RowFault>
     ensures same_reference { IsSameBorrow tx.old.conn tx.new.conn }
     ensures does { Goes (state S.Store tx.old.conn.now) (state S.Store tx.new.conn.now) result

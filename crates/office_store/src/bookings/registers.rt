@@ -1,4 +1,4 @@
-//! Writes accounting registers to the tables.
+//! Writes accounting registers (named counters of devices) to the tables.
 ghost use Rattle.std.specs.Prelude.{◌≡◌, true};
 ghost use Rattle.sqlite.specs.Held.{state};
 ghost use Rattle.office_events.specs.declared.facts.Fact.TheVariants as fact;
@@ -25,7 +25,8 @@ fn is_sound_scale(source: ScaleSource) -> bool
     }
 }
 
-/// Returns true if one Modbus read covers the counter of an accounting register and its scale.
+/// Returns true if one Modbus read covers the counter of an accounting register and the register
+/// with its scale factor.
 fn is_narrow(register: &Register) -> bool
     ensures { result ≡ fits_a_read register.now.address (scale_as register.now.scale) }
 {

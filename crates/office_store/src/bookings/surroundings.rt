@@ -1,4 +1,4 @@
-//! Queries for an entry of a meter and the entries around it, inside a transaction.
+//! Queries for an entry of a meter and the valid entries before and after it, inside a transaction.
 ghost use Rattle.std.specs.Prelude.{◌≤◌, IfOk};
 ghost use Rattle.sqlite.specs.Held.{state};
 ghost use Rattle.store_tables.specs.Limits.{greatest_place};
@@ -23,7 +23,7 @@ pub struct Neighbours {
 }
 
 /// An entry of a meter and its neighbours, with the meter's state and the time of the meter's
-/// opening.
+/// opening (the first entry).
 #[derive(Clone, Copy, Debug, PartialEq, Eq)]
 pub struct Surroundings {
     pub standing: Standing,

@@ -1,4 +1,5 @@
-//! Writes voids of meter entries to the tables.
+//! Writes voids of meter entries to the tables. A void marks a false reading, which then no longer
+//! counts.
 ghost use Rattle.std.specs.Prelude.{◌≤◌, IfSome};
 ghost use Rattle.sqlite.specs.Held.{state};
 ghost use Rattle.office_events.specs.declared.facts.Fact.TheVariants as fact;
@@ -23,7 +24,7 @@ use store_facts::{book_step, drop_rows_from, take_step, text};
 use store_tables::{GREATEST_PLACE, LATEST_MOMENT, RowFault, insert_void, set_rollovers};
 
 /// Sets the rollovers of the next meter entry to the new rollovers in `next`. If there is no next
-/// entry, makes no call.
+/// entry, makes no database call.
 fn roll_next<S: Alter>(
     tx: &mut Transaction<'_, S>,
     meter: &str,
@@ -42,7 +43,7 @@ fn roll_next<S: Alter>(
 }
 
 /// Subtracts the energy between the voided meter entry and the next entry from `intervals`. If
-/// there is no next entry, makes no call.
+/// there is no next entry, makes no database call.
 fn take_next<S: Alter>(
     tx: &mut Transaction<'_, S>,
     meter: &str,
@@ -61,7 +62,7 @@ fn take_next<S: Alter>(
 }
 
 /// Adds to `intervals` the energy between the meter entry before the voided entry and the next
-/// entry. If there is no next entry, makes no call.
+/// entry. If there is no next entry, makes no database call.
 fn write_next<S: Alter>(
     tx: &mut Transaction<'_, S>,
     meter: &str,

@@ -23,7 +23,8 @@ pub fn databases_give_their_records()
     tables_give_their_records();
 }
 
-/// Theorem: the next open after a crash finds the records that the crash left.
+/// Theorem: if a crash leaves B-trees that encode a list of records, the next open of the database
+/// finds these records.
 pub fn left_facts_are_found()
     ensures { LeftFactsAreFound }
 {}
@@ -46,7 +47,8 @@ pub fn newest_files_have_theirs()
     opened_files_keep_theirs();
 }
 
-/// Theorem: the next open of a file of any version finds the records of the file.
+/// Theorem: two databases with the same B-trees encode the same records. The next open of a file
+/// therefore finds the file's records.
 pub fn found_files_keep_theirs()
     ensures { FoundFilesKeepTheirs }
 {}

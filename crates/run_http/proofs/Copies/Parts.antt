@@ -56,7 +56,8 @@ and_false : (b : Bool) → b && false ≡ false
 and_false true = refl
 and_false false = refl
 
--- If two tests agree on each row of a list, filtering the list with either test has equal results.
+-- If two tests agree on a row, and filtering the rows after it has equal results, then filtering
+-- the complete list has equal results.
 kept_same : (a b : Bool) (row : Share) (left right : List Share) → a ≡ b → left ≡ right → cond a (row ∷ left) left ≡ cond b (row ∷ right) right
 kept_same a b row left right same rest = ap (λ c. cond c (row ∷ left) left) same ∙ ap (λ rs. cond b (row ∷ rs) rs) rest
 
@@ -116,7 +117,7 @@ in_parts from at till (row ∷ rows) rising low high =
           ∙ ap (λ rs. rs ++ rows_within (Between at till) (row ∷ rows)) (sym (none_within from at (row ∷ rows) from_at))
     ]
 
--- If rows are in a time span, then they start before the end of the span.
+-- Selecting the rows of a time span from the rows before its end loses no row.
 within_before : (from till : ℕ) (rows : List Share) → rows_within (Between from till) (rows_before till rows) ≡ rows_within (Between from till) rows
 within_before from till [] = refl
 within_before from till (row ∷ rows) =
@@ -146,7 +147,8 @@ from_first from low first till (row ∷ rows) is h =
     (ap (λ b. b && nat_lt row.start till) (first_tests from low first row.start is h.0))
     (from_first from low first till rows is h.1)
 
--- The rows of a time span are those queried chunk by chunk, followed by the stored last rows.
+-- The rows of a time span are the rows queried chunk by chunk, followed by the last rows, which are
+-- queried when the response begins.
 parted : (from low first last end till : ℕ) (rows : List Share) → Rising rows → StartFrom low rows → first ≡ max from low → end ≡ max first (min till last)
     → rows_within (Between from till) rows ≡ rows_within (Between first end) rows ++ rows_within (Between end till) rows
 parted from low first last end till rows rising start is ends =
@@ -168,7 +170,8 @@ asked_of : (facts : List Fact) (from till : ℕ) (opening : Option Opening)
 asked_of facts from till None = refl
 asked_of facts from till (Some opening) = refl
 
--- The rows of a meter in a time span, computed from the records of the store.
+-- A query for a meter's rows in a time span returns all rows of the meter that are in the time
+-- span.
 between_rows : (facts : List Fact) (meter : List ℕ) (from till : ℕ)
     → rows_between facts (Some meter) from till ≡ rows_within (Between from till) (rows_of_meter facts meter)
 between_rows facts meter from till = asked_of facts from till (opening_of facts meter)
@@ -202,7 +205,8 @@ opening_named facts o meter there = ap (opening_of facts) (own_name facts meter 
 rows_named : (facts : List Fact) (o : Opening) (meter : List ℕ) → opening_of facts meter ≡ Some o → rows_of_meter facts meter ≡ rows_of_opening facts o
 rows_named facts o meter there = ap (rows_of_installed facts) there
 
--- All requested rows of a meter are those queried chunk by chunk, followed by the stored last rows.
+-- All requested rows of a meter are the rows queried chunk by chunk, followed by the last rows,
+-- which are queried when the response begins.
 pub all_parts : SharesAddUp → (facts : List Fact) (meter : List ℕ) (o : Opening) (from first last end till : ℕ) → AreLawful facts
     → opening_of facts meter ≡ Some o → first ≡ max from (quarter_of o.at) → end ≡ max first (min till last)
     → rows_between facts (Some meter) from till ≡ rows_between facts (Some meter) first end ++ rows_between facts (Some meter) end till

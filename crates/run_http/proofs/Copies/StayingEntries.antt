@@ -1,5 +1,6 @@
--- Lemmas: journal lines that void no entry before a sequence number leave the entries before it
--- unchanged.
+-- Lemmas on the journal of a meter, which is its history of entries, rejected readings and voids
+-- (withdrawals of entries). New lines that void no entry before a sequence number leave the entries
+-- before it unchanged.
 use Rattle.std.proofs.Common.{◌≡◌, ℕ, ◌+◌, ◌<◌, ◌≤◌, ◌==◌, nat_lt, true, false, ◌&&◌, List, [], ◌∷◌, ◌++◌, length, refl, sym, ap, ◌∙◌, inl, inr, Some, arith}
 use Rattle.std.proofs.lemmas.Bool.{cases_Bool, cond-true, cond-false, eqb-true}
 use Rattle.std.proofs.lemmas.Bool.Decides.{nat_tests}
@@ -16,7 +17,8 @@ use Rattle.meter_journal.proofs.AsEntered.{rows_are_kept}
 use Rattle.meter_journal.proofs.Keeping.{mapped_some}
 use Rattle.run_http.specs.Copies.{entries_before}
 
--- Each void among the journal lines names an entry with sequence number `place` or higher.
+-- Each void (withdrawal of an entry) among the journal's lines names an entry with the sequence
+-- number `place` or a higher number.
 abbrev pub LinesFrom : (place : ℕ) → Journal → Type 0
 LinesFrom place [] = Unit {0}
 LinesFrom place (Entered k e ∷ lines) = LinesFrom place lines
@@ -52,7 +54,7 @@ place_below named (row ∷ rows) a h there =
           let rest = place_below named rows found.0 h.1 found.1 in omega (arith, rest)
     ]
 
--- If an entry is voided, then all entries with lower sequence numbers are unchanged.
+-- If an entry is voided (withdrawn), then all entries with lower sequence numbers are unchanged.
 void_leaves : (opening : Last) (place named : ℕ) (rows : List EntryRow) (a : Around) → place ≤ named → AreNumbered rows
     → row_at named rows ≡ Some a → entries_before place (with_void opening named rows) ≡ entries_before place rows
 void_leaves opening place named [] a le h there = absurd (cc)
@@ -83,8 +85,8 @@ below_fit : (meter : Installed) (more lines : Journal) → AreFitting meter (mor
 below_fit meter [] lines h = h
 below_fit meter (line ∷ more) lines h = below_fit meter more lines h.1
 
--- Journal lines that void no entry before the sequence number `place` leave the entries before
--- `place` unchanged. `place` exists or is the next sequence number.
+-- If new lines of a meter's journal void (withdraw) no entry before the sequence number `place`,
+-- the entries before `place` are unchanged. `place` exists or is the next sequence number.
 pub entries_stay : (meter : Installed) (place : ℕ) (more lines : Journal) → IsWellInstalled meter → AreFitting meter (more ++ lines)
     → place ≤ entered_count lines + 2 → LinesFrom place more
     → entries_before place (rows_of meter.opening (more ++ lines)) ≡ entries_before place (rows_of meter.opening lines)

@@ -1,5 +1,5 @@
--- Lemmas: later records that void nothing before an entry leave the quarter hours of the meter
--- before that entry's quarter hour unchanged.
+-- Lemmas: later records that void (withdraw) nothing before an entry leave the quarter hours of the
+-- meter before that entry's quarter hour unchanged.
 use Rattle.std.proofs.Common.{◌≡◌, ℕ, ◌+◌, ◌≤◌, cond, List, [], ◌∷◌, ◌++◌, length, map, sym, ap, subst, ◌∙◌, Some, None, arith}
 use Rattle.std.specs.Prelude.{All}
 use Rattle.std.proofs.lemmas.Bool.{cond-false}
@@ -38,7 +38,7 @@ use Rattle.run_http.specs.Copies.{rows_before, entries_before, next_place, quart
 use Rattle.run_http.proofs.Copies.StayingEntries.{LinesFrom, entries_stay, all_below, first_ones}
 use Rattle.run_http.proofs.Copies.StayingShares.{entries_leave, before_earlier, rows_part, all_before}
 
--- ---- Quarter hours that further lines of a meter's journal leave unchanged.
+-- ---- Quarter hours that further lines of a meter's journal (its history) leave unchanged.
 
 entries_joined : (newer older : List EntryRow) → journal.entries_in (newer ++ older) ≡ journal.entries_in newer ++ journal.entries_in older
 entries_joined newer older =
@@ -134,7 +134,8 @@ still_opened (fact.Poll p ∷ further) facts meter o h there = still_opened furt
 still_opened (fact.Outcome e ∷ further) facts meter o h there = still_opened further facts meter o h.1 there
 still_opened (fact.Reply r ∷ further) facts meter o h there = still_opened further facts meter o h.1 there
 
--- A record adds one line or no line to the journal of a meter.
+-- If a journal's voids name only entries from `place` on, this stays true when a record adds its
+-- line. The record adds the line only to the journal of the meter that it names.
 one_more : (place : ℕ) (line : journal.Line) (lines : journal.Journal) (meter m : List ℕ) → LinesFrom place lines
     → (meter ≡ m → LinesFrom place (line ∷ lines)) → LinesFrom place (cons_option (cond (same meter m) (Some line) None) lines)
 one_more place line lines meter m rest here =
@@ -162,8 +163,8 @@ lines_from (fact.Poll p ∷ further) meter place h = lines_from further meter pl
 lines_from (fact.Outcome e ∷ further) meter place h = lines_from further meter place (All-tail (VoidsFrom meter place) (fact.Outcome e) further h)
 lines_from (fact.Reply r ∷ further) meter place h = lines_from further meter place (All-tail (VoidsFrom meter place) (fact.Reply r) further h)
 
--- If later records void no entry before `place`, then they satisfy `StaysBefore` for the meter with
--- this opening entry.
+-- If later records void (withdraw) no entry before `place`, then the meter's older quarter hours
+-- are unchanged (`StaysBefore`).
 stays_before : SharesAddUp → (further facts : List Fact) (o : Opening) (place : ℕ) → AreLawful (further ++ facts) → opening_of facts o.meter ≡ Some o
     → place ≤ next_place facts o → All (VoidsFrom o.meter place) further → StaysBefore further facts o.meter o place
 stays_before law further facts o place h there le void =

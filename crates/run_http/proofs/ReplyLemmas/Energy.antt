@@ -31,7 +31,8 @@ taken_all contents days (day ∷ more) from at to has took =
     subst P (append_assoc days (day ∷ []) more)
     (taken_all contents (days ++ day ∷ []) more from took.0 to (took.1.taken from days has) took.2)
 
--- After the program's answer and the rest of the report, the output has the complete report.
+-- If the program hands over all days, and the remaining text of the report is written, then the
+-- output has the complete report.
 written : {W : Type 0} (E : Type 0) (contents : W → Option (List ℕ)) (zone : Zone) (past : History) (register : Option (List ℕ)) (form : ReportForm)
     (before after : Failures) (from to left : ReportRows W) (output : W) (answer reported : Result (Unit {0}) Refusal)
     → IsFresh contents form output from
@@ -64,7 +65,7 @@ reports {E = E} ledger contents old new register form from to left output holds 
     }
 reports ledger contents old new register form from to left output holds answer (Err fault) fresh days last end = tt
 
--- If a report receives days, then its writer is unchanged.
+-- A report that receives days continues to write to the same output.
 pub taken_by : {W : Type 0} (contents : W → Option (List ℕ)) (days : List DayTotal) (from to : ReportRows W)
     → TakesAll (TakesDay contents) from days to → to.output.ghost_name ≡ from.output.ghost_name
 taken_by {W} contents [] from to took = ap (λ (rows : ReportRows W). rows.output.ghost_name) took
@@ -100,7 +101,8 @@ replied ledger old new register form had holds from to reported (Err why) asked 
   puts = tt;
 }
 
--- If memory ran out for the report, the call fails as `RepliesEnergy` allows.
+-- If memory runs out for the report, then the call fails, and its postcondition `RepliesEnergy`
+-- holds.
 pub lacked : {B E F : Type 0} (ledger : B → Ledger) (old new : Office B) (register : Option (List ℕ)) (form : ReportForm) (had holds : Option (List ℕ))
     (from to : List ℕ) (asked : Result (Result (Unit {0}) Refusal) F) (result : Result (Unit {0}) E)
     → AsksEnergy ledger old new register form had holds asked → IsErr result → RepliesEnergy ledger old new register form from to result

@@ -1,4 +1,5 @@
--- Lemmas on a call of `office_http` over a new link in memory.
+-- Lemmas on a call of the crate `office_http` that reads its request from memory, and writes its
+-- response to memory.
 use Rattle.std.proofs.Common.{◌≡◌, ℕ, List, [], Option, Some, Result, subst, ap, sym, ◌∙◌}
 use Rattle.mb_wire.specs.declared.link.LastTake.{LastTake}
 use Rattle.office_books.specs.Ledgers.{Ledger}

@@ -74,8 +74,8 @@ module _ {B : Type 0} (ledger : B → Ledger) (old new : Office B) where
   asks_without (Ok rows) asks = now_as ledger old new rows tt asks
   asks_without (Err why) asks = refused_as ledger old new why asks
 
-  -- If a meter is installed, then it has an opening entry, and `it` is the meter as the program
-  -- reports it.
+  -- If the program reports the meter as `it`, then the meter has an opening entry, from which `it`
+  -- is computed.
   found : (facts : List Fact) (it : Installation) (meter : List ℕ) → meter_of facts meter ≡ Some it
       → (o : Opening) × (opening_of facts meter ≡ Some o) × (installation_of facts o ≡ it)
   found facts it meter there = mapped (installation_of facts) (opening_of facts meter) it there
@@ -166,7 +166,8 @@ module _ {B : Type 0} (ledger : B → Ledger) (old new : Office B) where
     );
   }
 
-  -- If memory ran out for the rows, the call fails as `BeginsReply` allows.
+  -- If memory runs out for the rows, then the call fails, and its postcondition `BeginsReply`
+  -- holds.
   pub begins_lacked : {E F : Type 0} (it : Installation) (from till end : ℕ) (fault : F) (result : Result (Result RemainingRows Refusal) E)
       → AsksRows ledger old new (λ facts. intervals_within facts (Some it.opening.meter) (Between end till)) (Err fault) → IsErr result
       → BeginsReply ledger old new it from till intervals_text [] result
@@ -300,7 +301,7 @@ module _ {B : Type 0} (ledger : B → Ledger) (old mid new : Office B) where
     sizes = (refl, λ past stands clean. (reports past stands clean).answer);
   }
 
-  -- If memory ran out for a line, the call fails as `SizesRows` allows.
+  -- If memory runs out for a line, then the call fails, and its postcondition `SizesRows` holds.
   pub sizes_none : {E : Type 0} (left : RemainingRows) (answer : Result (Unit {0}) Refusal) (result : Result (Result Sizes Refusal) E)
       → OnlyAsks ledger mid new answer → IsErr result → SizesRows ledger mid new left result
   sizes_none left answer (Ok reported) asks is = cc is
@@ -365,7 +366,8 @@ module _ {B : Type 0} (ledger : B → Ledger) (old mid new : Office B) where
         );
       }
 
-  -- If memory ran out while rows were measured, the call fails as `BeginsReply` allows.
+  -- If memory runs out while rows are measured, then the call fails, and its postcondition
+  -- `BeginsReply` holds.
   pub sizes_lacked : {E F : Type 0} (it : Installation) (from till : ℕ) (text put : List ℕ) (left : RemainingRows) (answer : Result (Unit {0}) Refusal)
       (result : Result (Result RemainingRows Refusal) F) → BeginsReply ledger old mid it from till intervals_text [] {E = E} (Ok (Ok left))
       → OnlyAsks ledger mid new answer → IsErr result → BeginsReply ledger old new it from till (with_rows text) put result
@@ -386,7 +388,8 @@ module _ {B : Type 0} (ledger : B → Ledger) (old new : Office B) where
   lacked_so it from till reply other put text fault (Ok reported) begins is = cc is
   lacked_so it from till reply other put text fault (Err why) begins is = record { answer = begins.answer; asks = begins.asks; begins = tt }
 
-  -- The response with all quarter hours of a meter begins with a head without Content-Length.
+  -- If the head without Content-Length is written, then the response with all quarter hours of the
+  -- meter has begun as `BeginsReply` states.
   pub with_text_head : {E F : Type 0} (it : Installation) (from till : ℕ) (text put : List ℕ) (left : RemainingRows)
       → BeginsReply ledger old new it from till intervals_text [] {E = E} (Ok (Ok left)) → put ≡ text ++ text_head
       → BeginsReply ledger old new it from till (with_all_rows text) put {E = F} (Ok (Ok left))
@@ -408,7 +411,8 @@ module _ {B : Type 0} (ledger : B → Ledger) (old new : Office B) where
     );
   }
 
--- The end of a response has the stored last rows and the number of all rows.
+-- If the copied last rows and the number of all rows are written, then the response is complete
+-- (`ReportsRest`).
 rest_reported : (left : RemainingRows) (from between to : List ℕ) (count : ℕ) → between ≡ from ++ flat_map share_line left.last.items → count ≡ left.reported + length left.last.items
     → to ≡ between ++ end_line count → ReportsRest left from to
 rest_reported left from between to count lines counted put = λ facts le.
@@ -435,8 +439,8 @@ text_stays law further facts meter o left h there named settled void =
     ∙ ap (λ m. rows_between facts m left.from left.till) (sym named) in
     ap (λ rs. text_of left.reported (rs ++ left.last.items)) same
 
--- After a chunk, the rows still to be queried belong to the same meter as before. They start before
--- the quarter hour of the meter's last entry.
+-- If the rows still to be queried start before the quarter hour of the meter's last entry, then
+-- this is also true after the next chunk.
 settled_on : (facts : List Fact) (left later : RemainingRows) (seconds : ℕ) → MovesOn left later seconds → IsSettled facts left → IsSettled facts later
 settled_on facts left later seconds moves settled = λ lt.
     let last : ℕ = last_quarter (option_and_then (meter_of facts) left.meter) in
@@ -448,7 +452,8 @@ settled_on facts left later seconds moves settled = λ lt.
     ] in
     omega (arith, upto, same, moves.till)
 
--- The state of a streamed response after some chunks.
+-- What is true after some chunks of a streamed response: its meter is unchanged. The written text
+-- and the remaining text together are the same as before.
 record Goes (facts : List Fact) (meter : List ℕ) (left later : RemainingRows) (before after : List ℕ) : Type 0 where
   named : later.meter ≡ Some meter
   settled : IsSettled facts later

@@ -85,8 +85,8 @@ asks_with ledger old new rows (Err why) asks = record {
   zone = asks.zone;
 }
 
--- If memory sufficed for all rows, then the result of the query has the rows of the store or the
--- program's refusal.
+-- If memory sufficed for all rows, then the result of the query has the rows of the store, or the
+-- reason why the program refused the query.
 pub asked : {B E : Type 0} (ledger : B → Ledger) (old new : Office B) (says : List Fact → Option (List Share)) (from to : KeptRows) (kept : Vec Share Global)
     (answer : Result (Unit {0}) Refusal) → ReportsRows KeepsRow ledger old new from to answer says → OnlyAsks ledger old new answer
     → from.rows.items ≡ [] → to.is_whole ≡ true → kept ≡ to.rows → AsksRows ledger old new says {E = E} (Ok (with_rows kept answer))
@@ -98,7 +98,7 @@ asked ledger old new says from to kept answer reports asks none whole is = recor
       listed (says (facts_of past)) (failures_of ledger old) (failures_of ledger new) from to kept answer (reports past stands clean) none whole is;
 }
 
--- If memory ran out for a row, the call fails as `AsksRows` allows.
+-- If memory runs out for a row, then the call fails, and its postcondition `AsksRows` holds.
 pub lacked : {B E : Type 0} (ledger : B → Ledger) (old new : Office B) (says : List Fact → Option (List Share)) (kept : Vec Share Global)
     (answer : Result (Unit {0}) Refusal) (result : Result (Result (Vec Share Global) Refusal) E) → OnlyAsks ledger old new answer → IsErr result
     → AsksRows ledger old new says result

@@ -1,4 +1,4 @@
--- Lemmas: the voided entries of a meter are collected chunk by chunk.
+-- Lemmas: the voided (withdrawn) entries of a meter are collected chunk by chunk.
 use Rattle.std.proofs.Common.{◌≡◌, ◌⊎◌, ℕ, ◌+◌, ◌<◌, true, Option, Some, None, List, ◌∷◌, [], ◌++◌, take, drop, length, get_or, refl, sym, ap, subst, ◌∙◌, append_assoc}
 use Rattle.std.specs.Prelude.{Ok, Err}
 use Rattle.std.specs.Option.{option_map, option_and_then}
@@ -30,8 +30,8 @@ use Rattle.office_books.proofs.Pieces.{last_piece, one_piece_more, piece_at}
 
 -- ---- The entries of one chunk.
 
--- The list of voided entries is correct for one more entry of the chunk: the program appended that
--- entry if it is voided, and left the list unchanged if it is not.
+-- If the list has the voided entries among a chunk's first `i` entries, then it is also correct for
+-- `i + 1` entries. The program appends the next entry exactly if that entry is voided.
 pub one_more : (piece : List MeterEntry) (i : ℕ) (any : MeterEntry) (before mid after : List MeterEntry) → i < length piece
     → mid ≡ before ++ voided_in (take i piece) → after ≡ mid ++ voided_in (get_or piece i any ∷ []) → after ≡ before ++ voided_in (take (i + 1) piece)
 one_more piece i any before mid after lt kept more =
@@ -134,7 +134,8 @@ module _ {B : Type 0} (ledger : B → Ledger) where
         (failures_of ledger d) why keeps.failures (lists past (keeps.stands past stands) clean);
   }
 
-  -- If memory ran out for the entries, the call fails as `AsksRows` allows.
+  -- If memory runs out for the entries, then the call fails, and its postcondition `AsksRows`
+  -- holds.
   pub no_room : {E : Type 0} (a b : Office B) (meter : Option (List ℕ)) (fault : E) → (is_stopped a ≡ true → ⊥) → Keeps ledger a b
       → AsksRows ledger a b (λ facts. voids_of facts meter) (Err fault)
   no_room a b meter fault goes keeps = record {

@@ -1,4 +1,5 @@
--- The text lines of a meter's entries or voided entries, and a last line with their number.
+-- The text lines of a meter's entries or voided (withdrawn) entries, and a last line with their
+-- number.
 use Rattle.std.specs.Prelude.{ℕ, ℤ, Bool, true, false, List, ◌++◌, length, flat_map, codes, decimal}
 use Rattle.std.specs.Fmt.{signed_decimal}
 use Rattle.energy_core.specs.Account.{moment_of}

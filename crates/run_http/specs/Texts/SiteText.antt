@@ -13,8 +13,8 @@ with_last text row =
     text ++ codes "\",\"at\":" ++ decimal row.last.at ++ codes ",\"last\":" ++ decimal row.last.raw
     ++ codes ",\"sf\":" ++ signed_decimal row.last.sf
 
--- The part of a meter's energy that earlier files of the store recorded, in mWh, as a string of
--- digits. It is missing if the earlier files do not have the meter.
+-- The part of a meter's energy that earlier database files of the store recorded, in mWh, as a
+-- string of digits. It is missing if the earlier files do not have the meter.
 abbrev pub with_earlier : List ℕ → Option ℕ → List ℕ
 with_earlier text None = text
 with_earlier text (Some mwh) = text ++ codes "\",\"earlier\":\"" ++ decimal mwh

@@ -9,7 +9,7 @@ use run_status::{append_bytes, write_number, write_scale, write_word};
 use std::alloc::AllocError;
 
 /// An accounting register with its latest meter. `earlier` is the part of the meter's energy in mWh
-/// that is in earlier files of the store, or `None` if they lack the meter.
+/// that is in earlier database files of the store, or `None` if they lack the meter.
 #[derive(Clone, Copy, Debug, PartialEq, Eq)]
 pub struct SiteLine {
     pub row: SiteRow,
@@ -34,7 +34,7 @@ fn write_latest(text: &mut Vec<u8>, row: &Installation) -> Result<(), AllocError
     write_scale(text, b",\"sf\":", row.last.sf)
 }
 
-// Appends the part of a meter's energy that earlier files of the store recorded.
+// Appends the part of a meter's energy that earlier database files of the store recorded.
 fn write_earlier(text: &mut Vec<u8>, earlier: Option<u64>) -> Result<(), AllocError>
     ensures { OnOk result (text.new.items ≡ json.with_earlier text.old.items earlier) }
 {

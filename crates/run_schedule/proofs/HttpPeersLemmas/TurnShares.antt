@@ -4,8 +4,8 @@ use Rattle.std.specs.Prelude.{◌==◌, ◌||◌, sum_by}
 use Rattle.std.proofs.lemmas.List.Sums.{sum_by-cons}
 use Rattle.run_schedule.specs.HttpPeers.TurnShares.{AreFew, MayReply, left_after}
 
--- After a response uses `one` of a limit, the rest of the limit equals the limit minus the sum of
--- all uses.
+-- If `part` of a limit is used, and a response uses `one` more, then the limit minus the sum of
+-- both is left.
 less : (left one all part total : ℕ) → left ≡ all - part → total ≡ one + part → left - one ≡ all - total
 less left one all part total same more = omega (arith, same, more)
 

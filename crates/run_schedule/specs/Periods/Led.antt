@@ -46,12 +46,14 @@ other_length period.Year = period.Month
 abbrev pub reports : Period → List ℕ → Bool
 reports length text = spells length text || spells (other_length length) text
 
--- The file name `name` is `file` with the period `text`.
+-- The file name `name` is `file` with the period `text` inserted, such as `office-2026-11.db` for
+-- `office.db`.
 pub record IsFileOf (file : List ℕ) (length : Period) (name text : List ℕ) : Type 0 where
   pub reported : reports length text ≡ true
   pub named : file_of file text ≡ name
 
--- The period in the file name `name`, if `name` is `file` with a period.
+-- The period in the file name `name`, such as `2026-11` in `office-2026-11.db`, if the rest of
+-- `name` is `file`.
 abbrev pub IsReportedBy : (file : List ℕ) → Period → (name : List ℕ) → Option (Bor (List ℕ))
     → Type 0
 IsReportedBy file length name (Some text) = IsFileOf file length name text.now
@@ -70,8 +72,8 @@ abbrev pub gives_way : {Z : Type 0} → Option (Vec ℕ Z) → Period → List �
 gives_way None length text = true
 gives_way (Some led) length text = nat_lt (rank length led.items) (rank length text)
 
--- The file of the period `text` is among the files with these names, and none of these files has a
--- greater rank.
+-- The file of the period `text` is the current file: it is among the files with these names, and
+-- none of them has a greater rank.
 pub record IsLast (file : List ℕ) (length : Period) (names : List (List ℕ))
     (text : List ℕ) : Type 0 where
   pub reported : reports length text ≡ true
@@ -79,7 +81,8 @@ pub record IsLast (file : List ℕ) (length : Period) (names : List (List ℕ))
   pub last : (other : List ℕ) → reports length other ≡ true → Contains names (file_of file other)
       → rank length other ≤ rank length text
 
--- The period of the current file among these names, if any of the names has a period.
+-- The period of the current file, in which the program records energy, among these file names. None
+-- if no name has a period.
 abbrev pub IsLed : {Z : Type 0} → (file : List ℕ) → Period → (names : List (List ℕ))
     → Option (Vec ℕ Z) → Type 0
 IsLed file length names (Some text) = IsLast file length names text.items

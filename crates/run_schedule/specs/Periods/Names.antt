@@ -58,12 +58,14 @@ spells period.Day (a ∷ b ∷ c ∷ d ∷ hyphen ∷ m ∷ n ∷ second ∷ e �
     is_year a b c d && (hyphen == 45) && is_month m n && (second == 45) && is_day e f
 spells period.Day _ = false
 
--- The file name `name` is `file` with the period `text`, which has this length.
+-- The file name `name` is `file` with the period `text` inserted, such as `office-2026-11.db` for
+-- `office.db`. The period has this length.
 pub record IsNamed (file : List ℕ) (period : Period) (name text : List ℕ) : Type 0 where
   pub spelled : spells period text ≡ true
   pub named : file_of file text ≡ name
 
--- The period in the file name `name`, if `name` is `file` with a period of this length.
+-- The period in the file name `name`, such as `2026-11` in `office-2026-11.db`, if it has this
+-- length and the rest of `name` is `file`.
 abbrev pub IsPeriodIn : (file : List ℕ) → Period → (name : List ℕ) → Option (Bor (List ℕ)) → Type 0
 IsPeriodIn file period name (Some text) = IsNamed file period name text.now
 IsPeriodIn file period name None = (text : List ℕ) → ¬ IsNamed file period name text

@@ -22,8 +22,8 @@ as_far_as other text = take (min (length text) (length other)) text
 abbrev pub is_later : (text other : List ℕ) → Bool
 is_later text other = nat_lt (number_in (as_far_as text other)) (number_in (as_far_as other text))
 
--- The decision for a file whose period is over: roll over, unless the clock is before the file's
--- last entry.
+-- The decision for a file whose period is over: roll over (`Carry`, begin a new file), unless the
+-- clock is before the file's last entry.
 abbrev pub plan_of_past : (last_entry now : ℕ) → Plan
 plan_of_past last_entry now = if nat_lt now last_entry then Wait else Carry
 
@@ -35,8 +35,8 @@ plan_of (Some led) current last_entry now =
     if bytes_eq led.now current then Stay
     else (if is_later led.now current then StayAhead else plan_of_past last_entry now)
 
--- If a file is rolled over, then the file's period is not later than the current period. No entry
--- in the file is then later than the clock.
+-- If the program rolls over to a new file, then the old file's period is not later than the current
+-- period. No entry in the old file is then later than the clock.
 abbrev pub NothingGoesBack : Type 0
 NothingGoesBack = (led : Bor (List ℕ)) (current : List ℕ) (last_entry now : ℕ)
     → plan_of (Some led) current last_entry now ≡ Carry
@@ -45,8 +45,8 @@ NothingGoesBack = (led : Bor (List ℕ)) (current : List ℕ) (last_entry now : 
 
 -- ---- When to roll over.
 
--- The time at which the file of this period is rolled over: the period's end, plus up to 30 s for
--- the last poll. None if the period has no end.
+-- The time at which the program rolls over from this period's file to a new file: the period's end,
+-- plus up to 30 s for the last poll. None if the period has no end.
 abbrev pub IsPeriodUntil : Zone → Period → Date → (every now : ℕ) → Option ℕ → Type 0
 IsPeriodUntil zone period day every now (Some until) =
     (next : ℕ) × IsPeriodEnd zone period day now (Some next) × (until ≡ next + min (every / 2) 30)

@@ -10,7 +10,7 @@ set_back_by steady_clock now =
     if nat_lt now steady_clock.latest && not steady_clock.is_back
     then Some (steady_clock.latest - now) else None
 
--- The latest timestamp, if the clock is more than 60 seconds after it.
+-- The latest timestamp, if the clock has jumped to more than 60 seconds after it.
 abbrev pub ahead_by : (latest now : ℕ) → Option ℕ
 ahead_by latest now = if nat_lt 60 (now - latest) then Some latest else None
 

@@ -113,8 +113,8 @@ impl ActivePeriod {
     /// current than the one kept so far.
     ///
     /// A file of a later year is more current. Within a year, a file of the configured period
-    /// length is more current than one of another length. Among several such files, the one with
-    /// the latest month or day is.
+    /// length is more current than a file of another length. Of two files with the same year and
+    /// period length, the file with the later month or day is more current.
     pub fn see(
         &mut self,
         alloc: Global,

@@ -120,8 +120,8 @@ fn between<'a>(name: &'a [u8], stem: &[u8], suffix: &[u8]) -> Option<&'a [u8]>
     }
 }
 
-/// Returns the period in `name`, if `name` is `file` with a period of this length, such as
-/// `office-2026-11.db`.
+/// Returns the period in a file name, if it has this length and the rest of the name is `file`. For
+/// example, `office-2026-11.db` contains the month `2026-11` for the file `office.db`.
 pub fn period_of_file<'a>(file: &[u8], period: Period, name: &'a [u8]) -> Option<&'a [u8]>
     ensures { IsPeriodIn file.now period name.now result }
 {

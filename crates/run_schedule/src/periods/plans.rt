@@ -78,9 +78,9 @@ pub fn nothing_goes_back()
     ensures { NothingGoesBack }
 {}
 
-/// Returns the time at which the file of the period that contains `day` is rolled over. This is the
-/// period's end in the time zone, plus up to 30 s for the last poll. `every` is the polling
-/// interval in seconds. Returns `None` if the period has no end.
+/// Returns the time at which the program rolls over from the file of the period that contains
+/// `day`. This is the period's end in the time zone, plus up to 30 s for the last poll. `every` is
+/// the polling interval in seconds. Returns `None` if the period has no end.
 pub fn period_until(zone: &Zone, period: Period, day: Day, every: u64, now: u64) -> Option<u64>
     ensures { IsPeriodUntil zone.now period day every now result }
 {
@@ -91,8 +91,8 @@ pub fn period_until(zone: &Zone, period: Period, day: Day, every: u64, now: u64)
 }
 
 /// Returns when to retry a failed file rollover: at the next full hour, plus up to 30 s for the
-/// poll at
-/// that time. `every` is the polling interval in seconds. Returns `None` past `LAST_MOMENT`.
+/// poll at that time. `every` is the polling interval in seconds. Returns `None` past
+/// `LAST_MOMENT`.
 pub fn next_try(every: u64, now: u64) -> Option<u64>
     ensures { result ≡ specs.next_try every now }
 {

@@ -18,7 +18,7 @@ pub struct ClockReading {
     pub ahead_from: Option<u64>,
 }
 
-// Returns the latest timestamp, if the clock is more than a minute after it.
+// Returns the latest timestamp, if the clock has jumped to more than a minute after it.
 fn ahead_from(latest: u64, now: u64) -> Option<u64>
     ensures { result ≡ ahead_by latest now }
 {

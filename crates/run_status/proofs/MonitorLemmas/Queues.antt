@@ -8,8 +8,8 @@ use Rattle.std.specs.Option.{option_map}
 use Rattle.office_events.specs.declared.events.Event.{Event}
 use Rattle.run_status.specs.Monitor.Output.{IsPut, IsSentTo, kept, sent_in, sent_to, taken_at, taken_in}
 
--- After the frames of an event are queued, the queue has all these frames, or none of them if
--- memory ran out.
+-- After the Modbus frames of an event are queued, the queue has all these frames, or none of them
+-- if memory ran out.
 pub write_or_not : (e : Event) (frames old left new : List ℕ) (done : Bool) → left ≡ kept e old
     → new ≡ cond done (left ++ frames) left → IsPut e frames old new
 write_or_not e frames old left new true was is = inl (is ∙ ap (λ xs. xs ++ frames) was)

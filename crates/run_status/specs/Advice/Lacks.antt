@@ -1,4 +1,6 @@
--- What a polled device lacks in the store, so that no energy of the device is recorded.
+-- Finds what is missing in the store for a polled device: the device, its point list (the registers
+-- to poll), an accounting register, or an open meter. The program records energy only if nothing is
+-- missing for it.
 use Rattle.std.specs.Prelude.{◌≡◌, ℕ, Bool, true, false, not, if◌then◌else◌, List, [], ◌∷◌, ◌++◌, length, ◌==◌, reverse, Option, Some, None, is_none, is_some, Result, OnOk}
 use Rattle.std.specs.Option.{option_and_then}
 use Rattle.std.specs.List.{flat_map, list_any}
@@ -16,7 +18,7 @@ use Rattle.run_status.specs.declared.advice.lacks.Lack.{Lack}
 use Rattle.run_status.specs.declared.advice.lacks.Lack.TheVariants.{NoDevice, NoList, NoRegister, NotInList, NoMeter}
 use Rattle.run_status.specs.declared.advice.lacks.DeviceLack.{DeviceLack}
 
--- The pair of a device and one thing that it lacks in the store.
+-- A device, and one thing that is missing for the device in the store.
 abbrev pub lack_of : (device : Option (List ℕ)) → Lack → DeviceLack
 lack_of device lack = record { device = device; lack = lack }
 
@@ -36,7 +38,7 @@ abbrev pub is_in_list : Option Planned → Register → Bool
 is_in_list None register = true
 is_in_list (Some list) register = is_read list.reads register
 
--- True if the optional installation has a meter, and that meter is open.
+-- True if the installation exists and its meter is open.
 abbrev pub is_open : Option Installation → Bool
 is_open row = is_some (option_and_then if_open row)
 
@@ -97,15 +99,15 @@ lacks_of_all known devices = flat_map (lacks_of known) devices
 
 -- ---- The effect of lookups in the store.
 
--- A lookup changes no record of the store and no time zone. It does not clear the mark that the
--- store once returned wrong data.
+-- A lookup changes no record of the store and no time zone. A store that has returned wrong data
+-- stays marked as not clean (`is_clean`).
 pub record LooksUp (old new : Ledger) : Type 0 where
   pub keeps : KeepsFacts old new
   pub clean : new.is_clean → old.is_clean
   pub zone : new.zone ≡ old.zone
 
--- On success, everything that the devices lack by the records of the store was appended to the
--- list. On an error, the appended items may be incomplete.
+-- On success, everything that is missing for the devices (`says`) was appended to the list. On an
+-- error, the appended items may be incomplete.
 abbrev pub Adds : {T E : Type 0} → (old new : Ledger) → (List Fact → List DeviceLack)
     → (before after : List DeviceLack) → Result T E → Type 0
 Adds old new says before after result = (known : List Fact) → old.holds known → new.is_clean

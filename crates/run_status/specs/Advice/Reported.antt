@@ -1,4 +1,5 @@
--- The last reported number of each device and meter, so that no message repeats.
+-- Remembers, for each device and meter, the last error number that a message to the operator
+-- explained. A message is repeated only if the number changes.
 use Rattle.std.specs.Prelude.{◌≡◌, ◌==◌, ℕ, Bool, true, false, ◌&&◌, List, [], ◌∷◌, ◌++◌, position, slice_get, slice_set, Option, Some, None, if◌then◌else◌}
 use Rattle.std.specs.Str.{bytes_eq}
 use Rattle.run_status.specs.declared.advice.reported.ReportedNumber.{ReportedNumber}
@@ -11,7 +12,8 @@ topic_number Connection = 1
 topic_number Round = 2
 topic_number Meter = 3
 
--- The entry of a number that was reported about a device or meter.
+-- An entry of the list of reported numbers: a topic, a device or meter, and the error number in the
+-- latest message about it.
 abbrev pub reported_number : Topic → (name : Option (List ℕ)) → (number : ℕ) → ReportedNumber
 reported_number topic name number = record { topic = topic; name = name; number = number }
 
@@ -30,7 +32,8 @@ are_of_same a b = (topic_number a.topic == topic_number b.topic) && is_same_name
 abbrev pub place_of : ReportedNumber → List ReportedNumber → Option ℕ
 place_of reported numbers = position (λ one. are_of_same one reported) numbers
 
--- True if the number differs from the last reported number. False if no number was reported before.
+-- True if the error number differs from the last reported one, so a message is due. False if no
+-- entry exists.
 abbrev pub is_other : Option ReportedNumber → (number : ℕ) → Bool
 is_other None number = false
 is_other (Some before) number = if before.number == number then false else true
@@ -50,7 +53,7 @@ Changes place reported old new is_reported =
     (is_reported ≡ is_other (slice_get old place) reported.number)
     × (new ≡ changed_to is_reported place reported old)
 
--- The list with a further reported number if `room` is true, otherwise the unchanged list.
+-- The list with a further entry if `room` is true, otherwise the unchanged list.
 abbrev pub pushed : (room : Bool) → ReportedNumber → List ReportedNumber → List ReportedNumber
 pushed true reported numbers = numbers ++ reported ∷ []
 pushed false reported numbers = numbers
@@ -72,7 +75,7 @@ ReportsNumberAt (Some place) reported old new is_reported = Changes place report
 abbrev pub ReportsNumber : ReportedNumber → (old new : List ReportedNumber) → (is_reported : Bool) → Type 0
 ReportsNumber reported old new is_reported = ReportsNumberAt (place_of reported old) reported old new is_reported
 
--- The entry of a device or meter about which no number was reported. Its number is 0.
+-- The entry of a device or meter that has no problem to report. Its number is 0.
 abbrev pub nothing_of : Topic → (name : Option (List ℕ)) → ReportedNumber
 nothing_of topic name = reported_number topic name 0
 
@@ -81,7 +84,8 @@ abbrev pub ForgetsAt : (place : Option ℕ) → ReportedNumber → (old new : Li
 ForgetsAt None none old new = new ≡ old
 ForgetsAt (Some place) none old new = (changed : Bool) × Changes place none old new changed
 
--- The entry with this topic and this device or meter, if there is one, gets the number 0.
+-- The entry with this topic and this device or meter, if there is one, gets the number 0. Its next
+-- problem is then reported again.
 abbrev pub Forgets : Topic → (name : Option (List ℕ)) → (old new : List ReportedNumber) → Type 0
 Forgets topic name old new =
     ForgetsAt (place_of (nothing_of topic name) old) (nothing_of topic name) old new

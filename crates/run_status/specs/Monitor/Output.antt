@@ -17,13 +17,13 @@ is_end (event.Gone given closing) = true
 is_end (event.Command c) = false
 is_end (event.Asked asked) = false
 
--- The bytes that still wait to be sent after an event: all bytes of the queue, or none if the event
--- ended the connection.
+-- The bytes that still wait to be sent to a device after an event: all bytes of the queue, or none
+-- if the event ended the connection.
 abbrev pub kept : Event → (queue : List ℕ) → List ℕ
 kept e queue = if is_end e then [] else queue
 
--- Either all frames of the event were queued in order, or no frame was queued because memory ran
--- out.
+-- Either all Modbus frames of the event were queued in order, or no frame was queued because memory
+-- ran out.
 abbrev pub IsPut : Event → (frames old new : List ℕ) → Type 0
 IsPut e frames old new = (new ≡ kept e old ++ frames) ⊎ (new ≡ kept e old ++ [])
 
@@ -44,8 +44,8 @@ abbrev pub IsSentTo : ℕ → Event → (frames : List ℕ) → (old new : List 
 IsSentTo place e frames old new =
     (new ≡ sent_to place e frames old) ⊎ (new ≡ sent_to place e [] old)
 
--- The frames of the event were queued for the device in the event's slot. An event without a slot
--- changes no queue.
+-- The Modbus frames of the event were queued for the device in the event's slot. An event without a
+-- slot changes no queue.
 abbrev pub IsSentFor : Option ℕ → Event → (frames : List ℕ) → (old new : List (List ℕ)) → Type 0
 IsSentFor None e frames old new = new ≡ old
 IsSentFor (Some place) e frames old new = IsSentTo place e frames old new

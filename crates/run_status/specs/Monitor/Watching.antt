@@ -1,4 +1,5 @@
--- What the observer records of each event: counts, device states and frames to send.
+-- What the observer of the program's events (`RunMonitor`) records of each event: counts, device
+-- states and Modbus frames to send.
 use Rattle.std.specs.Prelude.{◌≡◌, ℕ, Bool, true, false, List, slice_get, slice_set, Option, Some, None, Result, Ok, Err, if◌then◌else◌}
 use Rattle.std.specs.List.{list_any}
 use Rattle.office_events.specs.declared.answers.Answer.{Answer}
@@ -69,12 +70,14 @@ abbrev pub followed_for : Option ℕ → (at : ℕ) → Event → Result Answer 
 followed_for None at e answer notes states = states
 followed_for (Some place) at e answer notes states = followed_at place at e answer notes states
 
--- The counts after an event, including its refusal and each of its notifications.
+-- The counts after an event. The program counts its refusal, and each of its notifications of polls
+-- and readings.
 abbrev pub counted : Result Answer Refusal → List Note → Counts → Counts
 counted (Ok given) notes counts = noted_all notes counts
 counted (Err why) notes counts = noted_all notes (refused counts)
 
--- What the observer records of an event: the counts, the device states and the frames to send.
+-- What the observer of the program's events records of one event: counts, the device states and the
+-- Modbus frames to send.
 pub record Keeps (old : RunMonitor) (shown : Shown) (new : RunMonitor) : Type 0 where
   pub counts : new.counts ≡ counted shown.answer shown.notes old.counts
   pub states : new.states.items

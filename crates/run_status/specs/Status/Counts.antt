@@ -46,7 +46,7 @@ noted (note.Reading meter raw rolls step) counts =
     record counts { readings = one_more counts.readings }
 noted (note.Held meter raw cause) counts = held_for cause counts
 
--- The counts after a list of notifications, in order.
+-- The counts after a list of notifications of ended polls and readings, in order.
 abbrev pub noted_all : List Note → Counts → Counts
 noted_all [] counts = counts
 noted_all (one ∷ notes) counts = noted_all notes (noted one counts)

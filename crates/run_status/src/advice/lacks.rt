@@ -1,5 +1,6 @@
-//! Finds what a polled device lacks in the store: its entry, a point list, a register or an open
-//! meter.
+//! Finds what is missing in the store for a polled device: the device, its point list (the
+//! registers to poll), an accounting register, or an open meter. The program records energy only if
+//! nothing is missing for it.
 ghost use Rattle.std.specs.Prelude.{◌≡◌};
 ghost use Rattle.std.specs.Option.{option_map};
 ghost use Rattle.office_books.specs.Ledgers.{Finds, OnlyReads};
@@ -11,12 +12,13 @@ use office_events::{Device, Installation, Name, PlannedList, Register};
 use read_plan::PlannedRead;
 use std::alloc::AllocError;
 
-/// Something that a device lacks in the store, so that no energy of the device is recorded.
+/// Something that a device lacks in the store. Without it, the program records no energy of the
+/// device, or of one accounting register (`NotInList`, `NoMeter`).
 #[derive(Clone, Copy, Debug, PartialEq, Eq)]
 pub enum Lack {
-    /// The store has no device with the name.
+    /// The store has no device with the name on the command line.
     NoDevice,
-    /// The device has no point list in the store.
+    /// The device has no point list (the registers to poll) in the store.
     NoList,
     /// The device has no accounting register in the store.
     NoRegister,

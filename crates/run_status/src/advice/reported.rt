@@ -1,4 +1,5 @@
-//! Remembers the last reported problem of each device and meter, so that no message repeats.
+//! Remembers, for each device and meter, the last error number that a message to the operator
+//! explained. A message is repeated only if the number changes.
 ghost use Rattle.std.specs.Prelude.{◌≡◌};
 ghost use Rattle.run_status.specs.Advice.Reported as specs;
 
@@ -8,7 +9,7 @@ use std::alloc::{AllocError, Global};
 /// The most devices and meters whose last reported number is remembered.
 pub const MOST_REPORTED: usize = 512;
 
-/// The subject of a reported number.
+/// What the error number in a message is about.
 #[derive(Clone, Copy, Debug, PartialEq, Eq)]
 pub enum Topic {
     /// The number says why the program refused a device's connection.
@@ -35,7 +36,7 @@ impl Topic {
     }
 }
 
-/// The number that was last reported about a device or a meter; 0 if none was reported.
+/// The error number in the latest message about a device or a meter; 0 if there was no message.
 #[derive(Clone, Copy, Debug, PartialEq, Eq)]
 pub struct ReportedNumber {
     pub topic: Topic,

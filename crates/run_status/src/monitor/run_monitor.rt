@@ -1,4 +1,4 @@
-//! The observer of the program's events.
+//! The observer of the program's events, for `/status`, log lines and the Modbus frames to send.
 use crate::monitor::device_state::{followed, unconnected};
 use crate::monitor::output::write_frames;
 use crate::status::{Counts, DeviceState};
@@ -6,7 +6,8 @@ use office_events::{Answer, Event, Name, Note, Observer, Refusal};
 use std::alloc::{AllocError, Global};
 use std::mem;
 
-/// An observer of events that keeps counts, the state of each device, and the frames to send.
+/// An observer of the program's events. It keeps counts, the state of each device, and the Modbus
+/// frames to send.
 #[derive(Drop)]
 pub struct RunMonitor {
     alloc: Global,
@@ -76,7 +77,8 @@ impl RunMonitor {
     ghost use Rattle.std.specs.Prelude.{◌≡◌};
     ghost use Rattle.run_status.specs.Monitor.Watching.{counted, followed_at};
 
-    // Counts a refused event and the notifications of an event.
+    // Counts the event if the program refused it, and counts the event's notifications: ended
+    // polls, and accepted and rejected readings.
     fn count(&mut self, answer: Result<Answer, Refusal>, notes: &[Note])
         ensures counts { self.new.counts ≡ counted answer notes.now self.old.counts }
         ensures states { self.new.states ≡ self.old.states }

@@ -42,8 +42,8 @@ abbrev pub IsPart : Trick → Type 0
 IsPart (trick.Cut count) = count ≤ 259
 IsPart trick = Unit {0}
 
--- States that a setup line that injects a cut response keeps at most 259 bytes of the response.
--- Other setup lines have no such limit.
+-- States that a setup line of a simulated device can have the given injected fault. A cut response
+-- keeps at most 259 bytes, and other faults have no limit.
 abbrev pub CanBe : BankLine → Type 0
 CanBe (line.Trick frame trick) = IsPart trick
 CanBe line = Unit {0}

@@ -35,8 +35,8 @@ spelled Hex word = bytes_of word
 spelled Range word = number_of word
 spelled Moment word = option_map Some (number_of word)
 
--- The value of a field whose word is missing at the end of a line. It is no bytes, the range of an
--- `acc32` counter, or no timestamp. `None` if the word is required.
+-- The default for a word of the given kind that is missing at the end of a line. It is no bytes,
+-- the range of an `acc32` counter, or no timestamp. `None` if the word is required.
 abbrev pub missing : (kind : Kind) → Option (Value kind)
 missing AnyName = None
 missing Number = None
@@ -51,13 +51,14 @@ pub data Field : Type 0 where
   Word : List ℕ → Field
   Of : (kind : Kind) → Value kind → Field
 
--- States that the word spells the given field.
+-- States that a word of a script line spells the given field: it is the field's fixed text, or
+-- parses to the field's value.
 abbrev pub Spells : List ℕ → Field → Type 0
 Spells word (Word text) = word ≡ text
 Spells word (Of kind value) = spelled kind word ≡ Some value
 
--- States that the word of a field is optional, and that the field has the value that a missing word
--- means.
+-- States that a field's word may be missing at the end of a line, because the field's value is the
+-- default for its kind.
 abbrev pub IsMissing : Field → Type 0
 IsMissing (Word text) = ⊥
 IsMissing (Of kind value) = missing kind ≡ Some value
@@ -83,7 +84,7 @@ abbrev pub first_value : (kind : Kind) → List (List ℕ) → Option (Value kin
 first_value kind [] = option_map (λ value. (value, [])) (missing kind)
 first_value kind (word ∷ words) = option_map (λ value. (value, words)) (spelled kind word)
 
--- A parsing step that succeeds if and only if no word of the line is left to parse.
+-- A parsing step that checks that no word of the line is left. It returns `None` if words are left.
 abbrev pub end_of_words : List (List ℕ) → Option (Unit {0})
 end_of_words [] = Some tt
 end_of_words (word ∷ words) = None

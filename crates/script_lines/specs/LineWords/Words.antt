@@ -7,7 +7,7 @@ use Rattle.std.specs.List.{slice_split}
 abbrev pub words_of : List ℕ → List (List ℕ)
 words_of line = slice_split (λ byte. byte == 32) line
 
--- The words of the unread rest of a line, or no words if the line has no rest.
+-- The words of a line's unread part. `None` means that all words were read.
 abbrev pub words_left : Option (List ℕ) → List (List ℕ)
 words_left None = []
 words_left (Some line) = words_of line

@@ -7,8 +7,8 @@ use std::marker::Model;
 /// enclose an empty word.
 #[derive(Debug, Drop)]
 pub struct Words<'a> {
-    // The unread rest of the line, after the last returned word and the space that follows it.
-    // `None` after the last word.
+    // The unread part of the line, after the last returned word and its space. `None` after the
+    // last word.
     rest: Option<&'a [u8]>,
 }
 

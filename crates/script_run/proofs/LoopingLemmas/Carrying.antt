@@ -26,8 +26,8 @@ use Rattle.script_run.specs.Looping.TextRun.{LineRuns}
 use Rattle.script_run.specs.Looping.Standings.{Begins, Carried, CarriedOut, Carries, CarriesOut, LoopState, LoopStage, loop_state, stage_on}
 use Rattle.script_run.proofs.LoopingLemmas.Breaking.{begins_as}
 
--- States that a line was executed with the given text as its output, and that the office's store
--- matches the office's new history.
+-- States that a line was executed with the given text as its output. Also states that the stored
+-- records match the history of accepted events after the line.
 pub record Reported (P : Stage → List ℕ → Stage → Type 0) (past : History) (office office' : Office ListBooks) (text : List ℕ) : Type 0 where
   pub after : History
   pub prints : P (stage_of past office) text (stage_of after office')
@@ -230,8 +230,8 @@ happens_begun at e device past office maps connected o o' is begun =
       record { prints = broken.2; maps = refl; connected = refl },
     )) begun)
 
--- If a call returns `true`, then it executed its line, and the line's output and the office's new
--- history satisfy the specification.
+-- If a call for a line returns `true`, then it executed the line. The line's output and the history
+-- after it satisfy the specification.
 pub line_done : (fine : Bool) (P : LoopStage → List ℕ → LoopStage → Type 0) (Wrong : Type 0) (from to : LoopState) → fine ≡ true
     → LineRuns (Ok fine) P Wrong from to → (past : History) → Stands ledger_of past from.office → CarriedOut P past from to
 line_done true P Wrong from to is runs = runs

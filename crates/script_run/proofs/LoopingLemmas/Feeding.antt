@@ -1,4 +1,5 @@
--- Lemmas on events that a script over simulated devices passes to the office.
+-- Lemmas on events that a script over simulated devices passes to the office (the core of
+-- `sunreg`).
 use Rattle.std.proofs.Common.{◌≡◌, ◌⊎◌, ◌≤◌, ◌+◌, ◌++◌, append-nil, inl, inr, ℕ, Bool, true, false, List, [], ◌∷◌, Option, refl, sym, ap, ◌∙◌, subst, arith, length}
 use Rattle.std.specs.Prelude.{Result, Ok, Err, codes, is_ok}
 use Rattle.std.specs.Io.KnownBytes.{Appends}
@@ -31,8 +32,8 @@ use Rattle.script_run.specs.declared.looping.answers.Came.{Came}
 appended_none : (o m o' : Option (List ℕ)) (text : List ℕ) → Appends o m text → Appends m o' [] → Appends o o' text
 appended_none o m o' text first second = subst (λ (t : List ℕ). Appends o o' t) (append-nil text) (Appends-trans o m o' text [] first second)
 
--- States that the office gave a reply that `IsReply` allows for an event, and that its store
--- matches the new history.
+-- States that `IsReply` allows the reply to an event. Also states that the stored records match the
+-- history after the event.
 pub record Replied (past : History) (at : ℕ) (e : Event) (reply : Result Answer Refusal) (office office' : Office ListBooks)
     : Type 0 where
   pub is : IsReply (stage_of past office) at e reply
@@ -65,8 +66,8 @@ was_fed past at e reply office office' accepted text o o' replied accepts same a
   stands = replied.stands;
 }
 
--- If only a part of the office's reply to an event was written, then the writer received a
--- beginning of the output of the event's line.
+-- If only a part of the reply to an event was written, then the writer received a beginning of the
+-- output of the event's line.
 pub was_begun : (past : History) (at : ℕ) (e : Event) (reply : Result Answer Refusal) (office office' : Office ListBooks) (accepted : Bool)
     (text : List ℕ) (o o' : Option (List ℕ)) → Replied past at e reply office office' → accepted ≡ is_ok reply
     → text ≡ fed_text past at e reply → GotPart text o o'
@@ -91,8 +92,8 @@ was_printed past at e reply office office' text replied same = record {
   stands = replied.stands;
 }
 
--- Loop invariant: the office accepted everything that the first `takes` reads received from the
--- simulator.
+-- Loop invariant: the office (the core of `sunreg`) accepted everything that the first `takes`
+-- reads received from the simulator.
 pub record FedSoFar (takes : ℕ) (device : Option (List ℕ)) (at : ℕ) (past : History) (office office' : Office ListBooks)
     (o o' : Option (List ℕ)) : Type 0 where
   pub brought : List Came
@@ -165,8 +166,8 @@ fed_part takes device at past office office' o m o' most so got =
     } in
     inr (so.printed ++ codes "ok\n", (true, stage_of so.after office', prints), part_after o m o' so.printed (codes "ok\n") so.appended got)
 
--- After a script has passed all responses of the simulator to the office, the script prints `ok`.
--- If this write fails, the output is interrupted.
+-- After all responses of the simulator were processed, the script prints `ok`. If this write fails,
+-- the output is interrupted.
 pub fed_end : (r : Result Bool Error) (takes : ℕ) (device : Option (List ℕ)) (at : ℕ) (office office' : Office ListBooks) (o m o' : Option (List ℕ))
     → takes ≤ most_takes → ((past : History) → Stands ledger_of past office → FedSoFar takes device at past office office' o m)
     → GotText r (codes "ok\n") m o'
@@ -260,8 +261,8 @@ answers_none device at now = record {
   text = refl;
 }
 
--- If only a part of the office's reply to a line that starts Modbus reads was written, then the
--- output of the line was interrupted.
+-- If only a part of the reply to a line that starts Modbus reads was written, then the output of
+-- the line was interrupted.
 pub start_begun : (at : ℕ) (device : Option (List ℕ)) (e : Event) (given : Answer) (past : History) (office mid : Office ListBooks) (maps : Maps)
     (connected : Bool) (o o' : Option (List ℕ)) → Replied past at e (Ok given) office mid → GotPart (reply_text past at e (Ok given)) o o'
     → StartBegins at device e past office maps connected o o'
@@ -277,8 +278,8 @@ start_begun at device e given past office mid maps connected o o' replied got =
     } in
     inr (text, (tt, next, prints), part_of_longer o o' (reply_text past at e (Ok given)) (codes "ok\n") got)
 
--- If the office's reply to a line that starts Modbus reads was written, but the output for the
--- responses was interrupted, then the line's output was interrupted.
+-- If the reply to a line that starts Modbus reads was written, but the output for the responses was
+-- interrupted, then the line's output was interrupted.
 start_broken : (at : ℕ) (device : Option (List ℕ)) (e : Event) (given : Answer) (past : History) (office mid : Office ListBooks) (maps maps' : Maps)
     (connected : Bool) (o m o' : Option (List ℕ)) → Replied past at e (Ok given) office mid → Appends o m (reply_text past at e (Ok given))
     → Exchanged maps maps'
@@ -300,8 +301,8 @@ start_broken at device e given past office mid maps maps' connected o m o' repli
     } in
     inr (text, (tt, end, prints), part_after o m o' (reply_text past at e (Ok given)) printed appended got)
 
--- If the office's reply to a line that starts Modbus reads and the output for the responses were
--- both written, then the line was executed.
+-- If the reply to a line that starts Modbus reads and the output for the responses were both
+-- written, then the line was executed.
 pub started : (at : ℕ) (device : Option (List ℕ)) (e : Event) (given : Answer) (office mid office' : Office ListBooks) (maps maps' : Maps)
     (connected : Bool) (o m o' : Option (List ℕ)) (r : Result (Unit {0}) Error)
     → ((past : History) → Stands ledger_of past office

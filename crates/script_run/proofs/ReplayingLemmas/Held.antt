@@ -1,4 +1,5 @@
--- Lemmas on a script's output that passes through a buffer to an inner writer.
+-- Lemmas on the output of a script (a text of commands, events and queries) that passes through a
+-- buffer to an inner writer.
 use Rattle.std.proofs.Common.{◌≡◌, ℕ, Option, Some, None, List, [], ◌++◌, refl, sym, ap, ◌∙◌, append_assoc, append-nil}
 use Rattle.std.specs.Io.KnownBytes.{Appends, Keeps, append_known}
 use Rattle.command_io.specs.declared.status.ExitStatus.{ExitStatus}

@@ -1,4 +1,4 @@
--- Lemmas on the replies of an office whose store is in memory.
+-- Lemmas on the replies of an office (the core of `sunreg`) whose store is in memory.
 use Rattle.std.proofs.Common.{◌≡◌, ◌⊎◌, ◌+◌, inl, inr, ℕ, Bool, false, Option, List, refl, sym, ap, ◌∙◌}
 use Rattle.std.specs.Prelude.{min, Result, Ok, Err}
 use Rattle.std.specs.declared.io.Error.{Error}
@@ -34,7 +34,8 @@ how_often failures = failures.count
 abbrev raised : ℕ → ℕ
 raised n = min (n + 1) 18446744073709551615
 
--- If an office with a store in memory fails, then memory ran out, or the office had stopped.
+-- With a store in memory, a call fails only because memory ran out, or because an earlier failure
+-- had stopped the office (the core of `sunreg`).
 pub fails_in_memory : {T : Type 0} (takes_memory : Type 0) (before after : Failures) (reply : Result T Refusal) → before.count ≡ 0 → after.count ≡ 0
     → FailsOutside takes_memory before after reply → Fails reply
 fails_in_memory takes_memory before after (Ok x) none still h = absurd h
@@ -63,8 +64,8 @@ pub right_or_fails : {T : Type 0} (takes_memory : Type 0) (before after : Failur
 right_or_fails takes_memory before after reply right none still (inl h) = inl h.0
 right_or_fails takes_memory before after reply right none still (inr h) = inr (fails_in_memory takes_memory before after reply none still h)
 
--- If the office replied to an event and the script printed the reply, then the line of the event
--- was executed.
+-- If the office (the core of `sunreg`) replied to an event and the script printed the reply, then
+-- the line of the event was executed.
 pub replied : (past : History) (at : ℕ) (e : Event) (office office' : Office ListBooks) (reply : Result Answer Refusal)
     (result : Result (Unit {0}) Error) (o o' : Option (List ℕ)) → IsAnswer past at e (failures_of ledger_of office) (failures_of ledger_of office') reply → Ends ledger_of office office' e reply
     → (is_stopped office ≡ false → SettlesNothing past at e → IsQuiet office office' reply)
@@ -101,7 +102,7 @@ carried_as P Q past office office' result o o' turn done = record {
   stands = done.stands;
 }
 
--- If a line only prints a text and leaves the office unchanged, then the line is executed as the
+-- If a line only prints a text and changes no record, then the line is executed as the
 -- specification requires.
 pub nothing_done : (P : Stage → List ℕ → Stage → Type 0) (past : History) (office : Office ListBooks) (printed : List ℕ)
     (result : Result (Unit {0}) Error) (o o' : Option (List ℕ)) → P (stage_of past office) printed (stage_of past office)

@@ -1,4 +1,5 @@
--- Lemmas on the replies to queries of a script, and on their output.
+-- Lemmas on the replies to queries of a script (a text of commands, events and queries), and on
+-- their output.
 use Rattle.std.proofs.Common.{◌≡◌, ◌⊎◌, inl, inr, ℕ, ◌+◌, Bool, true, false, Option, List, [], ◌++◌, length, take, refl, sym, ap, ◌∙◌, arith}
 use Rattle.std.specs.List.{flat_map}
 use Rattle.std.specs.Prelude.{Result, Ok, Err, OnOk}
@@ -22,7 +23,7 @@ use Rattle.script_run.specs.Replaying.Stages.{Stage}
 use Rattle.script_run.proofs.ReplayingLemmas.Replies.{right_or_fails, same_stage}
 use Rattle.sun_points.specs.Writing.{GotText}
 
--- If a script line only queries the office, then the state of the script's run does not change.
+-- If a script line is only a query, then the state of the script's run does not change.
 pub stays : {T : Type 0} (past : History) (office office' : Office ListBooks) (reply : Result T Refusal)
     → OnlyAsks ledger_of office office' reply → stage_of past office' ≡ stage_of past office
 stays past office office' reply asks = same_stage past _ _ _ _ asks.stays asks.zone
@@ -70,8 +71,8 @@ rows_reported there AreReported row_line past office office' rows reply result o
   stands = asks.stands past stands;
 }
 
--- If a query passes its rows to a sink, then the sink received the first rows of the query's
--- result. If the query succeeded, the sink received all rows.
+-- If a query passes its rows to a visitor, then the visitor received the first rows of the query's
+-- result. If the query succeeded, the visitor received all rows.
 pub handed : {S T : Type 0} (takes : S → T → S → Type 0) (rows : Option (List T)) (before after : Failures) (from to : S)
     (reply : Result (Unit {0}) Refusal) → HandsRows takes rows before after from to reply
     → (shown : List T) × TakesAll takes from shown to × ((n : ℕ) × (shown ≡ take n (rows_in rows))) × OnOk reply (shown ≡ rows_in rows)

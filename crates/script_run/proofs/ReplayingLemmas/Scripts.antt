@@ -1,4 +1,4 @@
--- Lemmas on executing the lines of a script in order.
+-- Lemmas on executing the lines of a script (a text of commands, events and queries) in order.
 use Rattle.std.proofs.Common.{◌≡◌, ◌⊎◌, inl, inr, ℕ, Bool, false, Option, None, Some, List, [], ◌∷◌, ◌++◌, refl, sym, subst, append_assoc, append-nil, ap, ◌∙◌, arith}
 use Rattle.std.proofs.lemmas.List.Elements.{All-cons, All-nil}
 use Rattle.std.specs.Io.KnownBytes.{Appends}
@@ -72,8 +72,8 @@ pub broken_off : (zone : Zone) (all : List Line) (now : Stage) (lines left : Lis
 broken_off zone all now lines left first printed part at begins so_far =
     so_far.begins part (subst (λ (ls : List Line). ScriptBegins now ls part) (sym at) (inl begins))
 
--- States that the lines of a script before `lines` were executed, with their output and the
--- office's state after them.
+-- States that the lines of a script before `lines` were executed, with their output and the state
+-- after them.
 pub record Ran (zone : Zone) (all lines : List Line) (office : Office ListBooks) (output output' : Option (List ℕ)) : Type 0 where
   pub printed : List ℕ
   pub past : History
@@ -92,7 +92,7 @@ from_start zone all lines now same at = record {
       (subst (λ (stage : Stage). ScriptBegins stage lines rest) at more);
 }
 
--- If a store is empty, then it matches the history of an office that has accepted no event.
+-- An empty store matches the history without any accepted event.
 pub empty_books : (books : ListBooks) → AreListed books [] → BooksStand (ledger_of books) []
 empty_books books listed = record {
   is_past = record { accepted = tt; planned = tt };
@@ -100,7 +100,7 @@ empty_books books listed = record {
   leaves = record { left = [] ∷ []; may = inl listed; each = All-cons (MayBeLeft []) [] [] (inl refl) (All-nil (MayBeLeft [])) };
 }
 
--- If an office with a store in memory has not stopped and fails, then memory ran out.
+-- With a store in memory, a failure other than `Stopped` is `Memory` (out of memory).
 memory_alone : (why : Refusal) → IsNotStopped why → Fails {T = Unit {0}} (Err why) → why ≡ refusal.Memory
 memory_alone refusal.NotFound goes fails = absurd fails
 memory_alone refusal.Exists goes fails = absurd fails
@@ -120,7 +120,7 @@ memory_alone refusal.Stopped goes fails = absurd goes
 memory_alone refusal.NotVoidable goes fails = absurd fails
 memory_alone (refusal.NotPlausible cause) goes fails = absurd fails
 
--- If opening an office over an empty store in memory fails, then memory ran out.
+-- If the start over an empty store in memory fails, then memory ran out.
 pub refused_for_memory : (why : Refusal) (old new : Ledger) → old.failures.count ≡ 0 → new.failures.count ≡ 0 → IsNotStopped why
     → IsNotOpened [] 0 old new why → why ≡ refusal.Memory
 refused_for_memory why old new before after goes not_opened = memory_alone why goes (fails_for not_opened.reason)
@@ -202,7 +202,7 @@ input_begun zone input printed status prints = record {
   text = λ short. text_begun zone input printed status (prints.text short);
 }
 
--- The empty text is a beginning of the output of every script.
+-- The empty text is a beginning of every script's output.
 nothing_begins : (now : Stage) (lines : List Line) → ScriptBegins now lines []
 nothing_begins now [] = refl
 nothing_begins now (first ∷ lines) = inl (inl refl)

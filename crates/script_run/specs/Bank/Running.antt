@@ -14,8 +14,9 @@ use Rattle.script_run.specs.Bank.Settings.{Setting, after_line, IsUnset, takes}
 use Rattle.script_run.specs.Bank.Texts.{InputBegins, InputSetsUp, IsBad, LineBegins, SetUpBegins, SetsUp, taken_text}
 use Rattle.sun_points.specs.Writing.{GotPart}
 
--- States that a setup line was executed and its output was written. Otherwise memory ran out or the
--- writer failed, and at most a part of the output was written.
+-- States the outcome of one setup line of a simulated device. If the call succeeds, the line was
+-- executed and its output written. Otherwise memory ran out or the writer failed, and at most a
+-- part of the output was written.
 abbrev pub Carries : Setting → BankLine → Result (Unit {0}) ExitStatus → Setting
     → (output output' : Option (List ℕ)) → Type 0
 Carries now said (Ok done) next output output' =
@@ -39,8 +40,8 @@ pub record LineRan (now : Setting) (line : Line) (next : Setting)
   pub after : next ≡ after_line now said
   pub appended : Appends output output' (taken_text (takes now.maps said))
 
--- States that a setup line was executed, or that the line ends the run because it is malformed or
--- was interrupted.
+-- States the outcome of a line that should set up a simulated device. The line was executed, or it
+-- ends the run because it is malformed or was interrupted.
 abbrev pub LineRuns : Setting → Line → Result (Unit {0}) ExitStatus → Setting
     → (output output' : Option (List ℕ)) → Type 0
 LineRuns now line (Ok done) next output output' = LineRan now line next output output'
@@ -69,8 +70,8 @@ pub record InputRuns (input : List ℕ) (ended : Result Setting ExitStatus)
   pub unset : IsUnset begun
   pub writes : Writes (λ printed. InputSetsUp begun input printed ended) output output'
 
--- States that out of memory or a failed write interrupted the run of an input. The writer then
--- received only a beginning of the run's output.
+-- States that a failed write or out of memory interrupted the setup of a simulated device. The
+-- writer then received only a beginning of the setup's output.
 pub record InputBreaks (input : List ℕ) (output output' : Option (List ℕ)) : Type 0 where
   pub begun : Setting
   pub unset : IsUnset begun

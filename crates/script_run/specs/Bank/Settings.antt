@@ -27,7 +27,7 @@ pub record IsUnset (now : Setting) : Type 0 where
   pub maps : AreUnset now.maps
   pub tricks : now.tricks ≡ []
 
--- The range of Modbus addresses that a setup line describes, or `None` if the line's numbers are
+-- The range of Modbus addresses that a line `area` describes, or `None` if the line's numbers are
 -- out of range.
 abbrev pub area_of : GivenArea → Option Area
 area_of given =
@@ -77,7 +77,8 @@ after_cell now cell = record { maps = with_cell now.maps cell; tricks = now.tric
 abbrev pub with_trick : Setting → ℕ → Trick → Setting
 with_trick now frame trick = record { maps = now.maps; tricks = now.tricks ++ (frame, trick) ∷ [] }
 
--- True if a register map accepts a setup line. Lines that inject faults are always accepted.
+-- True if the register map accepts a setup line of a simulated device. Lines that inject faults are
+-- always accepted.
 abbrev pub takes : Maps → BankLine → Bool
 takes maps (line.Area area) = takes_area maps area
 takes maps (line.Set cell) = takes_cell maps cell

@@ -13,8 +13,8 @@ use Rattle.script_lines.specs.LineWords.Words.{words_of}
 use Rattle.script_run.specs.Bank.Settings.{Setting, after_line, takes}
 use Rattle.script_run.specs.Replaying.Lines.{BeginsText}
 
--- The output of a setup line. A line that the register map accepts prints nothing, and any other
--- line prints a refusal.
+-- The output of a setup line of a simulated device. A line that the register map accepts prints
+-- nothing, and any other line prints a refusal.
 abbrev pub taken_text : Bool → List ℕ
 taken_text true = []
 taken_text false = refused_line Limit
@@ -23,8 +23,8 @@ taken_text false = refused_line Limit
 pub record IsBad (bad : Line) : Type 0 where
   pub none : (said : BankLine) → IsBankLine (words_of bad.text) said → ⊥
 
--- States the output and the end of executing setup lines in order. A line that spells no setup line
--- prints `bad line N`, and ends the run.
+-- States the output and the end of executing the setup lines of a simulated device in order. A line
+-- that spells no setup line prints `bad line N`, and ends the run.
 abbrev pub SetsUp : Setting → List Line → (printed : List ℕ) → (ended : Result Setting ExitStatus)
     → Type 0
 SetsUp now [] printed ended = (printed ≡ []) × (ended ≡ Ok now)
@@ -34,8 +34,8 @@ SetsUp now (first ∷ lines) printed ended =
     × ((rest : List ℕ) × (printed ≡ taken_text (takes now.maps said) ++ rest)
     × SetsUp (after_line now said) lines rest ended))
 
--- States that `part` is the output of an interrupted setup line, which is empty or a beginning of
--- the line's output.
+-- States that `part` may be the output when writing the output of one setup line is interrupted.
+-- `part` is empty, or a beginning of the line's output.
 abbrev pub LineBegins : Setting → Line → (part : List ℕ) → Type 0
 LineBegins now first part =
     (part ≡ [])
@@ -43,8 +43,8 @@ LineBegins now first part =
     ⊎ ((said : BankLine) × IsBankLine (words_of first.text) said
     × BeginsText part (taken_text (takes now.maps said))))
 
--- States that `part` is the output of an interrupted run. It consists of the output of the first
--- setup lines and a beginning of the next line's output.
+-- States that `part` may be the output when setting up a simulated device is interrupted. `part`
+-- consists of the output of the first setup lines and a beginning of the next line's output.
 abbrev pub SetUpBegins : Setting → List Line → (part : List ℕ) → Type 0
 SetUpBegins now [] part = part ≡ []
 SetUpBegins now (first ∷ lines) part =
@@ -60,7 +60,8 @@ pub record InputSetsUp (now : Setting) (input printed : List ℕ)
   pub long : most_bytes < length input → (printed ≡ too_long) × (ended ≡ Err Refused)
   pub lines : length input ≤ most_bytes → SetsUp now (speaking_lines input) printed ended
 
--- States that `part` is the output of an interrupted run over an input.
+-- States that `part` may be the output when setting up a simulated device from an input is
+-- interrupted.
 pub record InputBegins (now : Setting) (input part : List ℕ) : Type 0 where
   pub long : most_bytes < length input → BeginsText part too_long
   pub lines : length input ≤ most_bytes → SetUpBegins now (speaking_lines input) part

@@ -1,4 +1,5 @@
--- Defines the output of a script over simulated devices when responses of the simulator arrive.
+-- Defines what a script (a text of commands, events and queries) prints when a simulated device
+-- responds to its Modbus requests.
 use Rattle.std.specs.Prelude.{◌≡◌, ◌⊎◌, ◌≤◌, ◌++◌, ℕ, Bool, true, false, List, [], ◌∷◌, Option, Result, Ok, Err, codes, flat_map, is_ok, length}
 use Rattle.office_events.specs.declared.answers.Answer.{Answer}
 use Rattle.office_events.specs.declared.events.Event.{Event}
@@ -13,19 +14,20 @@ use Rattle.script_run.specs.Replaying.Events.{IsReply}
 use Rattle.script_run.specs.Replaying.Stages.{Stage, after_reply}
 use Rattle.script_text.specs.AnswerText.{note_line, refused_line}
 
--- The event that corresponds to a read from a device's connection, which returned bytes or the end
--- of the connection.
+-- The event for one read from a device's connection: the bytes that arrived, or the end of the
+-- connection.
 abbrev pub fed : (device : Option (List ℕ)) → Came → Event
 fed device (came.Piece bytes) = event.Bytes device bytes
 fed device (came.Over closing) = event.Gone device closing
 
--- The text that a script prints for the office's reply to an event. It is the notifications of an
--- accepted event, or the line of a refusal.
+-- The text that a script prints after the office (the core of `sunreg`) has processed an event. It
+-- is the notifications of an accepted event, or the line of a refusal.
 abbrev pub fed_text : History → (at : ℕ) → Event → Result Answer Refusal → List ℕ
 fed_text past at e (Ok given) = flat_map note_line (notes_after past at e (Ok given))
 fed_text past at e (Err why) = refused_line why
 
--- States that the office accepted or refused an event, and that the reply was printed.
+-- States that the office (the core of `sunreg`) accepted or refused an event, and that the script
+-- printed its notifications or the refusal.
 pub record FedPrints (now : Stage) (at : ℕ) (e : Event) (accepted : Bool) (printed : List ℕ)
     (next : Stage)
     : Type 0 where
@@ -35,8 +37,8 @@ pub record FedPrints (now : Stage) (at : ℕ) (e : Event) (accepted : Bool) (pri
   pub text : printed ≡ fed_text now.past at e reply
   pub after : next ≡ after_reply now at e reply
 
--- States that the office accepted everything that arrived on a connection. The list of arrivals has
--- the latest arrival first.
+-- States that the office (the core of `sunreg`) accepted everything that arrived on a connection.
+-- The list of arrivals has the latest arrival first.
 abbrev pub FedAll : (device : Option (List ℕ)) → (at : ℕ) → Stage → List Came → (printed : List ℕ)
     → (next : Stage) → Type 0
 FedAll device at now [] printed next = (printed ≡ []) × (next ≡ now)
@@ -44,8 +46,8 @@ FedAll device at now (latest ∷ earlier) printed next =
     (before here : List ℕ) × (mid : Stage) × FedAll device at now earlier before mid
     × FedPrints mid at (fed device latest) true here next × (printed ≡ before ++ here)
 
--- States that the output for a device's responses ends with `ok`, or with the office's refusal of
--- the next event.
+-- States how the output for a device's responses ends: with `ok`, or with the refusal of the next
+-- event.
 abbrev pub FedEnds : (device : Option (List ℕ)) → (at : ℕ) → Stage → (printed : List ℕ)
     → (next : Stage) → Type 0
 FedEnds device at now printed next =
@@ -57,8 +59,8 @@ FedEnds device at now printed next =
 abbrev pub most_takes : ℕ
 most_takes = MOST_TAKES
 
--- States that the office received everything that arrived on a device's connection, and that the
--- script printed the office's replies.
+-- States that the office (the core of `sunreg`) received everything that arrived on a device's
+-- connection, and that the script printed the resulting notifications or refusal.
 pub record AnswersPrint (device : Option (List ℕ)) (at : ℕ) (now : Stage) (printed : List ℕ)
     (next : Stage)
     : Type 0 where

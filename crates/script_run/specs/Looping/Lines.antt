@@ -47,14 +47,15 @@ abbrev pub taken_text : Bool → List ℕ
 taken_text true = codes "ok\n"
 taken_text false = refused_line refusal.Limit
 
--- The register map after a setup line. If the map refuses the line, the map is unchanged.
+-- The simulator's register map after a setup line. If the map refuses the line, the map is
+-- unchanged.
 abbrev pub maps_with : Maps → BankLine → Maps
 maps_with maps (bank.Area area) = with_area maps area
 maps_with maps (bank.Set cell) = with_cell maps cell
 maps_with maps (bank.Trick frame trick) = maps
 
--- States that a setup line in a loop (a script over simulated devices) prints whether the register
--- map accepts the line, and changes the map if so.
+-- States that a setup line in a loop (a script over simulated devices) prints `ok` or a refusal. If
+-- the register map accepts the line, the map changes.
 pub record BankPrints (said : BankLine) (now : LoopStage) (printed : List ℕ) (next : LoopStage)
     : Type 0 where
   pub stands : MayStand now.connected said
@@ -63,14 +64,14 @@ pub record BankPrints (said : BankLine) (now : LoopStage) (printed : List ℕ) (
   pub maps : next.maps ≡ maps_with now.maps said
   pub connected : next.connected ≡ now.connected
 
--- States that a line of a loop (a script over simulated devices) leaves the simulator and its
--- connections unchanged.
+-- States that a line of a loop (a script over simulated devices) does not use the simulated
+-- devices. Their register map and connections stay unchanged.
 pub record StandsBy (now next : LoopStage) : Type 0 where
   pub maps : next.maps ≡ now.maps
   pub connected : next.connected ≡ now.connected
 
--- States the output of a line that starts reads, given the office's reply. If the office accepted
--- the start, its frames go to the simulator, and the responses go to the office.
+-- States the output of a line that starts Modbus reads. If the office (the core of `sunreg`)
+-- accepts the start, the request frames go to the simulator and the responses go to the office.
 abbrev pub Started : Result Answer Refusal → (at : ℕ) → (device : Option (List ℕ)) → Event
     → (now : LoopStage)
     → (printed : List ℕ) → (next : LoopStage) → Type 0
@@ -82,8 +83,8 @@ Started (Err why) at device e now printed next =
     (printed ≡ refused_line why) × (next.script ≡ after_reply now.script at e (Err why))
     × (next.maps ≡ now.maps)
 
--- States that a line that starts reads prints the office's reply, and then the output for the
--- responses.
+-- States the output of a line that starts Modbus reads: first the reply of the office (the core of
+-- `sunreg`), then the output for the device's responses.
 pub record StartsPrint (at : ℕ) (device : Option (List ℕ)) (e : Event) (now : LoopStage)
     (printed : List ℕ) (next : LoopStage) : Type 0 where
   pub reply : Result Answer Refusal
@@ -91,15 +92,15 @@ pub record StartsPrint (at : ℕ) (device : Option (List ℕ)) (e : Event) (now 
   pub started : Started reply at device e now printed next
   pub connected : next.connected ≡ now.connected
 
--- States that a line with an event that uses no connection prints the office's reply, and leaves
--- the simulator unchanged.
+-- States the output of a line whose event uses no connection to a simulated device. The line prints
+-- the reply of the office (the core of `sunreg`), and leaves the simulator unchanged.
 pub record PlainPrints (at : ℕ) (e : Event) (now : LoopStage) (printed : List ℕ) (next : LoopStage)
     : Type 0 where
   pub prints : EventPrints now.script at e printed next.script
   pub by : StandsBy now next
 
--- States that a line that connects a device prints the office's reply, and that `connected` is true
--- afterwards.
+-- States the output of a line that connects a simulated device. The line prints the reply of the
+-- office (the core of `sunreg`), and `connected` is true afterwards.
 pub record ConnectPrints (at : ℕ) (e : Event) (now : LoopStage) (printed : List ℕ)
     (next : LoopStage)
     : Type 0 where
@@ -107,20 +108,20 @@ pub record ConnectPrints (at : ℕ) (e : Event) (now : LoopStage) (printed : Lis
   pub maps : next.maps ≡ now.maps
   pub connected : next.connected ≡ true
 
--- The name of the device for which a command starts a round of reads. `None` for any other command.
+-- The name of the device whose round of reads the command starts. `None` for any other command.
 abbrev pub round_of : Command → Option (Option (List ℕ))
 round_of (command.StartRound round) = Some round.device
 round_of other = None
 
--- States that a command prints the office's reply. A command that starts a round also prints the
--- output for the responses.
+-- States the output of a line with a command: the reply of the office (the core of `sunreg`). If
+-- the command starts a round of reads, the output for the device's responses follows.
 abbrev pub CommandPrints : (round : Option (Option (List ℕ))) → (at : ℕ) → Event → (now : LoopStage)
     → (printed : List ℕ) → (next : LoopStage) → Type 0
 CommandPrints (Some device) at e now printed next = StartsPrint at device e now printed next
 CommandPrints None at e now printed next = PlainPrints at e now printed next
 
--- States that a line with an event prints the office's reply. A line with bytes of a device is not
--- allowed, because only the simulator sends bytes.
+-- States the output of a script line with an event, by the kind of event. A line with bytes of a
+-- device is not allowed, because only the simulator sends bytes.
 abbrev pub HappensPrints : (at : ℕ) → Event → (now : LoopStage) → (printed : List ℕ)
     → (next : LoopStage) → Type 0
 HappensPrints at (event.Connected device) now printed next =
@@ -139,8 +140,8 @@ abbrev pub IsBytes : Event → Type 0
 IsBytes (event.Bytes device piece) = Unit {0}
 IsBytes other = ⊥
 
--- States the output of a line that starts a read. If one read request can cover the Modbus
--- registers, the line prints the office's reply, otherwise a refusal.
+-- States the output of a line that starts a Modbus read: the reply to the start, and the output for
+-- the response. If one read request cannot cover the Modbus registers, the output is a refusal.
 abbrev pub ReadPrints : (at : ℕ) → GivenStart → (now : LoopStage) → (printed : List ℕ)
     → (next : LoopStage) → Type 0
 ReadPrints at start now printed next =
@@ -173,7 +174,8 @@ SaysBytes other = ⊥
 abbrev pub IsNoBankLine : List (List ℕ) → Type 0
 IsNoBankLine words = (said : BankLine) → IsBankLine words said → ⊥
 
--- States that the words spell a setup line or a script line, and that the line was executed.
+-- States that the words spell a setup line of a simulated device or a line of a plain script, and
+-- that this line was executed.
 abbrev pub WordsPrint : List (List ℕ) → (now : LoopStage) → (printed : List ℕ) → (next : LoopStage)
     → Type 0
 WordsPrint words now printed next =

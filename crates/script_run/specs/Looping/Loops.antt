@@ -15,8 +15,8 @@ use Rattle.script_lines.specs.LineWords.Words.{words_of}
 use Rattle.script_run.specs.Looping.Lines.{AreWrong, WordsPrint}
 use Rattle.script_run.specs.Looping.Standings.{LoopStage}
 
--- States that the lines of a loop (a script over simulated devices) print in order, from the given
--- state on. A malformed or forbidden line ends the run.
+-- States the output of the lines of a loop (a script over simulated devices), run in order from the
+-- state `now`. A malformed or forbidden line ends the run.
 abbrev pub LoopPrints : LoopStage → List Line → (printed : List ℕ) → ExitStatus → Type 0
 LoopPrints now [] printed status = (printed ≡ []) × (status ≡ Fine)
 LoopPrints now (first ∷ lines) printed status =
@@ -25,16 +25,16 @@ LoopPrints now (first ∷ lines) printed status =
     ⊎ ((here rest : List ℕ) × (next : LoopStage) × WordsPrint (words_of first.text) now here next
     × LoopPrints next lines rest status × (printed ≡ here ++ rest))
 
--- States that `part` is the output of an interrupted line, which is empty or a beginning of the
--- line's output.
+-- States that `part` may be the output when writing the output of one line is interrupted. `part`
+-- is empty, or a beginning of the line's output.
 abbrev pub LineBegins : LoopStage → Line → (part : List ℕ) → Type 0
 LineBegins now first part =
     (part ≡ []) ⊎ ((printed : List ℕ) × BeginsText part printed
     × ((AreWrong now.connected (words_of first.text) × (printed ≡ bad_line first.number))
     ⊎ ((next : LoopStage) × WordsPrint (words_of first.text) now printed next)))
 
--- States that `part` is the output of an interrupted run. It consists of the output of the first
--- lines and a beginning of the next line's output.
+-- States that `part` may be the output when a run of script lines is interrupted. `part` consists
+-- of the output of the first lines and a beginning of the next line's output.
 abbrev pub LoopBegins : LoopStage → List Line → (part : List ℕ) → Type 0
 LoopBegins now [] part = part ≡ []
 LoopBegins now (first ∷ lines) part =
@@ -42,32 +42,33 @@ LoopBegins now (first ∷ lines) part =
     ⊎ ((here rest : List ℕ) × (next : LoopStage) × WordsPrint (words_of first.text) now here next
     × LoopBegins next lines rest × (part ≡ here ++ rest))
 
--- The state in which a loop (a script over simulated devices) begins. It has a new office, the
--- register map `maps`, and no connection.
+-- The state in which a loop (a script over simulated devices) begins. It has no accepted events,
+-- the register map `maps`, and no connection.
 abbrev pub begun : Zone → Maps → LoopStage
 begun zone maps = record { script = beginning zone; maps = maps; connected = false }
 
--- States that the output of a text is the output of its lines, or a refusal if memory ran out while
--- the office was created.
+-- States the output of running a script (a text of commands, events and queries). It is the output
+-- of the lines, or a refusal if memory ran out at the start.
 abbrev pub TextPrints : Zone → (text printed : List ℕ) → ExitStatus → Type 0
 TextPrints zone text printed status =
     ((printed ≡ no_office) × (status ≡ Refused))
     ⊎ ((maps : Maps) × AreUnset maps
     × LoopPrints (begun zone maps) (speaking_lines text) printed status)
 
--- States that `part` is the output of an interrupted run over a text.
+-- States that `part` may be the output when running a script (a text of commands, events and
+-- queries) is interrupted.
 abbrev pub TextBegins : Zone → (text part : List ℕ) → Type 0
 TextBegins zone text part =
     BeginsText part no_office
     ⊎ ((maps : Maps) × AreUnset maps × LoopBegins (begun zone maps) (speaking_lines text) part)
 
--- States that the output of an input is the output of its lines, or `too long` for an input that is
--- too long.
+-- States the output of running an input as a script: the output of its lines, or `too long` for an
+-- input over the length limit.
 pub record InputPrints (zone : Zone) (input printed : List ℕ) (status : ExitStatus) : Type 0 where
   pub long : most_bytes < length input → (status ≡ Refused) × (printed ≡ too_long)
   pub text : length input ≤ most_bytes → TextPrints zone input printed status
 
--- States that `part` is the output of an interrupted run over an input.
+-- States that `part` may be the output when running an input as a script is interrupted.
 pub record InputBegins (zone : Zone) (input part : List ℕ) : Type 0 where
   pub long : most_bytes < length input → BeginsText part too_long
   pub text : length input ≤ most_bytes → TextBegins zone input part

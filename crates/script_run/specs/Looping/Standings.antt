@@ -19,29 +19,28 @@ pub record LoopStage : Type 0 where
   pub maps : Maps
   pub connected : Bool
 
--- The state of a running loop (a script over simulated devices): its office, its register map, and
--- the bytes written so far.
+-- The state of a running loop (a script over simulated devices). It has the office (the core of
+-- `sunreg`), the simulator's register map, and the bytes written so far.
 pub record LoopState : Type 0 where
   pub office : Office ListBooks
   pub maps : Maps
   pub connected : Bool
   pub output : Option (List ℕ)
 
--- Builds the state of a running loop (a script over simulated devices) from its office, its
--- register map and the bytes written so far.
+-- Builds the state of a running loop (a script over simulated devices) from its parts.
 abbrev pub loop_state : Office ListBooks → Maps → (connected : Bool)
     → (output : Option (List ℕ)) → LoopState
 loop_state office maps connected output =
     record { office = office; maps = maps; connected = connected; output = output }
 
--- Builds the modeled state of a loop (a script over simulated devices) from its office's history
--- and its running state.
+-- Builds the modeled state of a loop (a script over simulated devices) from the history of accepted
+-- events and the running state.
 abbrev pub stage_on : History → LoopState → LoopStage
 stage_on past here =
     record { script = stage_of past here.office; maps = here.maps; connected = here.connected }
 
--- States that a line printed an output that `Prints` allows, and that the office's store matches
--- its new history.
+-- States that a line printed an output that `Prints` allows. Also states that the stored records
+-- match the history of accepted events after the line.
 pub record CarriedOut (Prints : LoopStage → List ℕ → LoopStage → Type 0) (past : History)
     (from to : LoopState)
     : Type 0 where
@@ -51,15 +50,15 @@ pub record CarriedOut (Prints : LoopStage → List ℕ → LoopStage → Type 0)
   pub appended : Appends from.output to.output printed
   pub stands : Stands ledger_of after to.office
 
--- States that an interrupted call wrote nothing, or wrote a beginning of an output that `Prints`
--- allows.
+-- States the output of a call that was interrupted: nothing, or a beginning of an output that
+-- `Prints` allows.
 abbrev pub Begins : (Prints : List ℕ → Type 0) → (output output' : Option (List ℕ)) → Type 0
 Begins Prints output output' =
     Appends output output' []
     ⊎ ((printed : List ℕ) × Prints printed × GotPart printed output output')
 
--- States that a successful call executed its line, for every history that matches the office's
--- store. A failed call wrote a beginning of the line's output, and the next state is unspecified.
+-- States the outcome of a call for a script line. A successful call executed the line. A failed
+-- call wrote a beginning of the line's output, and leaves the next state unspecified.
 abbrev pub CarriesOut : {X E : Type 0} → Result X E → (X → LoopStage → List ℕ → LoopStage → Type 0)
     → (from to : LoopState) → Type 0
 CarriesOut (Ok x) Prints from to =
@@ -69,8 +68,8 @@ CarriesOut {X = X} (Err error) Prints from to =
     → Begins (λ printed. (x : X) × (next : LoopStage) × Prints x (stage_on past from) printed next)
     from.output to.output
 
--- States that a line printed an output that `Prints` allows, and changed the office but not the
--- simulator.
+-- States that a line printed an output that `Prints` allows. The line may change the office (the
+-- core of `sunreg`), but not the simulator.
 pub record Carried (Prints : Stage → List ℕ → Stage → Type 0) (past : History)
     (office office' : Office ListBooks) (output output' : Option (List ℕ)) : Type 0 where
   pub printed : List ℕ
@@ -79,8 +78,8 @@ pub record Carried (Prints : Stage → List ℕ → Stage → Type 0) (past : Hi
   pub appended : Appends output output' printed
   pub stands : Stands ledger_of after office'
 
--- States that a successful call executed its line, which may change the office but not the
--- simulator. A failed call wrote a beginning of the line's output.
+-- States the outcome of a call for a script line that does not change the simulator. A successful
+-- call executed the line, and a failed call wrote a beginning of the line's output.
 abbrev pub Carries : {X E : Type 0} → Result X E → (X → Stage → List ℕ → Stage → Type 0)
     → (office office' : Office ListBooks) → (output output' : Option (List ℕ)) → Type 0
 Carries (Ok x) Prints office office' output output' =

@@ -36,8 +36,8 @@ abbrev pub WordsRun : Result Bool Error → (words : List (List ℕ)) → (from 
 WordsRun result words from to =
     LineRuns result (WordsPrint words) (AreWrong from.connected words) from to
 
--- States the outcome of a line that starts reads. The office refused the start, or received the
--- simulator's responses.
+-- States the outcome of a line that starts Modbus reads. The office (the core of `sunreg`) refused
+-- the start, or received the simulator's responses.
 abbrev pub StartRuns : {X E : Type 0} → Result X E → (at : ℕ) → (device : Option (List ℕ)) → Event
     → (from to : LoopState) → Type 0
 StartRuns result at device e from to =
@@ -59,15 +59,15 @@ LinesRun status text from output' =
     → Writes (LoopPrints (stage_on past from) (speaking_lines text))
     (LoopBegins (stage_on past from) (speaking_lines text)) status from.output output'
 
--- States the outcome of running a text. The writer received the run's output, or a beginning of
--- this output if the run failed.
+-- States the outcome of running a script (a text of commands, events and queries). The writer
+-- received the run's output, or a beginning of this output if the run failed.
 abbrev pub TextRuns : Zone → (text : List ℕ) → ExitStatus
     → (output output' : Option (List ℕ)) → Type 0
 TextRuns zone text status output output' =
     Writes (TextPrints zone text) (TextBegins zone text) status output output'
 
--- States the outcome of running an input. The writer received the run's output, or a beginning of
--- this output if the run failed.
+-- States the outcome of running an input as a script. The writer received the run's output, or a
+-- beginning of this output if the run failed.
 abbrev pub InputRuns : Zone → (input : List ℕ) → ExitStatus → (output output' : Option (List ℕ))
     → Type 0
 InputRuns zone input status output output' =

@@ -1,4 +1,5 @@
--- Defines the output of each query in a script. No query changes the state of the script's run.
+-- Defines the output of each query in a script (a text of commands, events and queries). No query
+-- changes the state of the script's run.
 use Rattle.std.specs.Prelude.{◌≡◌, ◌⊎◌, ◌+◌, ℕ, List, [], ◌++◌, length, map, take, flat_map, Option, Result, Ok, Err, OnOk, OnErr}
 use Rattle.std.specs.Option.{option_and_then}
 use Rattle.interval_core.specs.Days.{account_of}
@@ -16,8 +17,8 @@ use Rattle.script_run.specs.Replaying.Stages.{Stage, Fails, ReportsStop}
 use Rattle.script_text.specs.AnswerText.{meter_line, poll_line, refused_line}
 use Rattle.energy_report.specs.RowLines.{counted}
 
--- States that the reply to a query is the row that was found, or the refusal "not found". Any other
--- reply means that the office failed.
+-- States the two possible replies to a query: the row that was found or "not found", or a failure
+-- such as out of memory.
 pub record IsAnswered {T : Type 0} (now : Stage) (found : Option T) (reply : Result T Refusal)
     : Type 0 where
   pub answer : (reply ≡ or_not_found found) ⊎ Fails reply
@@ -65,8 +66,8 @@ pub record RowsPrint {T : Type 0} (now : Stage) (there : Option (Unit {0}))
   pub text : printed ≡ flat_map row_line rows ++ last_line (counted (length rows)) reply
   pub same : next ≡ now
 
--- States that the rows are the first quarter hours of a meter with their energy. If the query
--- succeeded, the rows are all quarter hours of the meter.
+-- States that the rows are quarter hours of a meter with their energy, in order from the first. If
+-- the query succeeded, the rows are all quarter hours of the meter.
 pub record AreIntervals (facts : List Fact) (meter : Option (List ℕ)) (rows : List Share)
     (reply : Result (Unit {0}) Refusal) : Type 0 where
   pub begun : (n : ℕ) × (rows ≡ take n (rows_in (intervals_of facts meter)))
@@ -79,14 +80,15 @@ IntervalsPrint now meter printed next =
     RowsPrint now (is_there (intervals_of (facts_of now.past) meter))
     (AreIntervals (facts_of now.past) meter) share_line printed next
 
--- States that the rows are all days of an accounting register in the script's time zone. After a
--- failed query there are no rows.
+-- States that the rows are all days of an accounting register (a named counter) in the script's
+-- time zone. After a failed query there are no rows.
 pub record AreDaysReported (now : Stage) (register : Option (List ℕ)) (rows : List DayTotal)
     (reply : Result (Unit {0}) Refusal) : Type 0 where
   pub whole : OnOk reply (AreDaysNamed now.zone (facts_of now.past) register (map account_of rows))
   pub none : OnErr reply (rows ≡ [])
 
--- States the output of the query `days REGISTER`, the energy of an accounting register on each day.
+-- States the output of the query `days REGISTER`, the energy of an accounting register (a named
+-- counter) on each day.
 abbrev pub DaysPrint : Stage → (register : Option (List ℕ)) → (printed : List ℕ) → (next : Stage)
     → Type 0
 DaysPrint now register printed next =

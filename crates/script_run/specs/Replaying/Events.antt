@@ -1,4 +1,4 @@
--- Defines the output of each event in a script.
+-- Defines the output of each event in a script (a text of commands, events and queries).
 use Rattle.std.specs.Prelude.{◌≡◌, ◌≢◌, ◌⊎◌, ℕ, false, List, [], ◌++◌, flat_map, Result, Ok, Err}
 use Rattle.mb_wire.specs.Spans.{IsSpan, code_of}
 use Rattle.mb_wire.specs.declared.span.ReadSpan.{ReadSpan}
@@ -21,22 +21,23 @@ use Rattle.script_lines.specs.declared.script.GivenStart.{GivenStart}
 use Rattle.script_run.specs.Replaying.Stages.{Stage, Fails, ReportsStop, after_reply}
 use Rattle.script_text.specs.AnswerText.{accepted_text, fault_line, refused_line}
 
--- States that the office replies to an event as `decision_of` defines, or fails. If the office has
--- not stopped and the event ends no poll, the office does not fail.
+-- States the possible replies of the office (the core of `sunreg`) to an event: the reply that
+-- `decision_of` defines, or a failure. If the office has not stopped and the event ends no poll, it
+-- cannot fail.
 pub record IsReply (now : Stage) (at : ℕ) (e : Event) (reply : Result Answer Refusal) : Type 0 where
   pub answer : (reply ≡ decision_of now.past at e) ⊎ Fails reply
   pub stops : ReportsStop now reply
   pub quiet : now.stopped ≡ false → SettlesNothing now.past at e → is_failure reply ≡ false
 
--- The text that a script prints for the office's reply to an event. It is the notifications and the
--- answer of an accepted event, or the line of a refusal.
+-- The text that a script prints after the office (the core of `sunreg`) has processed an event. It
+-- is the notifications and the answer of an accepted event, or the line of a refusal.
 abbrev pub reply_text : History → (at : ℕ) → Event → Result Answer Refusal → List ℕ
 reply_text past at e (Ok given) =
     accepted_text given (notes_after past at e (Ok given)) (outgoing_after past at e (Ok given))
 reply_text past at e (Err why) = refused_line why
 
--- States that a line with an event prints the office's reply, and that the script continues in the
--- state after the reply.
+-- States that a line with an event prints the reply of the office (the core of `sunreg`), and that
+-- the script continues in the state after the reply.
 pub record EventPrints (now : Stage) (at : ℕ) (e : Event) (printed : List ℕ) (next : Stage)
     : Type 0 where
   pub reply : Result Answer Refusal
@@ -44,7 +45,8 @@ pub record EventPrints (now : Stage) (at : ℕ) (e : Event) (printed : List ℕ)
   pub text : printed ≡ reply_text now.past at e reply
   pub after : next ≡ after_reply now at e reply
 
--- States that the numbers of a script line describe the given range of Modbus registers.
+-- States that the numbers of a script line (function code, address and count) describe the given
+-- range of Modbus registers.
 pub record IsSpanOf (start : GivenStart) (span : ReadSpan) : Type 0 where
   pub function : code_of span.function ≡ start.function
   pub address : span.address ≡ start.address
@@ -54,13 +56,13 @@ pub record IsSpanOf (start : GivenStart) (span : ReadSpan) : Type 0 where
 abbrev pub start_event : GivenStart → ReadSpan → Event
 start_event start span = Command (StartPoll (record { device = start.device; span = span }))
 
--- States that a line prints a refusal and changes nothing, because the office gets no event.
+-- States that a line that starts a Modbus read prints a refusal and changes nothing.
 pub record IsRefused (now : Stage) (printed : List ℕ) (next : Stage) : Type 0 where
   pub text : printed ≡ refused_line refusal.Limit
   pub same : next ≡ now
 
--- States the output of a line that starts a read. If one read request can cover the Modbus
--- registers, the line prints the office's reply, otherwise a refusal.
+-- States the output of a script line that starts a Modbus read: the reply to the start. If one read
+-- request cannot cover the Modbus registers, the output is a refusal.
 abbrev pub StartPrints : Stage → (at : ℕ) → GivenStart → (printed : List ℕ) → (next : Stage)
     → Type 0
 StartPrints now at start printed next =
@@ -82,15 +84,15 @@ pub record IsListOf (text : List ℕ) (list : Planned) : Type 0 where
   pub points : SpellsList text list.points
   pub planned : IsPlanned list
 
--- States that a line with a faulty point list prints each faulty row and a refusal, and that the
--- office gets no event.
+-- States the output of a line with a faulty point list: each faulty row, and a refusal. The point
+-- list is not stored.
 pub record FaultsPrint (now : Stage) (text printed : List ℕ) (next : Stage) : Type 0 where
   pub some : faults_of text ≢ []
   pub lines : printed ≡ flat_map fault_line (faults_of text) ++ refused_line refusal.Limit
   pub same : next ≡ now
 
--- States that a line with a point list prints the office's reply, or one line for each faulty row
--- of the point list.
+-- States the output of a line that stores a point list of a device. A faulty list prints one line
+-- for each faulty row.
 abbrev pub ListPrints : Stage → (at : ℕ) → GivenList → (printed : List ℕ) → (next : Stage) → Type 0
 ListPrints now at list printed next =
     ((planned : Planned) × IsListOf list.text planned

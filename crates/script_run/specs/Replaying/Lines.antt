@@ -1,4 +1,5 @@
--- Defines the output of each line of a script, and the state of the script's run after the line.
+-- Defines the output of each line of a script (a text of commands, events and queries), and the
+-- state of the script's run after the line.
 use Rattle.std.specs.Prelude.{◌≡◌, ◌⊎◌, ℕ, List, [], ◌++◌}
 use Rattle.command_io.specs.Lines.{Line}
 use Rattle.script_lines.specs.Forms.{IsLine}
@@ -36,8 +37,8 @@ pub record BadPrints (bad : Line) (printed : List ℕ) : Type 0 where
 abbrev pub BeginsText : (part text : List ℕ) → Type 0
 BeginsText part text = (rest : List ℕ) × (text ≡ part ++ rest)
 
--- States that `part` is the output of an interrupted line, which is empty or a beginning of the
--- line's output.
+-- States that `part` may be the output when writing the output of one line is interrupted. `part`
+-- is empty, or a beginning of the line's output.
 abbrev pub LineBegins : Stage → Line → (part : List ℕ) → Type 0
 LineBegins now first part =
     (part ≡ []) ⊎ ((printed : List ℕ) × BeginsText part printed

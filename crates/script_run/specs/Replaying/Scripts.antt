@@ -1,4 +1,5 @@
--- Defines the output and the exit status of running a script.
+-- Defines the output and the exit status of running a script (a text of commands, events and
+-- queries).
 use Rattle.std.specs.Prelude.{◌≡◌, ◌⊎◌, ◌<◌, ◌≤◌, ℕ, List, [], ◌∷◌, ◌++◌, length}
 use Rattle.command_io.specs.Input.{most_bytes, too_long}
 use Rattle.command_io.specs.Lines.{Line, speaking_lines}
@@ -11,8 +12,8 @@ use Rattle.script_run.specs.Replaying.Lines.{BadPrints, BeginsText, LineBegins, 
 use Rattle.script_run.specs.Replaying.Stages.{Stage, beginning}
 use Rattle.script_text.specs.AnswerText.{refused_line}
 
--- States that the lines of a script print in order, from the given state on. A line that spells no
--- script line ends the run.
+-- States the output of the lines of a script, run in order from the state `now`. A line that spells
+-- no script line ends the run.
 abbrev pub ScriptPrints : Stage → List Line → (printed : List ℕ) → ExitStatus → Type 0
 ScriptPrints now [] printed status = (printed ≡ []) × (status ≡ Fine)
 ScriptPrints now (first ∷ lines) printed status =
@@ -20,8 +21,8 @@ ScriptPrints now (first ∷ lines) printed status =
     ⊎ ((here rest : List ℕ) × (next : Stage) × WordsPrint now (words_of first.text) here next
     × ScriptPrints next lines rest status × (printed ≡ here ++ rest))
 
--- States that `part` is the output of an interrupted run. It consists of the output of the first
--- lines and a beginning of the next line's output.
+-- States that `part` may be the output when a run of script lines is interrupted. `part` consists
+-- of the output of the first lines and a beginning of the next line's output.
 abbrev pub ScriptBegins : Stage → List Line → (part : List ℕ) → Type 0
 ScriptBegins now [] part = part ≡ []
 ScriptBegins now (first ∷ lines) part =
@@ -29,29 +30,31 @@ ScriptBegins now (first ∷ lines) part =
     ⊎ ((here rest : List ℕ) × (next : Stage) × WordsPrint now (words_of first.text) here next
     × ScriptBegins next lines rest × (part ≡ here ++ rest))
 
--- The output of a script if memory ran out while its office was created.
+-- The output of a script (a text of commands, events and queries) that could not start because
+-- memory ran out.
 abbrev pub no_office : List ℕ
 no_office = refused_line refusal.Memory
 
--- States that the output of a text is the output of its lines, or a refusal if memory ran out while
--- the office was created.
+-- States the output of running a script (a text of commands, events and queries). It is the output
+-- of the lines, or a refusal if memory ran out at the start.
 abbrev pub TextPrints : Zone → (text printed : List ℕ) → ExitStatus → Type 0
 TextPrints zone text printed status =
     ((printed ≡ no_office) × (status ≡ Refused))
     ⊎ ScriptPrints (beginning zone) (speaking_lines text) printed status
 
--- States that `part` is the output of an interrupted run over a text.
+-- States that `part` may be the output when running a script (a text of commands, events and
+-- queries) is interrupted.
 abbrev pub TextBegins : Zone → (text part : List ℕ) → Type 0
 TextBegins zone text part =
     BeginsText part no_office ⊎ ScriptBegins (beginning zone) (speaking_lines text) part
 
--- States that the output of an input is the output of its lines, or `too long` for an input that is
--- too long.
+-- States the output of running an input as a script: the output of its lines, or `too long` for an
+-- input over the length limit.
 pub record ReplayPrints (zone : Zone) (input printed : List ℕ) (status : ExitStatus) : Type 0 where
   pub long : most_bytes < length input → (status ≡ Refused) × (printed ≡ too_long)
   pub text : length input ≤ most_bytes → TextPrints zone input printed status
 
--- States that `part` is the output of an interrupted run over an input.
+-- States that `part` may be the output when running an input as a script is interrupted.
 pub record ReplayBegins (zone : Zone) (input part : List ℕ) : Type 0 where
   pub long : most_bytes < length input → BeginsText part too_long
   pub text : length input ≤ most_bytes → TextBegins zone input part

@@ -1,5 +1,5 @@
--- Defines the state of a script's run between two lines, and the failures of an office whose store
--- is in memory.
+-- Defines the state of a script's run between two lines, and the failures that are possible with a
+-- store in memory.
 use Rattle.std.specs.Prelude.{◌≡◌, ℕ, Bool, true, false, ◌||◌, ◌↔◌, ◌⊎◌, [], ◌∷◌, Result, Ok, Err}
 use Rattle.interval_core.specs.declared.zone.Zone.{Zone}
 use Rattle.office_events.specs.declared.answers.Answer.{Answer}
@@ -10,29 +10,31 @@ use Rattle.office_rules.specs.History.{History, Opened}
 use Rattle.office_rules.specs.Refusals.{with_answer}
 use Rattle.office_core.specs.Failing.{stops}
 
--- The state of a script's run. It has the events that the office accepted, whether the office has
--- stopped, and the time zone of the script's days.
+-- The state of a script's run: the accepted events, whether a failure has stopped the office (the
+-- core of `sunreg`), and the time zone for the script's days.
 pub record Stage : Type 0 where
   pub past : History
   pub stopped : Bool
   pub zone : Zone
 
--- The state in which a script begins: an office that was opened at timestamp 0 over an empty store.
+-- The state in which a script (a text of commands, events and queries) begins: no accepted event,
+-- at timestamp 0, over an empty store.
 abbrev pub beginning : Zone → Stage
 beginning zone = record { past = Opened 0 ∷ []; stopped = false; zone = zone }
 
--- States that the office failed, because memory ran out or because the office had stopped. An
--- office whose store is in memory has no other failures.
+-- States that a call failed because memory ran out, or because an earlier failure had stopped the
+-- office (the core of `sunreg`). With a store in memory, no other failure is possible.
 abbrev pub Fails : {T : Type 0} → Result T Refusal → Type 0
 Fails (Err refusal.Memory) = Unit {0}
 Fails (Err refusal.Stopped) = Unit {0}
 Fails _ = ⊥
 
--- States that the reply is the refusal `Stopped` if and only if the office has stopped.
+-- States that the reply is the refusal `Stopped` if and only if a failure has stopped the office
+-- (the core of `sunreg`).
 abbrev pub ReportsStop : {T : Type 0} → Stage → Result T Refusal → Type 0
 ReportsStop now reply = (reply ≡ Err refusal.Stopped) ↔ (now.stopped ≡ true)
 
--- The state of a script's run after the office replied to an event.
+-- The state of a script's run after the office (the core of `sunreg`) replied to an event.
 abbrev pub after_reply : Stage → (at : ℕ) → Event → Result Answer Refusal → Stage
 after_reply now at e reply =
     record {

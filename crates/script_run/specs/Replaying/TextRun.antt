@@ -1,5 +1,5 @@
--- Defines the contract for running a script, with the output and the state of the office
--- afterwards.
+-- Defines the contract for running a script (a text of commands, events and queries), with its
+-- output and the state afterwards.
 use Rattle.std.specs.Prelude.{◌≡◌, ◌⊎◌, ℕ, List, [], ◌++◌, Option, None, Some, Result, Ok, Err, IsErr, ⊤}
 use Rattle.std.specs.Io.KnownBytes.{Appends}
 use Rattle.std.specs.declared.io.Error.{Error}
@@ -18,13 +18,14 @@ use Rattle.script_run.specs.Replaying.Stages.{Stage}
 use Rattle.script_lines.specs.LineWords.Words.{words_of}
 use Rattle.sun_points.specs.Writing.{GotText}
 
--- The state of a script's run, from its office and the office's history.
+-- The modeled state of a script's run, from the history of accepted events and the running `Office`
+-- (the core of `sunreg`).
 abbrev pub stage_of : History → Office ListBooks → Stage
 stage_of past office =
     record { past = past; stopped = is_stopped office; zone = (ledger_of (books_in office)).zone }
 
 -- States that a line's output was written completely, or partly if a write failed. Also states that
--- the office's store matches the history after the line.
+-- the stored records match the history of accepted events after the line.
 pub record IsCarriedOut (Prints : Stage → List ℕ → Stage → Type 0) (past : History)
     (office office' : Office ListBooks) (result : Result (Unit {0}) Error)
     (output output' : Option (List ℕ)) : Type 0 where
@@ -43,7 +44,7 @@ MayCarryOut Prints past office office' result output output' =
     IsCarriedOut Prints past office office' result output output'
     ⊎ (IsErr result × Appends output output' [])
 
--- States that a call executed its line, for every history that the office's store matches.
+-- States that a call executed its line, whichever history of events the stored records match.
 abbrev pub CarriesOut : (Stage → List ℕ → Stage → Type 0) → (office office' : Office ListBooks)
     → Result (Unit {0}) Error → (output output' : Option (List ℕ)) → Type 0
 CarriesOut Prints office office' result output output' =
@@ -83,15 +84,15 @@ Writes Prints Begins Refused output output' =
 Writes Prints Begins Failed output output' =
     (part : List ℕ) × Appends output output' part × Begins part
 
--- States the outcome of running a text. The writer received the run's output, or a beginning of
--- this output if the run failed.
+-- States the outcome of running a script (a text of commands, events and queries). The writer
+-- received the run's output, or a beginning of this output if the run failed.
 abbrev pub TextRuns : Zone → (text : List ℕ) → ExitStatus
     → (output output' : Option (List ℕ)) → Type 0
 TextRuns zone text status output output' =
     Writes (TextPrints zone text) (TextBegins zone text) status output output'
 
--- States the outcome of running an input. The writer received the run's output, or a beginning of
--- this output if the run failed.
+-- States the outcome of running an input as a script. The writer received the run's output, or a
+-- beginning of this output if the run failed.
 abbrev pub InputRuns : Zone → (input : List ℕ) → ExitStatus → (output output' : Option (List ℕ))
     → Type 0
 InputRuns zone input status output output' =

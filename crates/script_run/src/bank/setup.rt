@@ -31,7 +31,7 @@ pub struct SetupParts {
     pub tricks: Vec<(u64, Trick)>,
 }
 
-// Returns the range of Modbus addresses that a setup line describes, or `None` if the line's
+// Returns the range of Modbus addresses that a line `area` describes, or `None` if the line's
 // numbers are out of range.
 fn area_of(given: GivenArea) -> Option<Area>
     ensures { result ≡ setting.area_of given }
@@ -97,8 +97,8 @@ impl Setup {
         Ok(())
     }
 
-    /// Executes a setup line. Returns whether the register map accepts the line. A refused line
-    /// changes nothing. Lines that inject faults are always accepted.
+    /// Executes a setup line of a simulated device. Returns whether the register map accepts the
+    /// line. A refused line changes nothing. Lines that inject faults are always accepted.
     pub fn carry_out(&mut self, line: &BankLine) -> Result<bool, AllocError>
         ensures taken { IfOk result (λ taken. taken ≡ takes self.old.maps line.now) }
         ensures after { IfOk result (λ taken. self.new ≡ after_line self.old line.now) }

@@ -9,7 +9,8 @@ use script_text::{write_bad_line, write_refusal};
 use std::alloc::Global;
 use std::io::{Read, Write};
 
-// Executes a setup line, and prints `refused 12` if the register map refuses the line.
+// Executes a setup line of a simulated device, and prints `refused 12` if the register map refuses
+// the line.
 fn carry_out<W: Write>(setup: &mut Setup, said: &BankLine, output: &mut W) -> Result<(), ExitStatus>
     ensures { running.Carries setup.old said.now result setup.new
         (W.contents output.old) (W.contents output.new) }
@@ -24,7 +25,8 @@ fn carry_out<W: Write>(setup: &mut Setup, said: &BankLine, output: &mut W) -> Re
     }
 }
 
-// Parses and executes a setup line, or returns the exit status that ends the run.
+// Parses and executes a setup line of a simulated device, or returns the exit status that ends the
+// run.
 fn run_line<W: Write>(
     setup: &mut Setup,
     number: u64,

@@ -23,8 +23,8 @@ use script_text::write_refusal;
 use std::alloc::Global;
 use std::io::{self, ErrorKind, Write};
 
-/// The state of a running loop (a script over simulated devices): the office, the simulator, and
-/// the connections between them.
+/// The state of a running loop (a script over simulated devices): the `Office` (the core of
+/// `sunreg`), the simulator, and the connections between them.
 #[derive(Drop)]
 pub(crate) struct Run<'t, L: Link + Drop> {
     pub(crate) office: Office<ListBooks>,
@@ -57,8 +57,8 @@ pub(crate) fn run_line<C: Connects, W: Write>(
     }
 }
 
-// Returns whether a setup line is allowed at this position. The lines `area` and `trick` are
-// allowed only before a device is connected.
+// Returns whether a setup line of the simulator is allowed at this position. The lines `area` and
+// `trick` are allowed only before a device is connected.
 fn is_allowed(connected: bool, said: &BankLine) -> bool
     ensures yes { result ≡ true → form.MayStand connected said.now }
     ensures no { result ≡ false → form.MayNotStand connected said.now }
@@ -70,8 +70,9 @@ fn is_allowed(connected: bool, said: &BankLine) -> bool
     }
 }
 
-// Applies a setup line to the register map, and returns whether the map accepts the line. Lines
-// that inject faults are skipped, because each new connection gets these faults when it is opened.
+// Applies a setup line to the simulator's register map, and returns whether the map accepts the
+// line. Skips a line that injects a fault: each connection to the simulator receives these faults
+// when it is opened.
 fn apply_bank_line(bank: &mut Bank, said: &BankLine) -> bool
     ensures taken { result ≡ setting.takes bank.old said.now }
     ensures after { bank.new ≡ form.maps_with bank.old said.now }
@@ -83,7 +84,8 @@ fn apply_bank_line(bank: &mut Bank, said: &BankLine) -> bool
     }
 }
 
-// Prints `ok` or a refusal, depending on whether the register map accepted a setup line.
+// Prints `ok` or a refusal, depending on whether the simulator's register map accepted a setup
+// line.
 fn print_acceptance<W: Write>(taken: bool, output: &mut W) -> io::Result<()>
     ensures { GotText result (form.taken_text taken)
         (W.contents output.old) (W.contents output.new) }

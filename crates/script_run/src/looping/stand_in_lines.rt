@@ -18,8 +18,8 @@ use script_text::{write_accepted, write_refusal};
 use std::alloc::Global;
 use std::io::{self, Write};
 
-/// Starts a read or a round of reads. If the office accepts the start, the frames go to the
-/// simulator, and the responses go to the office.
+/// Starts a read or a round of reads. If the `Office` (the core of `sunreg`) accepts the start, the
+/// request frames go to the simulator, and the responses go to the `Office`.
 pub(crate) fn start<L: Link + Drop, W: Write>(
     alloc: Global,
     office: &mut Office<ListBooks>,
@@ -51,7 +51,8 @@ fn count_of(answer: &Answer) -> u64 {
     }
 }
 
-// Passes the responses on a device's connection to the office, if the device has a connection.
+// Passes the responses on a device's connection to the `Office` (the core of `sunreg`). Without a
+// connection there is nothing to pass.
 fn feed_responses<L: Link + Drop, W: Write>(
     alloc: Global,
     office: &mut Office<ListBooks>,
@@ -76,7 +77,8 @@ fn feed_responses<L: Link + Drop, W: Write>(
     }
 }
 
-/// Connects a device: passes the event to the office, and opens a connection to the simulator.
+/// Connects a device: passes the event to the `Office` (the core of `sunreg`), and opens a
+/// connection to the simulator.
 pub(crate) fn connect<C: Connects, W: Write>(
     office: &mut Office<ListBooks>,
     wires: &mut Wires<'_, C::End>,
@@ -98,8 +100,8 @@ pub(crate) fn connect<C: Connects, W: Write>(
     }
 }
 
-/// Ends the connection of a device: passes the event to the office, and closes the connection to
-/// the simulator.
+/// Ends the connection of a device: passes the event to the `Office` (the core of `sunreg`), and
+/// closes the connection to the simulator.
 pub(crate) fn leave<L: Link + Drop, W: Write>(
     office: &mut Office<ListBooks>,
     wires: &mut Wires<'_, L>,

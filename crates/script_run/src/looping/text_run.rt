@@ -19,7 +19,7 @@ use script_text::{write_bad_line, write_refusal};
 use std::alloc::{AllocError, Global};
 use std::io::{Read, Write};
 
-/// Runs a script over an office in memory whose devices are all one simulator in this process.
+/// Runs a script with a store in memory, whose devices are all one simulator in this process.
 ///
 /// `loop_text` executes lines as [`replay`](crate::replay) does, with these differences:
 ///
@@ -72,8 +72,8 @@ fn connects_device(alloc: Global, line: &[u8]) -> Result<bool, AllocError> {
     }
 }
 
-// Runs the lines of a loop (a script over simulated devices) over an office in memory, which is
-// opened at timestamp 0.
+// Runs the lines of a loop (a script over simulated devices) over a new store in memory. Timestamps
+// begin at 0.
 fn run_text<C: Connects, W: Write>(
     alloc: Global,
     zone: Zone,
@@ -92,8 +92,8 @@ fn run_text<C: Connects, W: Write>(
     run_opened(alloc, zone, text, bank, &tricks, connects, output)
 }
 
-// Runs the lines of a loop (a script over simulated devices) over an office, with an empty register
-// map.
+// Runs the lines of a loop (a script over simulated devices) with the given `Office` (the core of
+// `sunreg`) and an empty register map.
 fn run_opened<C: Connects, W: Write>(
     alloc: Global,
     zone: Zone,
@@ -120,7 +120,8 @@ fn run_opened<C: Connects, W: Write>(
     }
 }
 
-// Prints the refusal that explains why the office could not be created.
+// Prints the refusal that explains why a script could not start, such as `refused 14` if memory ran
+// out.
 fn print_refused<W: Write>(why: Refusal, output: &mut W) -> ExitStatus
     ensures { ReportsText (refused_line why) result (W.contents output.old) (W.contents output.new) }
 {

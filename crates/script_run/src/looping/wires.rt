@@ -19,7 +19,7 @@ pub struct Ends<L: Link + Drop> {
     pub far: L,
 }
 
-/// A source of connections between a device of the office and the simulator.
+/// A source of connections to the simulator. A device that a script connects gets one connection.
 pub trait Connects {
     type End: Link + Drop;
 

@@ -18,7 +18,7 @@ use script_text::{write_accepted, write_faults, write_refusal};
 use std::alloc::Global;
 use std::io::{self, ErrorKind, Write};
 
-/// Passes an event to the office, and prints the office's reply.
+/// Passes an event to the `Office` (the core of `sunreg`), and prints its answer or refusal.
 pub fn feed<W: Write>(
     office: &mut Office<ListBooks>,
     at: u64,

@@ -37,7 +37,8 @@ pub fn carry_out<W: Write>(
     }
 }
 
-/// Parses and executes a line of a script. Returns the exit status if the line ends the run.
+/// Parses and executes a line of a script (a text of commands, events and queries). Returns the
+/// exit status if the line ends the run.
 pub(crate) fn run_line<W: Write>(
     alloc: Global,
     office: &mut Office<ListBooks>,

@@ -1,4 +1,4 @@
-//! Executes the queries of a script.
+//! Executes the queries in scripts, which ask for meters, polls and recorded energy.
 ghost use Rattle.script_run.specs.Replaying.Asked.{DaysPrint, IntervalsPrint, MeterPrints, PollPrints};
 ghost use Rattle.script_run.specs.Replaying.Asked.{last_line};
 ghost use Rattle.script_run.specs.Replaying.TextRun.{CarriesOut};
@@ -58,7 +58,8 @@ pub(crate) fn print_intervals<W: Write>(
     write_last(reported, rows.count, rows.output)
 }
 
-/// Prints the energy of an accounting register on each civil day of the script's time zone, in mWh.
+/// Prints the energy of an accounting register (a named counter) on each civil day of the script's
+/// time zone, in mWh.
 pub(crate) fn print_days<W: Write>(
     office: &mut Office<ListBooks>,
     register: &Option<Name>,

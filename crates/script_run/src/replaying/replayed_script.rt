@@ -1,4 +1,5 @@
-//! Runs a script from a reader to a writer over a store in memory.
+//! Runs a script (a text of commands, events and queries) from a reader to a writer over a store in
+//! memory.
 ghost use Rattle.std.specs.Prelude.{IfSome};
 ghost use Rattle.script_run.specs.Replaying.TextRun.{Replays};
 
@@ -15,8 +16,8 @@ pub struct Replayed<W> {
     pub output: W,
 }
 
-/// Runs a script over an office in memory, and prints the output of each line. The office is opened
-/// at timestamp 0, and its days are civil days in `zone`.
+/// Runs a script with a store in memory, and prints the output of each line. Timestamps begin at 0,
+/// and days are civil days in `zone`.
 ///
 /// The script continues after `refused N`. A malformed line prints `bad line N` and ends the run.
 /// An input of more than 4,194,304 bytes prints only `too long`.

@@ -1,4 +1,5 @@
-//! Runs the lines of a script in order over a store in memory.
+//! Runs the lines of a script (a text of commands, events and queries) in order over a store in
+//! memory.
 ghost use Rattle.script_run.specs.Replaying.TextRun.{InputRuns, TextRuns};
 ghost use Rattle.std.specs.Prelude.{IfSome};
 
@@ -11,7 +12,7 @@ use script_text::write_refusal;
 use std::alloc::Global;
 use std::io::{Read, Write};
 
-// Runs the lines of a script over a new office in memory, which is opened at timestamp 0.
+// Runs the lines of a script over a new store in memory. Timestamps begin at 0.
 fn run_text<W: Write>(alloc: Global, zone: Zone, text: &[u8], output: &mut W) -> ExitStatus
     ensures { TextRuns zone text.now result (W.contents output.old) (W.contents output.new) }
 {

@@ -1,5 +1,5 @@
--- If a query selects the rows that pass a test, its answer has as many rows as pass the test in the
--- table.
+-- Proof that a query without LIMIT returns as many rows as the table has rows that pass the query's
+-- test.
 use Rattle.std.proofs.Common.{◌≡◌, Bool, List, length, filter, ap, ◌∙◌}
 use Rattle.std.proofs.lemmas.List.{length-map}
 use Rattle.std.proofs.lemmas.List.Sorted.{length_permutation}

@@ -14,7 +14,7 @@ use Rattle.store_devices.specs.declared.devices.rows.RegisterScale.{RegisterScal
 use Rattle.store_devices.specs.declared.devices.rows.RegisterScale.TheVariants.{Fixed, At}
 use Rattle.store_devices.specs.Devices.Rows.{IsSoundDevice, device_in, point_in, IsSoundPoint, IsSoundRegister, IsSoundScale, register_in, scale_of, fixed_by, at_by, fits_a_read, reached_from}
 
--- ---- ranges of the values that the readers return
+-- ---- if a result row can be read, all numbers that the reader returns are in their ranges
 
 pub sound_device : (row : Row) (a : DeviceRow) → device_in row ≡ Ok a → IsSoundDevice a
 sound_device row a is =
@@ -57,8 +57,8 @@ scale_sound kind v s is = elim (cases_Bool (kind == 0)) [
   | inr reported ↦ at_sound (whole_in 0 65535 v) v s refl (rw reported at is)
 ]
 
--- True if the scale that a reader returned equals the scale in its columns, and one Modbus read
--- covers the scale and the counter.
+-- True if a reader returned the scale `s`, and one Modbus read covers this scale and the counter at
+-- `address`.
 pub record IsReached (address : ℕ) (reported : Option RegisterScale) (s : RegisterScale) : Type 0 where
   pub scale : reported ≡ Some s
   pub span : fits_a_read address s ≡ true

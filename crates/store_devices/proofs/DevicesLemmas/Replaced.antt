@@ -14,7 +14,8 @@ use Rattle.store_devices.specs.Devices.Rows.{Listed, listed_at, point_columns, i
 use Rattle.store_devices.specs.Devices.Trees.{points}
 
 module _ (device : List ℕ) where
-  -- True if the new table `points` has the rows of the old table and the points in a list.
+  -- True if the new table `points` has the rows of the old table and those of the inserted points
+  -- `ps`.
   abbrev pub Came : List Point → Content → Content → Type 0
   Came ps = Edits points point_columns (with_points device ps)
 

@@ -1,4 +1,4 @@
--- Proofs that the query of `pending_rows` shows exactly the polls without an outcome.
+-- Proofs that the query `pending_rows` returns exactly the polls without an outcome.
 use Rattle.std.proofs.Common.{◌≡◌, inl, inr, ℕ, suc, ℤ, pos, min, length, List, [], ◌∷◌, map, filter, flat_map, Bool, true, false, cond, not, ◌&&◌, ◌==◌, is_gt, refl, ap, subst, ◌∙◌, arith, IsPermutation}
 use Rattle.std.proofs.lemmas.Bool.{cases_Bool}
 use Rattle.std.specs.List.{list_all, list_any}
@@ -31,7 +31,7 @@ use Rattle.store_devices.specs.Polls.Pending.{is_pending}
 use Rattle.store_devices.specs.Polls.Trees.{polls, outcomes}
 use Rattle.store_devices.proofs.PollsLemmas.Texts as text
 
--- ---- a subquery that counts 0 rows
+-- ---- NOT EXISTS is true exactly if no row passes the test of its subquery
 
 one_at_most : (n : ℕ) → min 1 (suc n) ≡ 1
 one_at_most n = omega arith
@@ -44,7 +44,7 @@ none_counted p f (x ∷ xs) = elim (cases_Bool (p x)) [
   | inr other ↦ rw other (none_counted p f xs)
 ]
 
--- ---- the answer of the query for polls without an outcome
+-- ---- the result of `pending_rows`: the polls without an outcome, in order
 
 module _ (db : Trees) where
   -- True if the poll number in a row of `outcomes` equals the number in a row of `polls`.

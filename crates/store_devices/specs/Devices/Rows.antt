@@ -1,4 +1,5 @@
--- Rows of `devices`, `points` and `registers`, their columns, and the ranges of their values.
+-- Rows of `devices`, `points` and `registers` (named counters of devices), their columns, and the
+-- ranges of their values.
 use Rattle.std.specs.Prelude.{◌≡◌, ℕ, ℤ, pos, ◌≤◌, ◌+◌, ◌-◌, min, max, nat_le, true, List, [], ◌∷◌, ◌++◌, map, length, filter, IsTrue, Bool, bytes_eq, ◌==◌, Option, Some, None, if◌then◌else◌, Result, Ok, IsUtf8, string_bytes}
 use Rattle.sqlite.specs.declared.types.Value.{Value}
 use Rattle.sqlite.specs.declared.types.Value.TheVariants.{Null, Int, Text}
@@ -59,7 +60,8 @@ pub record IsSoundAdded (d : Added) : Type 0 where
   pub row : IsSoundDevice d.row
   pub name : IsUtf8 d.name
 
--- True if the device that a reader returned has the name and the numbers of the stored device.
+-- True if the device that was read from a result row has the name and the numbers of the stored
+-- device.
 pub record IsDevice (d : Added) (a : Device) : Type 0 where
   pub name : string_bytes a.name ≡ d.name
   pub row : a.row ≡ d.row
@@ -121,7 +123,8 @@ pub record IsSoundListed (p : Listed) : Type 0 where
   pub kind : IsUtf8 p.kind
   pub scale : IsUtf8 p.scale
 
--- True if the point that a reader returned has the texts and the numbers of the stored point.
+-- True if the point that was read from a result row has the texts and the numbers of the stored
+-- point.
 pub record IsPoint (p : Listed) (a : Point) : Type 0 where
   pub name : string_bytes a.name ≡ p.name
   pub kind : string_bytes a.kind ≡ p.kind
@@ -152,17 +155,19 @@ point_in row =
 
 -- ---- rows of the table `registers`
 
--- The number that encodes a scale's kind in `registers`: 0 for a fixed factor, 1 for an address.
+-- The number that encodes a scale's kind in `registers`: 0 for a fixed factor, 1 for the Modbus
+-- address of the factor.
 abbrev pub scale_kind : RegisterScale → ℕ
 scale_kind (scale.Fixed sf) = 0
 scale_kind (scale.At address) = 1
 
--- The number that encodes a scale in `registers`: its fixed factor, or the address of its factor.
+-- The number that encodes a scale in `registers`: the fixed factor, or the Modbus address of the
+-- factor.
 abbrev pub scale_number : RegisterScale → ℤ
 scale_number (scale.Fixed sf) = sf
 scale_number (scale.At address) = pos address
 
--- True if a fixed scale factor is from -3 to 3, or a scale's address is that of a Modbus register.
+-- True if a fixed scale factor is from -3 to 3, or the address of a scale factor is at most 65535.
 abbrev pub IsSoundScale : RegisterScale → Type 0
 IsSoundScale (scale.Fixed sf) = IsTrue (is_within 3 sf)
 IsSoundScale (scale.At address) = address ≤ LAST_ADDRESS
@@ -231,8 +236,8 @@ pub record IsSoundRegistered (r : Registered) : Type 0 where
   pub name : IsUtf8 r.name
   pub device : IsUtf8 r.device
 
--- True if the accounting register that a reader returned has the names and the numbers of the
--- stored accounting register.
+-- True if the accounting register that was read from a result row has the names and the numbers of
+-- the stored one.
 pub record IsRegister (r : Registered) (a : Register) : Type 0 where
   pub name : string_bytes a.name ≡ r.name
   pub device : string_bytes a.device ≡ r.device
@@ -246,8 +251,8 @@ abbrev pub at_by : Option ℕ → Option RegisterScale
 at_by None = None
 at_by (Some address) = Some (scale.At address)
 
--- The scale that two columns of `registers` encode: the number of the scale's kind, and a value.
--- None if the columns encode no scale.
+-- The scale that two columns of `registers` encode: the kind of the scale, and a factor or an
+-- address. None if the columns encode no scale.
 abbrev pub scale_of : (kind : ℕ) → Value → Option RegisterScale
 scale_of kind v = if kind == 0 then fixed_by (within 3 v) else at_by (whole_in 0 LAST_ADDRESS v)
 

@@ -1,4 +1,5 @@
--- The numbers of the B-trees that store the tables `devices`, `points` and `registers`.
+-- The numbers that identify the B-trees of the tables `devices`, `points` and `registers` in
+-- contracts and proofs.
 use Rattle.std.specs.Prelude.{ℕ}
 
 abbrev pub devices : ℕ

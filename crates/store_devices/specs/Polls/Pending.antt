@@ -1,4 +1,4 @@
--- Definitions about the pending polls, which have no outcome yet.
+-- Definitions about the pending polls: Modbus reads that were started and have no outcome yet.
 use Rattle.std.specs.Prelude.{Bool, not, List, Result, MatchResult}
 use Rattle.std.specs.List.{list_any}
 use Rattle.sqlite.specs.Order.{Row}

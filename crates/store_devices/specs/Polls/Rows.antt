@@ -1,5 +1,5 @@
--- Rows of `polls`, `outcomes`, `holds` and `replies`, their columns, and the ranges of their
--- values.
+-- Rows of `polls`, `outcomes`, `holds` (rejected readings) and `replies` (stored requests), their
+-- columns, and the ranges of their values.
 use Rattle.std.specs.Prelude.{◌≡◌, ℕ, pos, ◌≤◌, ◌<◌, ◌+◌, ◌-◌, ◌^◌, min, List, [], ◌∷◌, Bool, bytes_eq, ◌&&◌, ◌==◌, Option, Some, None, if◌then◌else◌, Result, Ok, IsUtf8, string_bytes, codes}
 use Rattle.sqlite.specs.declared.types.Value.{Value}
 use Rattle.sqlite.specs.declared.types.Value.TheVariants.{Null, Int, Real, Text, Blob}
@@ -77,12 +77,13 @@ pub record IsSoundStarted (p : Started) : Type 0 where
   pub row : IsSoundPoll p.row
   pub device : IsUtf8 p.device
 
--- True if the poll that a reader returned has the device and the numbers of the stored poll.
+-- True if the poll that was read from a result row has the device and the numbers of the stored
+-- poll.
 pub record IsStarted (p : Started) (a : Poll) : Type 0 where
   pub device : string_bytes a.device ≡ p.device
   pub row : a.row ≡ p.row
 
--- True if the number that a look-up returned equals the number of a poll.
+-- True if the number that a query returned is the number of the poll `p`.
 abbrev pub HasNumber : Started → ℕ → Type 0
 HasNumber p number = number ≡ p.row.number
 
@@ -108,7 +109,7 @@ poll_in row =
 
 -- ---- rows of the table `outcomes`
 
--- The columns of an outcome in the table `outcomes`.
+-- The columns of a row of `outcomes`, which says how a poll ended.
 abbrev pub outcome_columns : OutcomeRow → Row
 outcome_columns o =
     Int (pos o.poll) ∷ Null ∷ Int (pos o.moment) ∷ Int (pos (outcome_number o.outcome))
@@ -124,11 +125,11 @@ outcome_shown o =
 abbrev pub is_outcome_of : (poll : ℕ) → OutcomeRow → Bool
 is_outcome_of poll o = o.poll == poll
 
--- True if the outcome that a look-up returned equals the stored outcome.
+-- True if the outcome that a query returned equals the stored outcome.
 abbrev pub IsOutcome : OutcomeRow → OutcomeRow → Type 0
 IsOutcome o a = a ≡ o
 
--- True if the code of an outcome is less than 256. An example is a Modbus exception code.
+-- True if the code of an outcome, such as a Modbus exception code, is less than 256.
 abbrev pub HasCode : Outcome → Type 0
 HasCode outcome = outcome_code outcome ≤ 255
 
@@ -138,7 +139,7 @@ pub record IsSoundOutcome (o : OutcomeRow) : Type 0 where
   pub moment : o.moment ≤ latest_moment
   pub code : HasCode o.outcome
 
--- The kind of malformed response that a number in `outcomes` encodes, or None.
+-- The kind of malformed response that a number in `outcomes` encodes, or None for any other number.
 abbrev pub malformation_of : ℕ → Option Malformation
 malformation_of n =
     if n == 1 then Some malformation.WrongFunction else
@@ -147,7 +148,7 @@ malformation_of n =
     if n == 4 then Some malformation.WrongEcho else
     if n == 5 then Some malformation.WrongUnit else None
 
--- The cause of a lost poll that a number in `outcomes` encodes, or None.
+-- The cause of a lost poll that a number in `outcomes` encodes, or None for any other number.
 abbrev pub lost_of : ℕ → Option LostCause
 lost_of n =
     if n == 1 then Some lost.Gone else
@@ -163,7 +164,8 @@ abbrev pub lost_by : Option LostCause → Option Outcome
 lost_by None = None
 lost_by (Some why) = Some (Lost why)
 
--- The outcome of a poll that a number and a code in `outcomes` encode, or None.
+-- The outcome of a poll that the columns `outcome` and `code` encode, or None if they encode no
+-- outcome.
 abbrev pub outcome_of : (number code : ℕ) → Option Outcome
 outcome_of number code =
     if number == 1 then (if code == 0 then Some Answered else None) else
@@ -238,7 +240,7 @@ kind_word kind.Close = codes "close"
 kind_word kind.Void = codes "void"
 kind_word kind.Start = codes "start"
 
--- The kind of command that a word in the table `replies` names, or None.
+-- The kind of command that a word in the table `replies` names, or None for any other word.
 abbrev pub kind_of : List ℕ → Option CommandKind
 kind_of word =
     if bytes_eq word (codes "device") then Some kind.Device else
@@ -287,21 +289,21 @@ is_reply caller number k = bytes_eq k.caller caller && (k.number == number)
 abbrev pub IsCallNumber : ℕ → Type 0
 IsCallNumber number = number < 2 ^ 63
 
--- How a request compares with the stored request: `Same` with the kind of its command if the bytes
--- are equal, otherwise `Other`.
+-- How a request compares with the request that is stored under its idempotency key: `Same` if their
+-- bytes are equal (a retry), otherwise `Other`.
 abbrev pub repeat_as : CommandKind → (same : Bool) → Repeat
 repeat_as kind same = if same then Same kind else Other
 
--- True if the result of a comparison is `Same` for a request with the stored bytes, and `Other` for
--- any other request.
+-- True if a comparison with the stored request is correct: `Same` for a request with the stored
+-- bytes, and `Other` for any other request.
 abbrev pub IsRepeat : (request : List ℕ) → Kept → Repeat → Type 0
 IsRepeat request k a = a ≡ repeat_as k.kind (bytes_eq k.request request)
 
--- True if the time of a stored request is at most the store's latest timestamp.
+-- True if the time of a stored request is at most the latest timestamp that the store accepts.
 abbrev pub IsSoundKept : Kept → Type 0
 IsSoundKept k = k.moment ≤ latest_moment
 
--- The kind of command whose word is in a column, or None.
+-- The kind of command whose word is in a column, or None for any other value.
 abbrev pub kind_in : Value → Option CommandKind
 kind_in (Text word) = kind_of word
 kind_in (Int n) = None
@@ -317,8 +319,8 @@ same_bytes bytes (Int n) = None
 same_bytes bytes Null = None
 same_bytes bytes (Real x) = None
 
--- The comparison of a request with the stored request in a result row, or `Damaged` if a column is
--- invalid.
+-- The comparison of a request with the stored request in a result row (is it a retry?), or
+-- `Damaged` if a column is invalid.
 abbrev pub repeat_in : (request : List ℕ) → Row → Result Repeat RowFault
 repeat_in request row =
     and_then (or_damaged (same_bytes request (column row 0))) (λ same.
@@ -335,7 +337,7 @@ start_of p = p.row.started
 abbrev pub start_shown : Started → Row
 start_shown p = Int (pos p.row.started) ∷ []
 
--- True if the time that a look-up returned equals the time at which a poll started.
+-- True if the time that a query returned is the time at which the poll `p` started.
 abbrev pub HasStart : Started → ℕ → Type 0
 HasStart p moment = moment ≡ p.row.started
 
@@ -348,7 +350,7 @@ outcome_moment o = o.moment
 abbrev pub outcome_moment_shown : OutcomeRow → Row
 outcome_moment_shown o = Int (pos o.moment) ∷ []
 
--- True if the time that a look-up returned equals the time at which a poll ended.
+-- True if the time that a query returned is the time at which the outcome `o` ended its poll.
 abbrev pub HasOutcomeMoment : OutcomeRow → ℕ → Type 0
 HasOutcomeMoment o moment = moment ≡ o.moment
 
@@ -361,7 +363,7 @@ hold_moment h = h.row.moment
 abbrev pub hold_moment_shown : Held → Row
 hold_moment_shown h = Int (pos h.row.moment) ∷ []
 
--- True if the time that a look-up returned equals the timestamp of a rejected reading.
+-- True if the time that a query returned is the timestamp of the rejected reading `h`.
 abbrev pub HasHoldMoment : Held → ℕ → Type 0
 HasHoldMoment h moment = moment ≡ h.row.moment
 
@@ -374,6 +376,6 @@ reply_moment k = k.moment
 abbrev pub reply_moment_shown : Kept → Row
 reply_moment_shown k = Int (pos k.moment) ∷ []
 
--- True if the time that a look-up returned equals the response time of a stored request.
+-- True if the time that a query returned is the time of the response to the stored request `k`.
 abbrev pub HasReplyMoment : Kept → ℕ → Type 0
 HasReplyMoment k moment = moment ≡ k.moment

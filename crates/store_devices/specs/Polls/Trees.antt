@@ -1,4 +1,5 @@
--- The numbers of the B-trees that store the tables `polls`, `holds`, `outcomes` and `replies`.
+-- The numbers that identify the B-trees of the tables `polls`, `holds`, `outcomes` and `replies` in
+-- contracts and proofs.
 use Rattle.std.specs.Prelude.{ℕ}
 
 abbrev pub polls : ℕ

@@ -18,7 +18,7 @@ use poll_core::{MAX_TIMEOUT, MAX_WINDOW};
 use sqlite::Row;
 use store_tables::{GREATEST_PLACE, RowFault, function, scale, text, whole};
 
-/// Reads all columns of a device except its name.
+/// Reads all columns of a row of `devices` except the device's name.
 fn device(row: &Row) -> Result<DeviceRow, RowFault>
     ensures { result ≡ device_in row.now }
 {
@@ -34,7 +34,7 @@ fn device(row: &Row) -> Result<DeviceRow, RowFault>
     })
 }
 
-/// Reads a device from a row of `device_rows`.
+/// Reads a device from a result row of the query `device_rows`.
 pub fn read_device(row: &Row) -> Result<Device, RowFault>
     ensures read { ReadsRow row.now device_shown IsDevice IsSoundAdded result }
     ensures sound { IfOk result (λ a. IsSoundDevice a.row) }
@@ -44,7 +44,7 @@ pub fn read_device(row: &Row) -> Result<Device, RowFault>
     Ok(Device { name, row: numbers })
 }
 
-/// Reads the numeric columns of a point from a result row.
+/// Reads the numeric columns of a point from a result row of the query `point_rows`.
 fn point(row: &Row) -> Result<PointRow, RowFault>
     ensures { result ≡ point_in row.now }
 {
@@ -60,7 +60,7 @@ fn point(row: &Row) -> Result<PointRow, RowFault>
     })
 }
 
-/// Reads a point from a row of `point_rows`.
+/// Reads a point of a point list from a result row of the query `point_rows`.
 pub fn read_point(row: &Row) -> Result<Point, RowFault>
     ensures read { ReadsRow row.now point_shown IsPoint IsSoundListed result }
     ensures sound { IfOk result (λ a. IsSoundPoint a.row) }
@@ -77,8 +77,8 @@ pub fn read_point(row: &Row) -> Result<Point, RowFault>
     })
 }
 
-/// Reads a scale from the column at index `at`. By `kind`, the column has a fixed factor or the
-/// address of the factor.
+/// Reads the scale of an accounting register from the column at index `at`. By `kind`, the column
+/// has a fixed factor or the Modbus address of the factor.
 fn scale_at(row: &Row, kind: u64, at: usize) -> Result<RegisterScale, RowFault>
     ensures { result ≡ or_damaged (scale_of kind (column row.now at)) }
 {
@@ -103,8 +103,8 @@ pub fn fits_a_read(address: u16, scale: RegisterScale) -> bool
     }
 }
 
-/// Reads the scale of the counter at `address`. Reports damage if one Modbus read can't cover the
-/// scale together with the counter.
+/// Reads the scale of the counter at `address`. Reports `Damaged` if one Modbus read can't cover
+/// the scale together with the counter.
 fn reached_scale(row: &Row, address: u16, kind: u64) -> Result<RegisterScale, RowFault>
     ensures { result ≡ or_damaged (reached_from address (scale_of kind (column row.now 6))) }
 {
@@ -116,7 +116,8 @@ fn reached_scale(row: &Row, address: u16, kind: u64) -> Result<RegisterScale, Ro
     }
 }
 
-/// Reads all columns of an accounting register except its names.
+/// Reads all columns of a row of `registers` except the names of the accounting register and of its
+/// device.
 fn register(row: &Row) -> Result<RegisterRow, RowFault>
     ensures { result ≡ register_in row.now }
 {
@@ -133,7 +134,8 @@ fn register(row: &Row) -> Result<RegisterRow, RowFault>
     })
 }
 
-/// Reads an accounting register from a row of `register_rows`.
+/// Reads an accounting register (a named counter of a device) from a result row of the query
+/// `register_rows`.
 pub fn read_register(row: &Row) -> Result<Register, RowFault>
     ensures read { ReadsRow row.now register_shown IsRegister IsSoundRegistered result }
     ensures sound { IfOk result (λ a. IsSoundRegister a.row) }

@@ -1,4 +1,4 @@
-//! Statements on the table `devices`.
+//! SQL statements on the table `devices`, which has the polled Modbus devices.
 ghost use Rattle.sqlite.specs.Held.{state};
 ghost use Rattle.store_tables.specs.Content.{Edits, with_row};
 ghost use Rattle.store_tables.specs.Steps.{Steps, IsSameBorrow};
@@ -12,7 +12,7 @@ use crate::devices::rows::DeviceRow;
 use sqlite::{Alter, Connection, Error, Row, Transaction, params};
 use store_tables::number;
 
-/// Inserts a device.
+/// Inserts the row of a device into `devices`.
 pub fn insert_device<S: Alter>(
     tx: &mut Transaction<'_, S>,
     name: &str,
@@ -48,8 +48,8 @@ pub fn device_rows<S: Alter>(conn: &mut Connection<S>) -> Result<Vec<Row>, Error
     )
 }
 
-/// Queries, inside a transaction, the index of the last device. The first column of the result has
-/// the index.
+/// Queries the index of the last device inside a transaction, to number the next device. The result
+/// has one column.
 pub fn last_device_rows<S: Alter>(tx: &mut Transaction<'_, S>) -> Result<Vec<Row>, Error>
     ensures same_reference { IsSameBorrow tx.old.conn tx.new.conn }
     ensures asks { AsksInside S.Store tx.old.conn.now tx.new.conn.now result }

@@ -1,4 +1,5 @@
-//! Statements on the table `points`.
+//! SQL statements on the table `points`, which has the SunSpec points that each device is polled
+//! for.
 ghost use Rattle.std.specs.Prelude.{All};
 ghost use Rattle.sqlite.specs.Held.{state};
 ghost use Rattle.store_tables.specs.Content.{Edits, with_row, without_where};
@@ -54,7 +55,7 @@ fn delete_points<S: Alter>(tx: &mut Transaction<'_, S>, device: &str) -> Result<
     tx.execute("DELETE FROM points WHERE device = ?1", params![device])
 }
 
-/// Inserts points into a device's point list.
+/// Inserts points into a device's point list one by one, without deleting the points that it has.
 fn insert_points<S: Alter>(
     tx: &mut Transaction<'_, S>,
     device: &str,
@@ -78,7 +79,7 @@ fn insert_points<S: Alter>(
     Ok(())
 }
 
-/// Replaces the point list of a device.
+/// Replaces the point list of a device: deletes its points, and inserts the new ones.
 pub fn replace_points<S: Alter>(
     tx: &mut Transaction<'_, S>,
     device: &str,

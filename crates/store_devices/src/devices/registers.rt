@@ -1,4 +1,5 @@
-//! Statements on the table `registers`.
+//! SQL statements on the table `registers`, which has the accounting registers: named counters of
+//! devices.
 ghost use Rattle.std.specs.Prelude.{◌≡◌, IfOk, IfSome};
 ghost use Rattle.sqlite.specs.declared.types.Value.TheVariants.{Int};
 ghost use Rattle.sqlite.specs.Held.{state};
@@ -20,8 +21,8 @@ use sqlite::types::Value;
 use sqlite::{Alter, Connection, Error, Row, Transaction, params};
 use store_tables::{RowFault, number, signed};
 
-/// Returns the number that encodes a scale's kind in `registers`: 0 for a fixed factor, 1 for an
-/// address.
+/// Returns the number that encodes a scale's kind in `registers`: 0 for a fixed factor, 1 for the
+/// Modbus address of the factor.
 fn kind(scale: RegisterScale) -> u32
     ensures { result ≡ scale_kind scale }
 {
@@ -31,8 +32,8 @@ fn kind(scale: RegisterScale) -> u32
     }
 }
 
-/// Returns the value that encodes a scale in `registers`: its fixed factor, or the address of its
-/// factor.
+/// Returns the value that encodes a scale in `registers`: the fixed factor, or the Modbus address
+/// of the factor.
 fn value(scale: RegisterScale) -> Value
     ensures { result ≡ Int (scale_number scale) }
 {
@@ -42,7 +43,7 @@ fn value(scale: RegisterScale) -> Value
     }
 }
 
-/// Inserts an accounting register of a device.
+/// Inserts the row of an accounting register, a named counter of a device.
 pub fn insert_register<S: Alter>(
     tx: &mut Transaction<'_, S>,
     name: &str,
@@ -113,7 +114,7 @@ pub fn register_rows<S: Alter>(conn: &mut Connection<S>, device: &str) -> Result
     )
 }
 
-/// Queries the indices of a device's accounting registers.
+/// Queries the indices of a device's accounting registers, to count them.
 fn places_of<S: Alter>(conn: &mut Connection<S>, device: &str) -> Result<Vec<Row>, Error>
     ensures asks { Asks S.Store conn.old conn.new }
     ensures shows { ReportsRows S.Store conn.old conn.new registers register_columns result
@@ -135,8 +136,8 @@ pub fn register_count<S: Alter>(conn: &mut Connection<S>, device: &str) -> Resul
     Ok(rows.len())
 }
 
-/// Queries, inside a transaction, the index of the last accounting register. The first column of
-/// the result has the index.
+/// Queries the index of the last accounting register inside a transaction, to number the next one.
+/// The result has one column.
 pub fn last_register_rows<S: Alter>(tx: &mut Transaction<'_, S>) -> Result<Vec<Row>, Error>
     ensures same_reference { IsSameBorrow tx.old.conn tx.new.conn }
     ensures asks { AsksInside S.Store tx.old.conn.now tx.new.conn.now result }

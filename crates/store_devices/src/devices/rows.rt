@@ -1,9 +1,10 @@
-//! Devices, points and accounting registers, as the tables `devices`, `points` and `registers`
-//! store them.
+//! Devices, points and accounting registers (named counters of devices), as the tables `devices`,
+//! `points` and `registers` store them.
 
 use mb_wire::ReadFunction;
 
-/// A Modbus device without its name, as the table `devices` stores it.
+/// A Modbus device without its name, as the table `devices` stores it. The numbers are the settings
+/// of its polls.
 #[derive(Clone, Copy, Debug, PartialEq, Eq)]
 pub struct DeviceRow {
     /// The index of the device, from 1.
@@ -23,7 +24,7 @@ pub struct Device {
     pub row: DeviceRow,
 }
 
-/// A point of a device's point list, without its texts.
+/// A SunSpec point that a device is polled for, without its name, its type and its scale.
 #[derive(Clone, Copy, Debug, PartialEq, Eq)]
 pub struct PointRow {
     /// The index of the point in its point list, from 1.
@@ -53,7 +54,8 @@ pub enum RegisterScale {
     At(u16),
 }
 
-/// An accounting register without its name and the name of its device.
+/// An accounting register (a named counter of a device) without its name and the name of its
+/// device.
 #[derive(Clone, Copy, Debug, PartialEq, Eq)]
 pub struct RegisterRow {
     /// The index of the accounting register, from 1.

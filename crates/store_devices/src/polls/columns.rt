@@ -24,7 +24,7 @@ fn room(address: u16) -> u64
     if left < 125 { left } else { 125 }
 }
 
-/// Reads all columns of a poll except the name of its device.
+/// Reads all columns of a row of `polls` except the name of the device.
 fn numbers(row: &Row) -> Result<PollRow, RowFault>
     ensures { result ≡ poll_in row.now }
 {
@@ -46,7 +46,7 @@ fn numbers(row: &Row) -> Result<PollRow, RowFault>
     })
 }
 
-/// Reads a poll from a row of `pending_rows`.
+/// Reads a poll from a result row of the queries of `polls`, such as `pending_rows`.
 pub fn read_poll(row: &Row) -> Result<Poll, RowFault>
     ensures read { ReadsRow row.now poll_shown IsStarted IsSoundStarted result }
     ensures sound { IfOk result (λ a. IsSoundPoll a.row) }
@@ -59,7 +59,8 @@ pub fn read_poll(row: &Row) -> Result<Poll, RowFault>
     })
 }
 
-/// Returns the kind of malformed response that a number in `outcomes` encodes, or None.
+/// Returns the kind of malformed response that a number in `outcomes` encodes, or None for any
+/// other number.
 fn malformation(number: u64) -> Option<Malformation>
     ensures { result ≡ malformation_of number }
 {
@@ -73,7 +74,8 @@ fn malformation(number: u64) -> Option<Malformation>
     }
 }
 
-/// Returns the cause of a lost poll that a number in `outcomes` encodes, or None.
+/// Returns the cause of a lost poll that a number in `outcomes` encodes, or None for any other
+/// number.
 fn loss(number: u64) -> Option<LostCause>
     ensures { result ≡ lost_of number }
 {
@@ -86,8 +88,8 @@ fn loss(number: u64) -> Option<LostCause>
     }
 }
 
-/// Returns the outcome of a poll that a number and a code encode, or None if they encode no
-/// outcome.
+/// Returns the outcome of a poll that the columns `outcome` and `code` encode, or None if they
+/// encode no outcome.
 fn ended(number: u64, code: u8) -> Option<Outcome>
     ensures { result ≡ outcome_of number code }
 {
@@ -137,7 +139,8 @@ pub(crate) fn outcome(row: &Row) -> Result<OutcomeRow, RowFault>
     }
 }
 
-/// Reads the kind of a stored request's command from the column at index `at`.
+/// Reads the kind of a stored request's command (such as `device` or `install`) from the column at
+/// index `at`.
 fn kind(row: &Row, at: usize) -> Result<CommandKind, RowFault>
     ensures { result ≡ or_damaged (kind_in (column row.now at)) }
 {
@@ -150,7 +153,8 @@ fn kind(row: &Row, at: usize) -> Result<CommandKind, RowFault>
     }
 }
 
-/// Returns true if the blob in the column at index `at` equals `bytes`.
+/// Returns true if the blob in the column at index `at` equals `bytes`. Reports a column without a
+/// blob as `Damaged`.
 fn has_bytes(row: &Row, at: usize, bytes: &[u8]) -> Result<bool, RowFault>
     ensures { result ≡ or_damaged (same_bytes bytes.now (column row.now at)) }
 {
@@ -160,7 +164,7 @@ fn has_bytes(row: &Row, at: usize, bytes: &[u8]) -> Result<bool, RowFault>
     }
 }
 
-/// Compares the bytes of a request with the stored request in a result row.
+/// Compares the bytes of a request with the stored request in a result row, to detect a retry.
 pub(crate) fn repeat(row: &Row, request: &[u8]) -> Result<Repeat, RowFault>
     ensures { result ≡ repeat_in request.now row.now }
 {

@@ -11,7 +11,7 @@ use crate::polls::rows::RejectedRow;
 use sqlite::{Alter, Error, Row, Transaction, params};
 use store_tables::{number, signed};
 
-/// Inserts a rejected reading of a meter.
+/// Inserts a rejected reading of a meter into `holds`.
 pub fn insert_rejected<S: Alter>(
     tx: &mut Transaction<'_, S>,
     meter: &str,
@@ -40,8 +40,8 @@ pub fn insert_rejected<S: Alter>(
     )
 }
 
-/// Queries, inside a transaction, the index of the last rejected reading. The first column of the
-/// result has the index.
+/// Queries the index of the last rejected reading inside a transaction, to number the next one. The
+/// result has one column.
 pub fn last_hold_rows<S: Alter>(tx: &mut Transaction<'_, S>) -> Result<Vec<Row>, Error>
     ensures same_reference { IsSameBorrow tx.old.conn tx.new.conn }
     ensures asks { AsksInside S.Store tx.old.conn.now tx.new.conn.now result }

@@ -1,10 +1,11 @@
-//! The words that the table `replies` stores for the kinds of commands.
+//! Conversions between kinds of commands and the words that the table `replies` stores for them.
 ghost use Rattle.std.specs.Prelude.{◌≡◌};
 ghost use Rattle.store_devices.specs.Polls.Rows.{kind_word, kind_of};
 
 use office_events::CommandKind;
 
-/// Returns the kind of command that a word in the table `replies` names, or None.
+/// Returns the kind of command that a word in the table `replies` names, or None for any other
+/// word.
 pub(crate) fn parse_kind(word: &[u8]) -> Option<CommandKind>
     ensures { result ≡ kind_of word.now }
 {

@@ -1,4 +1,4 @@
-//! Statements on the table `outcomes`, which stores how each poll ended.
+//! SQL statements on the table `outcomes`, which stores how each poll ended.
 ghost use Rattle.std.specs.Prelude.{◌≤◌, IfOk, IfSome};
 ghost use Rattle.sqlite.specs.Held.{state};
 ghost use Rattle.store_tables.specs.Content.{Edits, with_row};
@@ -38,7 +38,7 @@ pub fn insert_outcome<S: Alter>(
     )
 }
 
-/// Queries the outcome of a poll.
+/// Queries the row of `outcomes` for a poll: how the poll ended.
 fn rows_of<S: Alter>(conn: &mut Connection<S>, poll: u64) -> Result<Vec<Row>, Error>
     requires place { poll ≤ greatest_place }
     ensures asks { Asks S.Store conn.old conn.new }

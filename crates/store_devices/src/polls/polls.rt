@@ -1,4 +1,4 @@
-//! Statements on the table `polls`.
+//! SQL statements on the table `polls`, which has a row for each Modbus read that was started.
 ghost use Rattle.std.specs.Prelude.{◌≤◌, IfOk, IfSome};
 ghost use Rattle.sqlite.specs.Held.{state};
 ghost use Rattle.store_tables.specs.Content.{Edits, with_row};
@@ -17,7 +17,7 @@ use crate::polls::rows::{Poll, PollRow};
 use sqlite::{Alter, Connection, Error, Row, Transaction, params};
 use store_tables::{GREATEST_PLACE, RowFault, first_whole, number};
 
-/// Inserts a poll of a device.
+/// Inserts the row of a poll, a Modbus read that was started, into `polls`.
 pub fn insert_poll<S: Alter>(
     tx: &mut Transaction<'_, S>,
     device: &str,
@@ -73,7 +73,7 @@ pub fn poll_at<S: Alter>(conn: &mut Connection<S>, number: u64) -> Result<Option
     }
 }
 
-/// Queries the number of the last poll.
+/// Queries the greatest number of a poll.
 fn last_rows<S: Alter>(conn: &mut Connection<S>) -> Result<Vec<Row>, Error>
     ensures asks { Asks S.Store conn.old conn.new }
     ensures shows { ReportsRows S.Store conn.old conn.new polls poll_columns result

@@ -1,4 +1,4 @@
-//! Statements on the table `replies`, which stores accepted requests by idempotency key.
+//! SQL statements on the table `replies`, which stores accepted requests by idempotency key.
 ghost use Rattle.std.specs.Prelude.{◌≤◌};
 ghost use Rattle.sqlite.specs.Held.{state};
 ghost use Rattle.store_tables.specs.Content.{Edits, with_row};
@@ -17,8 +17,8 @@ use office_events::CommandKind;
 use sqlite::{Alter, Connection, Error, Row, Transaction, params};
 use store_tables::RowFault;
 
-/// Stores an accepted request under its idempotency key, `caller` and `number`, with the kind of
-/// its command.
+/// Stores an accepted request under its idempotency key (`caller` and `number`), with the kind of
+/// its command, to detect retries.
 pub fn insert_kept_request<S: Alter>(
     tx: &mut Transaction<'_, S>,
     caller: &str,
@@ -56,8 +56,8 @@ fn rows_of<S: Alter>(conn: &mut Connection<S>, caller: &str, number: u64) -> Res
     )
 }
 
-/// Compares a request with the request that is stored under its idempotency key. Returns None if
-/// the key has no stored request.
+/// Compares a request with the request that is stored under its idempotency key (`caller` and
+/// `number`). Returns None if the key has no stored request.
 pub fn repeat_of<S: Alter>(
     conn: &mut Connection<S>,
     caller: &str,

@@ -6,7 +6,7 @@ use mb_wire::ReadFunction;
 use office_events::CommandKind;
 use poll_core::Outcome;
 
-/// A poll without the name of its device.
+/// A poll (a Modbus read that was started) without the name of its device.
 #[derive(Clone, Copy, Debug, PartialEq, Eq)]
 pub struct PollRow {
     /// The number of the poll, from 1.

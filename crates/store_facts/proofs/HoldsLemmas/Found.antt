@@ -1,4 +1,4 @@
--- The rows of `holds` that the queries for a meter's rejected readings return.
+-- The rows of `holds` (rejected readings) that the queries for a meter return.
 use Rattle.std.proofs.Common.{◌&&◌, nat_lt, pos, ℕ, List, [], ◌∷◌, Bool, true, bytes_eq, refl}
 use Rattle.sqlite.specs.declared.types.Value.TheVariants.{Int, Text}
 use Rattle.sqlite.specs.Order.{Row}

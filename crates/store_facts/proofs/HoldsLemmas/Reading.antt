@@ -35,7 +35,8 @@ one_of_eight cause.TooFast = (omega arith, omega arith)
 one_of_eight cause.TotalFull = (omega arith, omega arith)
 one_of_eight cause.NotBelowRange = (omega arith, omega arith)
 
--- If a column has a signed 16-bit integer, the reader returns this integer.
+-- If a value that passes a range test is sound, reading the column either returns the value or
+-- reports `Damaged` correctly.
 module _ {B : Type 0} (Sound : Type 0) (Is : B → Type 0) (next : ℤ → Result B RowFault) where
   tested : (b : Bool) (n : ℤ) → (Sound → b ≡ true) → IsFair Sound Is (next n) → IsFair Sound Is (and_then (or_damaged (if b then Some n else None)) next)
   tested true n sound rest = rest
@@ -56,7 +57,7 @@ fair_reading meter h =
     (fair_some S P _ (cause_of (cause_number h.row.cause)) h.row.cause (cause_back h.row.cause)
     (record { read = refl; fault = tt }))))))
 
--- ---- ranges of the values that the reader returns
+-- ---- if a row of `holds` can be read, all values of the rejected reading are in their ranges
 
 sixteen_if : (n m : ℤ) (b : Bool) → has_sixteen_bits n ≡ b → (if b then Some n else None) ≡ Some m → IsTrue (has_sixteen_bits m)
 sixteen_if n m true is e = let same : n ≡ m = cc in subst (λ k. IsTrue (has_sixteen_bits k)) same is
@@ -69,7 +70,7 @@ sixteen_bounds (Real x) n e = absurd (let f = e in cc)
 sixteen_bounds (Text t) n e = absurd (let f = e in cc)
 sixteen_bounds (Blob b) n e = absurd (let f = e in cc)
 
--- The rejected reading that five column values encode.
+-- The rejected reading that five column values encode, or `Damaged` if a column could not be read.
 abbrev of_columns : (meter : List ℕ) → (poll at raw : Option ℕ) → Option ℤ → (number : Option ℕ) → Result HeldReading RowFault
 of_columns meter poll at raw sf number =
     and_then (or_damaged poll) (λ p. and_then (or_damaged at) (λ a. and_then (or_damaged raw) (λ w. and_then (or_damaged sf) (λ s. and_then (or_damaged number) (λ n. and_then (or_damaged (cause_of n)) (λ c.

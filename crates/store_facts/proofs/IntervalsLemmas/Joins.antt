@@ -37,13 +37,13 @@ use Rattle.store_facts.proofs.IntervalsLemmas.Texts as text
 use Rattle.store_facts.proofs.StreamsLemmas.Compared.{all_found, at_least_is, below_is}
 use Rattle.store_facts.proofs.StreamsLemmas.Shared.{Reports}
 
--- ---- two tests of a WHERE clause, joined by AND
+-- ---- AND is associative, so the tests of a WHERE clause may be grouped in any way
 
 and_first : (a b c : Bool) → a && (b && c) ≡ (a && b) && c
 and_first true b c = refl
 and_first false b c = refl
 
--- ---- a meter's rows of `intervals`
+-- ---- the query for a meter's energy returns its rows of `intervals`, ordered by start
 
 pub of_meter : (meter : List ℕ) (db : Database) (content : Content) (is : List Interval) (rows : List Row) → AreTables db content → HaveIntervals is content
     → IsAnswer (scan 14 text.meter_intervals_tests text.shares_project text.meter_intervals_order no_limit) (overlay db.trees []) (Text meter ∷ []) rows
@@ -68,7 +68,7 @@ of_meter_between meter from till db content is rows has have a =
     db.trees rows is (laid_from false interval_columns (db.trees intervals) (content intervals) is apart.keyed (has.rows intervals there) have) a in
     record { found = it.0; shows = it.2; are = (it.0, it.1, refl); sound = λ sound. all_found IsSoundInterval asked is it.0 it.1.all sound }
 
--- ---- the order of two integers
+-- ---- if SQLite sorts rows by two integer columns, the pairs of integers are in order
 
 ranked : (a b : ℕ) (o p : Ordering) → MatchOrdering o (pos a <ℤ pos b) (pos a ≡ pos b) (pos b <ℤ pos a) → is_gt (ordering_then o p) ≡ false → (a < b) ⊎ ((a ≡ b) × (is_gt p ≡ false))
 ranked a b Less p h le = inl (omega (arith, ints))
@@ -83,7 +83,7 @@ in_both a b c d le =
       | inr same ↦ inr (same.0, in_order c d same.1)
     ]
 
--- ---- the rows of `intervals` for the meters at an accounting register
+-- ---- the query for an accounting register returns the rows of `intervals` for its meters
 
 map-pairs : {A B C D : Type 0} (f : A → C) (g : B → D) (xs : List A) (ys : List B) → map (λ (p : A × B). (f p.0, g p.1)) (pairs xs ys) ≡ pairs (map f xs) (map g ys)
 map-pairs {A} {B} {C} {D} f g [] ys = refl

@@ -33,8 +33,8 @@ damage_of None mwh = refl
 damage_of (Some s) None = refl
 damage_of (Some s) (Some m) = tt
 
--- If the energy of a quarter hour is read from a row of `intervals`, its values are in their
--- ranges. The reader reports any other row as damaged.
+-- If a row of `intervals` can be read, the start and the energy of its quarter hour are in their
+-- ranges.
 pub sound_share : (row : Row) → IfOk (share_in row) IsSoundShare
 sound_share row =
     sound_of (whole_in 0 latest_moment (column row 0)) (whole_in 0 greatest_total (column row 1)) (λ n is. (whole_bounds 0 latest_moment (column row 0) n is).1) (λ n is. (whole_bounds 0 greatest_total (column row 1) n is).1)

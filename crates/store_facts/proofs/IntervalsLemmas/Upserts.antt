@@ -1,4 +1,5 @@
--- The effect of INSERT .. ON CONFLICT DO UPDATE on `intervals`.
+-- The effect of INSERT .. ON CONFLICT DO UPDATE (an upsert) on `intervals`, the table of energy by
+-- quarter hour.
 use Rattle.std.proofs.Common.{◌≡◌, ◌≢◌, inl, inr, ℕ, ◌==◌, ℤ, pos, List, [], ◌∷◌, map, filter, drop, Bool, true, false, not, ◌&&◌, ◌||◌, bytes_eq, Option, Some, None, Ok, Err, Result, OnOk, refl, sym, ap, subst, ◌∙◌, IsPermutation, eqb-true}
 use Rattle.std.specs.List.{list_any, AllByRecursion}
 use Rattle.std.specs.Ordering.{is_eq, is_ne}
@@ -57,7 +58,7 @@ use Rattle.store_facts.specs.Intervals.Trees.{intervals}
 use Rattle.store_facts.proofs.IntervalsLemmas.Kept.{Kept, kept_columns, is_kept, adds, upserted}
 use Rattle.store_facts.proofs.IntervalsLemmas.Texts as text
 
--- ---- the test that finds the conflicting row of an upsert
+-- ---- SQL comparisons in an upsert agree with those of Booleans and integers
 
 truth_back : (b : Bool) → is_true (from_truth (Some b)) ≡ b
 truth_back true = refl
@@ -92,7 +93,7 @@ differ_is : (a b : ℤ) → differ (Int a) (Int b) ≡ not (same_id a b)
 unfolding binary
 differ_is a b = truth_back _ ∙ (other_than _ ∙ ap (λ o. not (is_eq o)) (value_cmp-Int a b))
 
--- ---- rows of `intervals` with distinct rowids
+-- ---- rowids are distinct, so a rowid identifies one row of `intervals`
 
 -- If two rows of `intervals` have equal rowids, they are the same row.
 same_row : (rows : List Row) → AreApart rows → (r s : Row) → Has rows r → Has rows s → same_id (id_of r) (id_of s) ≡ true → r ≡ s
@@ -107,7 +108,7 @@ same_row (x ∷ rows) apart r s (inr in_r) (inl is_s) same =
 same_row (x ∷ rows) apart r s (inr in_r) (inr in_s) same =
     same_row rows (record { keyed = apart.keyed.1; distinct = IsDistinct-tail same_id (id_of x) (map id_of rows) apart.distinct }) r s in_r in_s same
 
--- ---- rows of `intervals` that conflict in their meter and their start
+-- ---- two rows of `intervals` conflict if they have the same meter and the same start
 
 agree_is : (m n : ℤ) (k l : Kept) → agree plain (1 ∷ 2 ∷ []) (laid false m (kept_columns k)) (1 ∷ 2 ∷ []) (laid false n (kept_columns l)) ≡ is_kept l.meter l.start k
 agree_is m n k l = rw (first_key-plain, text_is k.meter l.meter, number_is k.start l.start, and_true) refl
@@ -172,8 +173,8 @@ module _ (meter : List ℕ) (start mwh : ℕ) where
     clashing_is : (n : ℤ) (k : Kept) → clashing (laid false n (kept_columns k)) ≡ is_kept meter start k
     clashing_is n k = rw (first_key-plain, text_is k.meter meter, number_is k.start start, and_true, or_false) refl
 
-    -- The row on which the upsert's UPDATE is evaluated: the parameters, the rowid of the existing
-    -- row, and the row `excluded`.
+    -- The values that the upsert's UPDATE may use: the parameters, the rowid of the existing row,
+    -- and the row `excluded`, which was not inserted.
     abbrev given : ℤ → Row
     given k = Text meter ∷ Int (pos start) ∷ Int (pos mwh) ∷ Int k ∷ Int fresh ∷ columns
 

@@ -1,4 +1,4 @@
--- Proofs of the effect of the statements on `intervals`.
+-- Proofs of the effect of each SQL statement that writes the table `intervals`.
 use Rattle.std.proofs.Common.{ℕ, List, [], ◌∷◌, Result, OnOk}
 use Rattle.sqlite.specs.declared.error.Error.{Error}
 use Rattle.sqlite.specs.State.{State, Executes}

@@ -1,4 +1,4 @@
--- Proofs about streaming the rows of a query to a sink one by one.
+-- Proofs about streaming the rows of a query to the caller's sink one by one.
 use Rattle.std.proofs.Common.{◌≡◌, inl, inr, List, [], ◌∷◌, ◌++◌, length, length-append, ℕ, ◌+◌, ◌≤◌, false, Ok, Err, Result, OnErr, IsErrAnd, refl, sym, ap, subst, arith, ◌∙◌}
 use Rattle.sqlite.specs.declared.error.Error.{Error}
 use Rattle.sqlite.specs.declared.error.Error.TheVariants.{InvalidQuery}
@@ -45,7 +45,8 @@ refused_why g sql params old new (Ok x) e is content clean = absurd (let f = is 
 refused_why g sql params old new (Err d) e is content clean = subst (FailsToQuery sql params (state g old) (state g new)) (let f : d ≡ e = cc in f) (content.err clean)
 
 module _ {S K T : Type 0} (g : Ghosts S) (sql : List ℕ) (params : Row) (reads : Row → Result T RowFault) (IsRow : T → Type 0) (old : Held S) (takes : K → T → K → Type 0) (before : K) where
-  -- The state of a stream after the first `count` rows were read and passed to the sink.
+  -- The state of a stream after it read the first `count` rows and passed their values to the
+  -- caller's sink.
   pub record Stands (now : Held S) (after : K) (count : ℕ) : Type 0 where
     pub cleaned : HasCleanDisk (state g now) → HasCleanDisk (state g old)
     pub mode : old.in_transaction ≡ false → now.in_transaction ≡ false

@@ -1,4 +1,4 @@
--- Proofs that a sink receives the values of the rows that a query returns.
+-- Proofs that the caller's sink receives the values that the result rows of a query encode.
 use Rattle.std.proofs.Common.{◌≡◌, inl, inr, List, [], ◌∷◌, ◌++◌, length, take, map, ℕ, false, Ok, Err, Result, IfOk, IfErr, refl, sym, ap, ap₂, subst, ◌∙◌}
 use Rattle.std.specs.List.{AllByRecursion}
 use Rattle.sqlite.specs.declared.types.Value.TheVariants.{Null}
@@ -25,7 +25,7 @@ use Rattle.store_tables.proofs.ReadLemmas.{IsFair}
 use Rattle.store_tables.proofs.StepLemmas.{on_ok, plain_in}
 use Rattle.store_facts.specs.Handing.{TookSome, AreRead, IsAsked, HandsOn, HandsOnQuery, IsReadFault, IsStreamFault}
 
--- ---- the value of one row
+-- ---- if one row is read, its value satisfies what the reader promises
 
 if_read : {T : Type 0} (r : Result T RowFault) (P : T → Type 0) (t : T) → IfOk r P → r ≡ Ok t → P t
 if_read (Ok x) P t h is = let same : x ≡ t = cc in subst P same h
@@ -35,7 +35,7 @@ if_damaged : {T : Type 0} (Sound : Type 0) (r : Result T RowFault) → IfErr r (
 if_damaged Sound (Ok x) h is = absurd (let e = is in cc)
 if_damaged Sound (Err f) h is = subst (IsRowFault Sound) (let e : f ≡ Damaged = cc in e) h
 
--- ---- the values of several rows
+-- ---- the values that are read from several rows are those that the rows encode, in order
 
 -- Proofs about the columns that a query returns for each row, and about the reader of the columns.
 module _ {X T : Type 0} (shown : X → Row) (of : X → T) (Sound : X → Type 0) (reads : Row → Result T RowFault) (fair : (x : X) → IsFair (Sound x) (λ t. t ≡ of x) (reads (shown x))) where
@@ -77,7 +77,7 @@ nothing reads takes before after [] [] is zip taken = taken
 nothing reads takes before after [] (t ∷ rows) is zip taken = absurd zip
 nothing reads takes before after (r ∷ given) rows is zip taken = absurd (let e = is in cc)
 
--- ---- a query with a known answer
+-- ---- a stream of a query whose result rows are known passes the expected values to the sink
 
 -- True if the result rows of a query encode the expected values in order. If the values in the
 -- tables are in their ranges, each result value is in its range.

@@ -1,5 +1,5 @@
 -- Proofs about the search for the nearest meter entry that is not voided. The search queries one
--- index after another.
+-- index after another until an index has no void.
 use Rattle.std.proofs.Common.{◌≡◌, ◌≤◌, ◌<◌, ◌+◌, ℕ, Bool, true, false, inl, inr, List, Ok, Err, Result, IsErrAnd, refl, sym, subst, ◌∙◌, arith}
 use Rattle.std.specs.Prelude.{nat_lt}
 use Rattle.std.proofs.lemmas.Bool.{cases_Bool}

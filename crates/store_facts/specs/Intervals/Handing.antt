@@ -1,4 +1,5 @@
--- Which rows of `intervals` a stream returns, and in which order.
+-- Which rows of `intervals` (a meter's energy by quarter hour) a stream returns, and in which
+-- order.
 use Rattle.std.specs.Prelude.{◌≡◌, ◌<◌, ◌≤◌, ◌⊎◌, ℕ, nat_le, nat_lt, Bool, bytes_eq, ◌&&◌, List, map}
 use Rattle.std.specs.List.{AllByRecursion}
 use Rattle.sqlite_keyed.specs.Lists.{pairs}
@@ -26,9 +27,10 @@ AreSharesOfMeter meter rows all =
 abbrev pub AreSoundIntervals : List Interval → Type 0
 AreSoundIntervals = AllByRecursion IsSoundInterval
 
--- ---- an accounting register's rows of `intervals`, ordered by meter index, then by start
+-- ---- an accounting register's rows of `intervals`, ordered by its meters, then by start
 
--- A pair of two lists: the rows of `installations` and the rows of `intervals`.
+-- The two tables that a query for an accounting register joins: the rows of `installations` (the
+-- meters) and of `intervals` (their energy).
 pub record Lying : Type 0 where
   pub installed : List Installed
   pub rows : List Interval
@@ -43,8 +45,8 @@ pub record HaveLying (lying : Lying) (content : Content) : Type 0 where
 abbrev pub lies_at : (register : List ℕ) → Installed × Interval → Bool
 lies_at register p = bytes_eq p.1.meter p.0.meter && is_at register p.0
 
--- The order of rows of `intervals`: first by the index of their meter's installation, then by the
--- start of the quarter hour.
+-- The order of rows of `intervals` for an accounting register: first by the index of the meter in
+-- `installations`, then by the start of the quarter hour.
 abbrev pub ComesAfter : Installed × Interval → Installed × Interval → Type 0
 ComesAfter p q =
     (installed_place p.0 < installed_place q.0)
@@ -58,7 +60,8 @@ AreSharesAt register lying all =
     × AreFound (lies_at register) ComesAfter (pairs lying.installed lying.rows) found
     × (all ≡ map (λ p. p.1.share) found)
 
--- True if every value of every row of `intervals` is in its range.
+-- True if every value of every row of `intervals` is in its range. The rows of `installations` only
+-- decide which rows are selected.
 abbrev pub AreSoundLying : Lying → Type 0
 AreSoundLying lying = AreSoundIntervals lying.rows
 

@@ -1,4 +1,4 @@
-//! Readers of the rows of `holds`.
+//! Readers of the rows of `holds`, the table of rejected readings.
 ghost use Rattle.std.specs.Prelude.{◌≡◌};
 ghost use Rattle.sqlite.specs.Order.{column};
 ghost use Rattle.store_tables.specs.Columns.{or_damaged};
@@ -11,7 +11,8 @@ use sqlite::Row;
 use sqlite::types::ValueRef;
 use store_tables::{GREATEST_PLACE, LATEST_MOMENT, RowFault, whole};
 
-/// Returns the cause of a rejection that a number in `holds` encodes, or None.
+/// Returns the cause of a rejected reading that a number in `holds` encodes, or None for any other
+/// number.
 fn cause(number: u64) -> Option<Cause>
     ensures { result ≡ cause_of number }
 {
@@ -67,7 +68,8 @@ fn read_reading(row: &Row, meter: &Name) -> Result<HeldReading, RowFault>
     }
 }
 
-/// A reader of rows of `holds` for one meter.
+/// A reader of result rows of `holds` for the readings of one meter. The rows don't have the
+/// meter's name.
 #[derive(Drop)]
 pub(crate) struct ReadingsOf {
     pub(crate) meter: Name,

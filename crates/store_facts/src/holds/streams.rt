@@ -1,4 +1,4 @@
-//! Streams of the rows of `holds`.
+//! Streams of the rows of `holds`, the table of rejected readings.
 ghost use Rattle.std.specs.Prelude.{◌≡◌, ◌<◌, ◌^◌};
 ghost use Rattle.store_facts.specs.Handing.{HandsOn};
 ghost use Rattle.store_facts.specs.Holds.{HaveHolds, AreReadingsOf, AreReadingsBetween, AreSoundHolds};

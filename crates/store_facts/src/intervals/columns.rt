@@ -1,4 +1,4 @@
-//! Readers of the rows of `intervals`.
+//! Readers of the rows of `intervals`, the table of energy by quarter hour.
 ghost use Rattle.std.specs.Prelude.{◌≡◌};
 ghost use Rattle.store_facts.specs.Intervals.Rows.{share_in};
 
@@ -17,7 +17,7 @@ fn read_share(row: &Row) -> Result<Share, RowFault>
     Ok(Share { start, mwh })
 }
 
-/// A reader of the rows of `intervals`.
+/// A reader of the result rows of `intervals`, which have the energy of quarter hours.
 #[derive(Drop)]
 pub(crate) struct Shares;
 

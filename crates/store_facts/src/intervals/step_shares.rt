@@ -36,7 +36,7 @@ fn add_share<S: Alter>(
 }
 
 /// Adds the energy between two consecutive entries of a meter to the meter's rows of `intervals`.
-/// Adds one share of the energy for each quarter hour between the entries, also a share of 0 mWh.
+/// Each quarter hour between the entries gets its part of the energy, even if it is 0 mWh.
 pub fn book_step<S: Alter>(
     tx: &mut Transaction<'_, S>,
     meter: &str,

@@ -1,4 +1,4 @@
-//! Streams of the rows of `intervals`.
+//! Streams of the rows of `intervals`, the table of energy by quarter hour.
 ghost use Rattle.std.specs.Prelude.{◌<◌, ◌^◌};
 ghost use Rattle.store_facts.specs.Handing.{HandsOn};
 ghost use Rattle.store_facts.specs.Intervals.Handing.{HaveIntervals, AreSharesOfMeter, AreSoundIntervals};

@@ -1,4 +1,5 @@
-//! Queries for an entry of a meter and for its void, inside a transaction.
+//! Queries for an entry of a meter and for its void (the row that cancels the entry), inside a
+//! transaction.
 ghost use Rattle.std.specs.Prelude.{◌≡◌, ◌≤◌, IfOk, IfSome};
 ghost use Rattle.sqlite.specs.Held.{state};
 ghost use Rattle.store_tables.specs.Answer.{IsFound, AnyOrder};
@@ -33,7 +34,7 @@ fn entry_rows_at<S: Alter>(
     )
 }
 
-/// Queries the row of `voids` for a meter's entry at an index.
+/// Queries the row of `voids` that cancels a meter's entry at an index.
 fn void_rows_at<S: Alter>(
     tx: &mut Transaction<'_, S>,
     meter: &str,

@@ -1,4 +1,5 @@
-//! Searches for the nearest meter entries before and after an entry that are not voided.
+//! Searches for the nearest meter entries before and after an entry that are not voided. Voiding
+//! the entry joins them into one step of energy.
 ghost use Rattle.std.specs.Prelude.{◌≤◌, IfOk};
 ghost use Rattle.sqlite.specs.Held.{state};
 ghost use Rattle.store_tables.specs.Entries.Rows.{voided_columns};
@@ -35,8 +36,8 @@ pub fn place_before<S: Alter>(
     Ok(1)
 }
 
-/// Returns the first index after `place` that has no void. Queries one index after another, upward
-/// from `place`.
+/// Returns the first index after `place` that no row of `voids` cancels. Queries one index after
+/// another, upward from `place`.
 pub fn place_after<S: Alter>(
     tx: &mut Transaction<'_, S>,
     meter: &str,

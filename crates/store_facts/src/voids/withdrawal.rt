@@ -36,8 +36,8 @@ fn take_share<S: Alter>(
 }
 
 /// Subtracts the energy between two consecutive entries of a meter from the meter's rows of
-/// `intervals`. Subtracts one share of the energy for each quarter hour between the entries. If a
-/// row's energy becomes 0 mWh, the row remains.
+/// `intervals`: from each quarter hour, its part of the energy. If a row's energy becomes 0 mWh,
+/// the row remains.
 pub fn take_step<S: Alter>(
     tx: &mut Transaction<'_, S>,
     meter: &str,

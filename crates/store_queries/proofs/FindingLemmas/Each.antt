@@ -25,8 +25,8 @@ module _ {X A : Type 0} (Is : X → A → Type 0) where
   filter_step true p q x a xs vs e f is more = rw (e, f) (is, more)
   filter_step false p q x a xs vs e f is more = rw (e, f) more
 
-  -- If two tests agree on each pair of related elements, filtering two related lists by the tests
-  -- gives related lists.
+  -- If two tests agree on each pair of related elements, two related lists are still related after
+  -- each was filtered by its test.
   pub each_filter : (p : X → Bool) (q : A → Bool) → ((x : X) (a : A) → Is x a → p x ≡ q a) → (xs : List X) (vs : List A) → AreEach Is xs vs → AreEach Is (filter p xs) (filter q vs)
   each_filter p q agree [] [] h = tt
   each_filter p q agree [] (a ∷ vs) h = absurd h

@@ -1,4 +1,5 @@
--- Proofs that combine the answers of several queries into the answer of a look-up.
+-- Proofs that combine the answers of several queries into the answer of a look-up, a function that
+-- runs them in sequence.
 use Rattle.std.proofs.Common.{◌≡◌, ℕ, List, map, Ok, Err, Result, IfOk, IfErr, IsErrAnd, refl, sym, subst, ◌∙◌, arith}
 use Rattle.std.specs.List.{AllByRecursion}
 use Rattle.sqlite.specs.Order.{Row}
@@ -17,7 +18,8 @@ use Rattle.store_queries.specs.Finding.Finding.{Finds, ReadsAll}
 use Rattle.store_queries.proofs.FindingLemmas.Looking.{holds_on, looks_then, stays}
 
 module _ {S : Type 0} (g : Ghosts S) (old new : Held S) where
-  -- If an answer satisfies a statement about the records, it also satisfies a weaker statement.
+  -- If an answer satisfies a statement about the records, another answer satisfies every statement
+  -- that follows from the first one.
   pub answered : {A B : Type 0} (a : A) (b : B) (P : List Fact → A → Type 0) (Q : List Fact → B → Type 0) (s t : List Fact → Type 0)
       → Finds g old new (Ok a) P s → ((facts : List Fact) → P facts a → Q facts b) → Finds g old new (Ok b) Q t
   answered a b P Q s t one reports = record {
@@ -29,8 +31,8 @@ module _ {S : Type 0} (g : Ghosts S) (old new : Held S) where
   pub become : {A : Type 0} (o a : A) (P : List Fact → A → Type 0) (s : List Fact → Type 0) → o ≡ a → Finds g old new (Ok o) P s → Finds g old new (Ok a) P s
   become o a P s is one = subst (λ x. Finds g old new (Ok x) P s) is one
 
-  -- If a look-up satisfies a postcondition about damage, it also satisfies a weaker postcondition
-  -- about damage.
+  -- A look-up may promise less about damage: if it reports `Damaged` only for some invalid records,
+  -- it does so for a wider set of invalid records.
   pub less_reported : {A : Type 0} (r : Result A RowFault) (P : List Fact → A → Type 0) (s t : List Fact → Type 0) → ((facts : List Fact) → t facts → s facts) → Finds g old new r P s → Finds g old new r P t
   less_reported r P s t weaker one = record {
     answer = one.answer;
@@ -49,7 +51,8 @@ module _ {S : Type 0} (g : Ghosts S) (old new : Held S) where
     looks = one.looks;
   }
 
-  -- If no valid record can have the value that a query returned, the look-up may report `Damaged`.
+  -- If a query returns a value that can't be converted, the look-up may return the fault of the
+  -- conversion, provided that the records justify it.
   pub unread : {A B : Type 0} (a : A) (e : RowFault) (r : Result B RowFault) (P : List Fact → A → Type 0) (Q : List Fact → B → Type 0) (s t : List Fact → Type 0)
       → Finds g old new (Ok a) P s → ((facts : List Fact) → P facts a → IsRowFault (t facts) e) → IsErrAnd r (λ d. d ≡ e) → Finds g old new r Q t
   unread a e (Ok b) P Q s t one fair fails = absurd fails
@@ -60,7 +63,8 @@ module _ {S : Type 0} (g : Ghosts S) (old new : Held S) where
     looks = one.looks;
   }
 
-  -- If the rows of a query are read, the values that were read are the answer of the look-up.
+  -- If a query returns rows, and a reader converts each row, the converted values are the answer of
+  -- the look-up.
   pub rows_read : {A T U X : Type 0} (found : U) (rows : List Row) (shown : X → Row) (IsSeen : X → A → Type 0) (IsSound : X → Type 0) (items : T → List A) (r : Result T RowFault)
       (stored : List Fact → List X) (P : List Fact → U → Type 0) (Q : List Fact → T → Type 0) (s t : List Fact → Type 0)
       → Finds g old new (Ok found) P s → ReadsAll rows shown IsSeen IsSound items r → ((facts : List Fact) → P facts found → rows ≡ map shown (stored facts))
@@ -113,7 +117,7 @@ unnamed g old e (Err d) P Named s named none fails = record {
   looks = λ zone. stays g zone old;
 }
 
--- If the second of two queries of a look-up fails, the look-up returns the fault of this query.
+-- If the second of two queries of a look-up fails, the look-up may return the fault of this query.
 pub fails_then : {S A B C : Type 0} (g : Ghosts S) (old mid new : Held S) (a : A) (e : RowFault) (r : Result C RowFault) (P : List Fact → A → Type 0) (Q : List Fact → B → Type 0) (R : List Fact → C → Type 0) (s t u : List Fact → Type 0)
     → Finds g old mid (Ok a) P s → Finds g mid new (Err e) Q t → ((facts : List Fact) → P facts a → u facts → t facts) → IsErrAnd r (λ d. d ≡ e) → Finds g old new r R u
 fails_then g old mid new a e (Ok c) P Q R s t u one two sound fails = absurd fails
@@ -146,7 +150,8 @@ made g old new a r P R s u one reports fails = record {
   looks = one.looks;
 }
 
--- If a result reports `Damaged` only for records with invalid values, its fault is permitted.
+-- A fault that is `Damaged`, and that occurs only if the records are invalid, is permitted by the
+-- contract of a look-up.
 pub if_damaged : {C : Type 0} (Sound : Type 0) (r : Result C RowFault) → IfErr r (λ e. (e ≡ Damaged) × (¬ Sound)) → IfErr r (IsRowFault Sound)
 if_damaged Sound (Ok c) h = tt
 if_damaged Sound (Err e) h = subst (IsRowFault Sound) (sym h.0) h.1

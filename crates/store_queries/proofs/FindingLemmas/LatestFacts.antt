@@ -16,7 +16,7 @@ use Rattle.office_rules.specs.Facts.{as_opening, as_entry, as_hold, as_void, as_
 use Rattle.store_queries.specs.Finding.Latest.{greatest, latest_entered, latest_voided, latest_held, latest_started, latest_ended, latest_replied}
 use Rattle.store_queries.proofs.FindingLemmas.Greatest.{none_past}
 
--- ---- no record has a later timestamp
+-- ---- the latest timestamp of each kind of record is at most the latest timestamp of all records
 
 module _ {X : Type 0} (pick : Fact → Option X) (moment : X → ℕ) (own : (f : Fact) (x : X) → pick f ≡ Some x → moment x ≡ moment_in f) where
   step : (f : Fact) (facts : List Fact) (o : Option X) → pick f ≡ o → greatest moment (filter_map pick facts) ≤ latest_in facts → greatest moment (cons_option o (filter_map pick facts)) ≤ max (moment_in f) (latest_in facts)
@@ -55,7 +55,7 @@ reply_at : (f : Fact) (x : Reply) → as_reply f ≡ Some x → x.at ≡ moment_
 reply_at (fact.Reply y) x is = let same_one : x ≡ y = cc in ap (λ (r : Reply). r.at) same_one
 reply_at f x is = absurd (let none = is in cc)
 
--- ---- some record has the latest timestamp
+-- ---- the latest timestamp of all records is at most the greatest of the kinds' latest timestamps
 
 max_least : (a b c : ℕ) → a ≤ c → b ≤ c → max a b ≤ c
 max_least a b c h k = omega arith
@@ -106,7 +106,8 @@ latest_least n (fact.Reply r ∷ facts) h =
 abbrev pub of_all : (opened entered voided started ended held replied : ℕ) → ℕ
 of_all opened entered voided started ended held replied = max (max (max opened entered) voided) (max (max started ended) (max held replied))
 
--- If each of seven numbers is at most `n`, the greatest of the seven numbers is at most `n`.
+-- If each of seven numbers is at most `n`, the greatest of them is at most `n`. The seven are the
+-- latest timestamps of the kinds of records.
 seven : (o b v s e h r n : ℕ) → o ≤ n → b ≤ n → v ≤ n → s ≤ n → e ≤ n → h ≤ n → r ≤ n → of_all o b v s e h r ≤ n
 seven o b v s e h r n p q t u w x y =
     max_least _ _ n (max_least _ _ n (max_least o b n p q) t) (max_least _ _ n (max_least s e n u w) (max_least h r n x y))

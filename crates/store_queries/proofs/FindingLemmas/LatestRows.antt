@@ -18,8 +18,8 @@ use Rattle.store_queries.proofs.FindingLemmas.Greatest.{permuted, last_greatest,
 use Rattle.store_queries.proofs.FindingLemmas.Moments.{by_meter, table_latest}
 use Rattle.store_queries.proofs.FindingLemmas.Looking.{IsReported}
 
--- True if an optional timestamp equals the expected timestamp of the records, where None counts as
--- 0.
+-- True if a query's optional timestamp equals the expected timestamp of the records. None, the
+-- answer for an empty table, counts as 0.
 abbrev pub IsMoment : (List Fact → ℕ) → List Fact → Option ℕ → Type 0
 IsMoment latest facts found = unwrap_or found 0 ≡ latest facts
 

@@ -42,7 +42,7 @@ use Rattle.store_queries.proofs.FindingLemmas.Each.{each_same, each_equal}
 use Rattle.store_queries.proofs.FindingLemmas.Ordered.{Rises, one_order}
 use Rattle.store_queries.proofs.FindingLemmas.ReadRows.{fair_if, fair_ok}
 
--- ---- points of a point list in order of index
+-- ---- if all points of a list have a property, each row of `points` encodes such a point
 
 module _ {X Y : Type 0} (row : ℕ → X → Y) where
   each_on : (P : X → Type 0) (before : ℕ) (xs : List X) → AllByRecursion P xs → AreEach (λ y x. (place : ℕ) × (y ≡ row place x) × P x) (placed_on row before xs) xs
@@ -58,7 +58,7 @@ module _ {X Y : Type 0} (row : ℕ → X → Y) where
     on_rises before [] = tt
     on_rises before (x ∷ xs) = (on_above (key (row (before + 1) x)) (before + 1) xs (let is = keyed (before + 1) x in omega (arith, is)), on_rises (before + 1) xs)
 
--- ---- the texts in rows of `points`
+-- ---- if a point list obeys the rules, the texts in its rows of `points` can be parsed
 
 suits_of : (points : List ListedPoint) (point : ListedPoint) (scale : PointScale) → HasLawfulScale points point scale → Suits point.kind scale
 suits_of points point Unscaled h = tt
@@ -92,7 +92,7 @@ all_spelled points l = recursion_from_All IsSpelled points (λ k d below.
           (some_there (scale_point points name) (IsGroup p) (subst (λ (scale : PointScale). HasLawfulScale points p scale) is scaled).1))).0;
     })
 
--- ---- one point and the row of `points` that encodes it
+-- ---- reading one row of `points` returns the point that the row encodes
 
 never : {A : Type 0} (S : Type 0) (Is : A → Type 0) → (S → ⊥) → IsFair S Is (Err Damaged)
 never S Is none = record { read = tt; fault = none }
@@ -134,7 +134,7 @@ point_found a r is x seen =
     subst (IsFair (IsReadablePoint x) (IsPointOf x)) (sym (is ∙ (λ i. point_with (seen.name i) (seen.kind i) (seen.scale i) (seen.row i))))
     (fair_parts x (type_of x.kind) (scale_spelled x.scale) refl refl)
 
--- ---- the complete point list of a device
+-- ---- the query for a device's points returns the rows of its complete point list, in order
 
 pub points_shown : (facts : List Fact) (device : List ℕ) (content : Content) (rows : List Row) (a : ArePoints facts content) → Shows (is_point_of device) (FirstFirst point_place) point_shown a.rows rows
     → rows ≡ map point_shown (placed_on (listed device) 0 (points_of facts device))
@@ -166,7 +166,7 @@ all_found P p (y ∷ ys) x all is = found_step P (p y) y x (find p ys) all.0 (al
 write_of : List Fact → (device : List ℕ) → Option DeviceList
 write_of facts device = find (λ (put : DeviceList). same put.device device) (lists_in facts)
 
--- True if the records have a point list of a device, and the list has the given points.
+-- True if the records have a point list of a device, and the points of this list are `points`.
 pub record HasList (facts : List Fact) (device : List ℕ) (points : List ListedPoint) : Type 0 where
   pub list : Planned
   pub is : list_of facts device ≡ Some list

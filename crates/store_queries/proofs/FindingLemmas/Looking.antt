@@ -1,4 +1,5 @@
--- Proofs about a query after `check_open`, and about several look-ups in sequence.
+-- Proofs about a query after `check_open` (which fails if the database was closed), and about
+-- several look-ups in sequence.
 use Rattle.std.proofs.Common.{◌≡◌, ◌⊎◌, inl, inr, ℕ, List, false, Ok, Err, Result, IfOk, IfErr, OnOk, IsErrAnd, IsTrue, refl, sym, subst, ◌∙◌, arith}
 use Rattle.std.specs.List.{AllByRecursion}
 use Rattle.sqlite.specs.Order.{Row}
@@ -20,7 +21,7 @@ use Rattle.store_facts.specs.Tables.{AreOf}
 use Rattle.store_facts.specs.Holding.{HasFacts, HoldsFacts, OnlyLooks}
 use Rattle.store_queries.specs.Finding.Finding.{Finds, OfLawful}
 
--- ---- several look-ups in sequence
+-- ---- a look-up changes no record, so a second look-up sees the same records
 
 module _ {S : Type 0} (g : Ghosts S) (zone : List ℕ) where
   pub holds_on : (old new : Held S) (facts : List Fact) → OnlyLooks g zone old new → HoldsFacts g zone old facts → HoldsFacts g zone new facts
@@ -47,7 +48,7 @@ module _ {S : Type 0} (g : Ghosts S) (zone : List ℕ) where
     goes = λ facts holds clean. still_goes (state g a);
   }
 
--- ---- a query after `check_open`
+-- ---- a query after `check_open` sees the committed rows, and returns the look-up's result
 
 -- The state of a connection after `check_open` returned Ok. Queries then see the committed rows.
 pub record Touched {S : Type 0} (g : Ghosts S) (old mid : Held S) : Type 0 where
@@ -56,7 +57,7 @@ pub record Touched {S : Type 0} (g : Ghosts S) (old mid : Held S) : Type 0 where
   pub kept : HasCleanDisk (state g mid) → KeepsCommit (state g old) (state g mid)
   pub survives : Survives (state g old) (state g mid) (λ _. ⊥)
 
--- True if the tables that queries see encode the records.
+-- True if the tables that the queries of a connection see encode the given records.
 pub record HasSeen {S : Type 0} (g : Ghosts S) (zone : List ℕ) (mid : Held S) (facts : List Fact) : Type 0 where
   pub content : Content
   pub tables : AreTables (state g mid).now content
@@ -92,7 +93,7 @@ module _ {S : Type 0} (g : Ghosts S) (old mid : Held S) where
     goes = λ facts holds clean. went_on (state g old) (state g mid) (λ _. ⊥) clean survives;
   }
 
-  -- If `check_open` fails, its error is the fault of the look-up.
+  -- If `check_open` fails, the look-up returns its error and runs no query.
   pub not_touched : {A : Type 0} (e : Error) (r : Result A RowFault) (Says : List Fact → A → Type 0) (AreSound : List Fact → Type 0)
       → mid.in_transaction ≡ false → (HasCleanDisk (state g mid) → KeepsCommit (state g old) (state g mid)) → Survives (state g old) (state g mid) (λ _. ⊥)
       → (HasCleanDisk (state g mid) → IsStoreError (state g old) (state g mid) e) → IsErrAnd r (λ d. d ≡ Sql e) → Finds g old mid r Says AreSound
@@ -138,8 +139,8 @@ module _ {S : Type 0} (g : Ghosts S) (old mid : Held S) where
                 goes_then (state g old) (state g mid) (state g new) (first.goes facts holds (asks.clean clean)) (went_on (state g mid) (state g new) (λ _. ⊥) clean (asks.survives s.content s.tables));
           }
 
-      -- If the query after `check_open` has a permitted fault, the fault is also permitted for both
-      -- calls together.
+      -- If a contract permits the fault of the query after `check_open`, it also permits the fault
+      -- for both calls together.
       pub since : (zone : List ℕ) (facts : List Fact) → HoldsFacts g zone old facts → HasCleanDisk (state g new) → (Sound : Type 0) (f : RowFault) → IsFault (state g mid) (state g new) Sound f → IsFault (state g old) (state g new) Sound f
       since zone facts holds clean Sound f why =
           let s = seen zone facts holds (asks.clean clean) in
@@ -184,8 +185,8 @@ module _ {S : Type 0} (g : Ghosts S) (old mid : Held S) where
       looks = looks_asked new it.asks;
     }
 
-    -- If the rows of one table determine an answer about the records, the query on this table gives
-    -- the look-up's answer.
+    -- If the rows of one table determine an answer about the records, the query of this table
+    -- returns the answer of the look-up.
     pub reported_of : {A X : Type 0} (new : Held S) (tree : ℕ) (columns : X → Row) (IsSound : X → Type 0) (r : Result A RowFault) (Answers : List X → A → Type 0)
         → LooksUp g mid new tree columns IsSound r Answers → (Says : List Fact → A → Type 0) (AreSound : List Fact → Type 0)
         → ((zone : List ℕ) (facts : List Fact) (content : Content) → AreOf zone facts content → IsReported facts content tree columns IsSound Answers Says AreSound)

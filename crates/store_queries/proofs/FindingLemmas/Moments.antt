@@ -32,7 +32,7 @@ use Rattle.store_queries.specs.Finding.Latest.{greatest, latest_entered}
 use Rattle.store_queries.proofs.FindingLemmas.Greatest.{permuted, none_past, at_most, below}
 use Rattle.store_queries.proofs.FindingLemmas.Lists.{all_found}
 
--- ---- timestamps in a journal
+-- ---- the timestamps in a meter's journal (its history) are those of the journal's entries
 
 abbrev moments_in : Journal → List ℕ
 moments_in [] = []
@@ -55,7 +55,7 @@ void_if : (b : Bool) (one other : List EntryRow) (ms : List ℕ) → moments_of 
 void_if true one other ms h k = h
 void_if false one other ms h k = k
 
--- If an entry is voided, the timestamps in the meter's journal stay unchanged.
+-- If an entry is voided, the timestamps in the meter's journal (its history) stay unchanged.
 void_moments : (opening : Last) (place : ℕ) (rows : List EntryRow) → moments_of (with_void opening place rows) ≡ moments_of rows
 void_moments opening place [] = refl
 void_moments opening place (row ∷ rows) =
@@ -70,7 +70,8 @@ journal_moments opening (Entered k e ∷ lines) = ap (λ ms. moment_of e ∷ ms)
 journal_moments opening (Held reading cause ∷ lines) = journal_moments opening lines
 journal_moments opening (Voided place ∷ lines) = void_moments opening place (rows_of opening lines) ∙ journal_moments opening lines
 
--- ---- timestamps in a meter's rows of `entries`
+-- ---- if a property holds for all timestamps of a meter's entries, it holds in its rows of
+-- `entries`
 
 module _ (P : ℕ → Type 0) where
   entered_all : (o : Opening) (rows : List EntryRow) → AllByRecursion P (moments_of rows) → P o.at → AllByRecursion (λ e. P (entry_moment e)) (entered_rows o rows)
@@ -89,7 +90,8 @@ module _ (P : ℕ → Type 0) where
   line_out true k e lines h = (λ is. h.0, h.1)
   line_out false k e lines h = (λ is. absurd (let f : false ≡ true = is in cc), h)
 
-  -- If a journal line is not a meter entry, it has no timestamp.
+  -- If a line of a meter's journal (its history) is a rejected reading or a void, it adds no
+  -- timestamp to those of the meter's entries.
   other_in : (b : Bool) (line : Line) (lines : Journal) → moments_in (line ∷ lines) ≡ moments_in lines → moments_in (cons_option (cond b (Some line) None) lines) ≡ moments_in lines
   other_in true line lines is = is
   other_in false line lines is = refl
@@ -120,7 +122,7 @@ module _ (P : ℕ → Type 0) where
   journal_back meter (fact.Outcome e ∷ facts) h = journal_back meter facts h
   journal_back meter (fact.Reply r ∷ facts) h = journal_back meter facts h
 
--- ---- timestamps of all meter entries of the records
+-- ---- the timestamps of all meter entries of the records are those of the meters' journals
 
 some_after : {X : Type 0} (b : Bool) (x : X) (o : Option X) → is_some o ≡ true → is_some (cond b (Some x) o) ≡ true
 some_after true x o h = refl
@@ -182,7 +184,7 @@ module _ (facts : List Fact) (n : ℕ) where
   pub entries_below : (meter : List ℕ) → latest_entered facts ≤ n → AllByRecursion (λ e. Early (entry_moment e)) (entries_of facts meter)
   entries_below meter h = below_found meter (opening_of facts meter) refl h
 
--- ---- the latest timestamp in the table `entries`
+-- ---- the latest timestamp in the table `entries` is the latest of all meters' entries
 
 all_own : (P : entries.Entered → Type 0) (p : entries.Entered → Bool) (rows : List entries.Entered) → AllByRecursion P (filter p rows) → AllByRecursion (λ e. p e ≡ true → P e) rows
 all_own P p rows h =

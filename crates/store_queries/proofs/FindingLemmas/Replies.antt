@@ -1,5 +1,5 @@
--- Proofs about stored requests, and about comparing a request with the request that is stored under
--- its idempotency key.
+-- Proofs about stored requests, and about comparing a retried request with the request that is
+-- stored under its idempotency key.
 use Rattle.std.proofs.Common.{◌≡◌, ℕ, ◌+◌, ◌≤◌, ◌<◌, ◌^◌, ◌==◌, ◌&&◌, Bool, true, false, cond, if◌then◌else◌, inl, inr, List, [], ◌∷◌, map, filter, length, find, bytes_eq, Option, Some, None, refl, sym, ap, subst, ◌∙◌, arith}
 use Rattle.std.specs.Option.{option_map}
 use Rattle.std.proofs.lemmas.Bool.{cond-true, cond-false, eqb-true, ne_eqb, and_parts}

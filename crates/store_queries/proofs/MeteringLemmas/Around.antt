@@ -35,7 +35,7 @@ use Rattle.store_queries.proofs.MeteringLemmas.Picked.{none_passes}
 use Rattle.store_queries.proofs.MeteringLemmas.Shapes.{HasShape, IsPlain, found_there}
 use Rattle.store_facts.specs.Voids.Places.{names}
 
--- ---- the voids of a meter, by index
+-- ---- the rows of `voids`, which cancel meter entries, name exactly the voided entries
 
 turned : (a b : ℕ) → (a == b) ≡ (b == a)
 turned a b = elim (cases_Bool (a == b)) [
@@ -55,13 +55,14 @@ named_of meter place [] = refl
 named_of meter place (v ∷ vs) =
     named_step (bytes_eq v.meter meter) (λ (w : Voided). place == w.place) v (filter (is_void_of meter) vs) (v.place == place) (names meter place vs) (turned place v.place) (named_of meter place vs)
 
--- The table `voids` has a void for exactly the meter entries that the journal marks as voided.
+-- The table `voids` has a row for exactly those indices of a meter whose entries are marked as
+-- voided in the meter's journal (its history).
 pub names_are : (facts : List Fact) (meter : List ℕ) (place : ℕ) → names meter place (map voided (voids_in facts)) ≡ is_voided place (journal_of facts meter)
 names_are facts meter place = named_of meter place (map voided (voids_in facts)) ∙ voids_are meter place facts
 
--- ---- the meter entries of a journal between two indices
+-- ---- the entries of a meter's journal (its history) between two indices
 
--- True if every meter entry of a journal between two indices is voided.
+-- True if every entry in a meter's journal (its history) between two indices is voided.
 abbrev pub AreStruck : Journal → (low high : ℕ) → Type 0
 AreStruck lines low high = (place : ℕ) → low < place → place < high → is_voided place lines ≡ true
 
@@ -83,12 +84,13 @@ module _ (o : Opening) where
   few [] n numbered le = (omega (arith, le), tt)
   few (row ∷ rows) n numbered le = ((let at = numbered.0 in omega (arith, at, le)), few rows n numbered.1 (omega (arith, le)))
 
-  -- No row of a meter in `entries` has an index greater than the last index of the meter's journal.
+  -- If an index is greater than the number of a meter's entries, no row of the meter in `entries`
+  -- has this index.
   none_later : (Q : Entered → Type 0) (place : ℕ) (rows : List EntryRow) → AreNumbered rows → length rows + 1 < place → AllByRecursion (λ (e : Entered). e.entry.place ≡ place → Q e) (entered_rows o rows)
   none_later Q place rows numbered late =
       all_weaker (λ (e : Entered). e.entry.place ≤ length rows + 1) (λ (e : Entered). e.entry.place ≡ place → Q e) (λ e le same. absurd (omega (arith, le, same, late))) (entered_rows o rows) (few rows (length rows + 1) numbered (omega arith))
 
-  -- If an index is from 1 to a meter's last index, `entries` has a row of the meter with this
+  -- If an index is from 1 to the meter's last index, `entries` has a row of the meter with this
   -- index.
   pub all_places : (place : ℕ) (rows : List EntryRow) → AreNumbered rows → 1 ≤ place → AllByRecursion (λ (e : Entered). e.entry.place ≡ place → ⊥) (entered_rows o rows) → length rows + 1 < place
   all_places place [] numbered some none = omega (arith, some, (λ (is : 1 ≡ place). none.0 is))
@@ -100,7 +102,7 @@ module _ (o : Opening) where
         | inr off ↦ grind (arith, nat_tests, rest, at, off)
       ]
 
-  -- ---- the row of the meter entry at an index
+  -- ---- the row of `entries` at an index encodes the meter's entry at this index
 
   pub record AtRow (place : ℕ) (rows : List EntryRow) (e : stored.EntryRow) : Type 0 where
     pub around : Around
@@ -129,7 +131,7 @@ module _ (o : Opening) where
         (λ e h same. past_row place row rows e.entry numbered (h same)) (entered_rows o rows) (entries_at_rows place rows numbered.1 late),
   )
 
-  -- ---- the state of the counter before a meter entry
+  -- ---- the counter's state before an entry is the one after the last earlier valid entry
 
   counter_of_row : (sf : ℤ) (last : Last) (place : ℕ) (k : EntryKind) (e : Entry) (stands : Bool) → HasShape k e → sf ≡ (after last e).sf
       → counter_after (entry_row sf (record { place = place; kind = k; entry = e; stands = stands })) ≡ after last e
@@ -207,7 +209,8 @@ module _ (o : Opening) where
         found_rest_before place row None around h = absurd (let e = h in cc)
         found_rest_before place row (Some rest) around h = (rest, refl, ap (λ (a : Around). a.before) (sym (same_Some (passed row rest) around h)))
 
-    -- ---- the next meter entry that is not voided
+    -- ---- the next entry after an index that is not voided, by the rows and by the journal
+    -- (history)
 
     found_rest_next : (row : EntryRow) (o : Option Around) (around : Around) → option_map (passed row) o ≡ Some around → (rest : Around) × (o ≡ Some rest) × (around.next ≡ option_or rest.next (if_standing row))
     found_rest_next row None around h = absurd (let e = h in cc)
@@ -272,12 +275,12 @@ module _ (o : Opening) where
           )
     ]
 
-  -- ---- the opening of a meter as its only row
+  -- ---- a meter's row at index 1 has the timestamp of its opening, the record that installs it
   pub opening_alone : (rows : List EntryRow) → AreNumbered rows → AllByRecursion (λ (e : Entered). e.entry.place ≡ 1 → e.entry.moment ≡ o.at) (entered_rows o rows)
   opening_alone [] numbered = (λ is. refl, tt)
   opening_alone (row ∷ rows) numbered = ((λ (is : row.place ≡ 1). absurd (let at = numbered.0 in omega (arith, is, at))), opening_alone rows numbered.1)
 
--- ---- from all rows of a meter to the row of one entry
+-- ---- a property of all rows of a meter at an index holds for the row that a query finds there
 
 module _ (meter : List ℕ) (o : Opening) (rows : List EntryRow) (table : List Entered) (are : IsPermutation (filter (is_of meter) table) (entered_rows o rows)) where
   lifted : (Q : Entered → Type 0) (place : ℕ) → AllByRecursion (λ (e : Entered). e.entry.place ≡ place → Q e) (entered_rows o rows) → AllByRecursion (λ e. is_entry meter place e ≡ true → Q e) table

@@ -40,7 +40,8 @@ use Rattle.store_facts.proofs.Energy.{found_recorded}
 use Rattle.store_queries.specs.Metering.Entries.{AreJournal, ShowsEntries, ShowsVoids, FindsJournal, row_among, IsFaultOfJournal, CanBePlaced}
 use Rattle.store_queries.proofs.MeteringLemmas.Journals.{numbered, journal_back, entries_in_order}
 
--- If the records have an opening for a meter, the opening has the meter's name.
+-- If a search of the records for a meter's opening (the record that installs it) finds one, the
+-- opening has the meter's name.
 named : (facts : List Fact) (meter : List ℕ) (o : Opening) → opening_of facts meter ≡ Some o → o.meter ≡ meter
 named facts meter o there = same_text o.meter meter (find_passes (λ (x : Opening). same x.meter meter) (openings_in facts) o there)
 
@@ -76,7 +77,8 @@ journal_is journals stand change facts meter entries voids rows shown void are =
     ap reverse (are shown.entries void.voids shown.shown void.shown ∙ ap (filter_map (row_among void.voids)) (shown.all o there) ∙ journal_back journals stand change facts o void.lawful recorded void.voids all)
     ∙ reverse-reverse (rows_of facts o)
 
--- The answer for an index of a meter depends on whether the meter has an opening.
+-- If the records have a state of a meter, the meter was installed. Its entry at an index then
+-- follows from its opening, the record of the installation.
 by_opening : (facts : List Fact) (place : ℕ) (whole : Installation) (found : Option EntryContext) (opening : Option Opening) → Some whole ≡ option_map (installation_of facts) opening
     → ((o : Opening) → opening ≡ Some o → whole ≡ installation_of facts o → found ≡ option_map (place_in facts o) (row_at place (rows_of facts o)))
     → found ≡ option_and_then (λ o. option_map (place_in facts o) (row_at place (rows_of facts o))) opening
@@ -128,7 +130,8 @@ pub account_before : (o : Opening) (place index : ℕ) (rows firsts : List Entry
 account_before o place index rows firsts row next found_at is can =
     subst (λ (rs : List EntryRow). HasAccount (installed o) (entries_in (latest_first rs))) (sym is) (can.account (record { before = latest_first (take index rows); row = row; next = next }) found_at)
 
--- The state before an entry of a recorded meter can always be computed.
+-- If the records are lawful (accepted by the rules), the state of a meter before each of its
+-- entries can be computed.
 can_be_placed : InstallationsAreInRange → JournalsFit → RowsStand → PlacesWereKept → (facts : List Fact) (o : Opening) (place : ℕ) (rows : List EntryRow) → AreLawful facts → IsRecorded facts o
     → latest_first rows ≡ rows_of facts o → CanBePlaced o rows place
 can_be_placed ranges journals stand kept facts o place rows lawful there are =

@@ -1,4 +1,5 @@
--- Proofs that the rows of the tables determine the meters of the records.
+-- Proofs that the rows of the tables determine the meters of the records: each meter's opening (the
+-- record that installs it) and its state.
 use Rattle.std.proofs.Common.{◌≡◌, ℕ, ◌+◌, ◌==◌, ◌&&◌, Bool, true, false, List, [], ◌∷◌, map, filter, length, Option, Some, None, option_map, string_bytes, bytes_eq, refl, sym, ap, subst, ◌∙◌, arith, eqb-true, IsPermutation}
 use Rattle.std.specs.List.{AllByRecursion}
 use Rattle.std.proofs.lemmas.Bool.{and_parts}
@@ -32,11 +33,12 @@ use Rattle.store_facts.proofs.Placed.{last_counts}
 use Rattle.store_queries.specs.Metering.Meters.{IsRowOf, FindsRow, FindsRange, FindsFirst, CountsOpenings, opening_from, standing_from, IsStanding}
 use Rattle.store_queries.proofs.MeteringLemmas.Picked.{found_has, none_placed, none_mapped, none_passes, last_placed, all_placed, all_mapped}
 
--- If the rules accepted the records, no meter has more than one opening.
+-- If the records are lawful, no meter has two openings: a search by an opening's meter finds this
+-- opening.
 pub alone : (facts : List Fact) → AreLawful facts → AllByRecursion (λ (o : Opening). opening_of facts o.meter ≡ Some o) (openings_in facts)
 alone facts lawful = recursion_from_All _ _ (each_found (λ (o : Opening). o.meter) (openings_in facts) (openings_apart facts lawful))
 
--- ---- a meter's row of `installations`
+-- ---- the query of `installations` for a meter finds the row of the meter, if it was installed
 
 pub row_found : (facts : List Fact) (meter : List ℕ) → AreLawful facts → (found : Option stored.Installation)
     → IsFound (is_meter meter) IsInstalled (placed (installed_row facts) (openings_in facts)) found → FindsRow facts (opening_of facts meter) found
@@ -67,7 +69,7 @@ pub counted : (facts : List Fact) (found : Option ℕ) → IsLast every HasInsta
 counted facts None h = let n = last_counts (installed_row facts) installed_place (λ place o. refl) (openings_in facts) None h in omega (arith, n)
 counted facts (Some place) h = let n = last_counts (installed_row facts) installed_place (λ place o. refl) (openings_in facts) (Some place) h in omega (arith, n)
 
--- ---- a meter's row of `ranges`
+-- ---- the query of `ranges` for a meter finds the counter range that the meter was installed with
 
 pub range_found : (facts : List Fact) (meter : List ℕ) → AreLawful facts → (found : Option ℕ) → IsFound (is_range_of meter) HasRange (map ranged (openings_in facts)) found → FindsRange meter facts found
 range_found facts meter lawful None h = none_mapped ranged (λ (o : Opening). same o.meter meter) (is_range_of meter) (λ o. refl) (openings_in facts) h
@@ -81,13 +83,14 @@ range_found facts meter lawful (Some range) h = λ opening there.
     let this : o ≡ opening = same_Some o opening (sym here ∙ there) in
     h.1 ∙ ap (λ r. r.range) it.0.1 ∙ ap (λ (x : Opening). x.range) this
 
--- ---- the row of a meter's opening in `entries`
+-- ---- the query of `entries` for a meter's first entry finds the row of its opening
 
 first_alone : (o : Opening) (rows : List journal.EntryRow) → AreNumbered rows → AllByRecursion (λ (e : Entered). e.entry.place ≡ 1 → e.entry ≡ opening_row o) (entered_rows o rows)
 first_alone o [] numbered = (λ is. refl, tt)
 first_alone o (row ∷ rows) numbered = (λ is. absurd (let place = numbered.0 in omega (arith, place, is)), first_alone o rows numbered.1)
 
--- If a meter has an opening, one of the meter's rows in `entries` encodes the opening.
+-- If a property holds for all of a meter's rows in `entries`, it holds for the row of its opening,
+-- the meter's first entry.
 at_opening : (o : Opening) (P : Entered → Type 0) (rows : List journal.EntryRow) → AllByRecursion P (entered_rows o rows) → P (entered o.meter (opening_row o))
 at_opening o P [] all = all.0
 at_opening o P (row ∷ rows) all = at_opening o P rows all.1
@@ -121,7 +124,7 @@ first_found law facts meter rows lawful each (Some entry) h = λ opening there.
     let place : y.entry.place ≡ 1 = eqb-true y.entry.place 1 at_one in
     h.1 ∙ it.0 parts.0 place
 
--- ---- the installation of a meter
+-- ---- the rows of three tables together encode a meter's first entry and its current state
 
 pub opening_is : (facts : List Fact) (o : Opening) (row : stored.Installation) (range : ℕ) (first : EntryRow) → IsRowOf facts o row → FindsRange (string_bytes row.meter) facts (Some range) → FindsFirst (string_bytes row.meter) facts (Some first)
     → opening_from row range first ≡ o
@@ -155,25 +158,27 @@ standing_found facts row m x y range first made found named ranged_is first_is m
     let two = subst (λ (t : List ℕ). FindsFirst t facts (Some first)) named (subst (λ (z : Option EntryRow). FindsFirst m facts z) first_is begins) in
     is ∙ standing_is facts o made row of (made_is ∙ opening_is facts o row range first of one two)
 
--- If a look-up finds the row of an opening, it returns the installation of this opening.
+-- If a query finds a meter's row in `installations`, the look-up returns the state that the records
+-- have of this meter.
 pub found_is : (facts : List Fact) (o : Option Opening) (x : Option stored.Installation) (row : stored.Installation) (found : Installation) → x ≡ Some row → FindsRow facts o x → IsStanding row facts found
     → Some found ≡ option_map (installation_of facts) o
 found_is facts None x row found is finds stands = absurd (let e = sym finds ∙ is in cc)
 found_is facts (Some o) x row found is finds stands = ap Some (stands o (subst (FindsRow facts (Some o)) is finds))
 
--- ---- properties of records that the rules accepted
+-- ---- if the records are lawful, the values in the rows that queries find are valid
 
 pub in_range : (facts : List Fact) (o : Opening) → IsSound (installation_of facts o) → IsSound (installation_of facts o)
 in_range facts o h = record { range = h.range; ceiling = h.ceiling; raw = h.raw; scale = h.scale; total = h.total }
 
--- If a look-up finds the row of an opening, the opening has the names in this row.
+-- If the names in all recorded openings (records of installations) are valid, so are the names in a
+-- row of `installations` that a query finds.
 pub named_row : (facts : List Fact) (o : Opening) (row : stored.Installation) → IsRowOf facts o row → AllByRecursion HasNames (openings_in facts) → IsNamed row
 named_row facts o row is all =
     let names = all_found HasNames (λ (x : Opening). same x.meter o.meter) (openings_in facts) o all is.alone in
     record { meter = ap is_name is.row.meter ∙ names.meter; register = ap is_name is.row.register ∙ names.register }
 
--- If a meter has a row in `installations`, it also has a row in `ranges` and a first row in
--- `entries`.
+-- If a query finds a meter's row in `installations`, the records have an opening of the meter, the
+-- record of its installation.
 pub no_opening : (facts : List Fact) (o : Opening) (row : stored.Installation) (meter : List ℕ) → meter ≡ string_bytes row.meter → IsRowOf facts o row → opening_of facts meter ≡ None → ⊥
 no_opening facts o row meter named is none =
     let there : opening_of facts meter ≡ Some o = ap (opening_of facts) (named ∙ is.row.meter) ∙ is.alone in

@@ -1,4 +1,5 @@
--- Proofs about streaming the rows of a table to a sink.
+-- Proofs about passing the rows of a table one by one to a sink, a visitor that the caller
+-- supplies.
 use Rattle.std.proofs.Common.{◌≡◌, ◌⊎◌, inl, inr, ℕ, List, [], ◌∷◌, Ok, Err, Result, OnOk, IfErr, IsTrue, IsErrAnd, refl, sym, subst}
 use Rattle.std.specs.List.{AllByRecursion}
 use Rattle.sqlite.specs.Store.{Ghosts}
@@ -31,7 +32,7 @@ module _ {S K T : Type 0} (g : Ghosts S) (takes : K → T → K → Type 0) (IsR
     mode = (looks []).mode;
   }
 
-  -- True if the tables encode the records, and `tables` has the rows of the tables that the stream
+  -- True if the tables encode the records, and `rows` has the rows of the tables that the stream
   -- reads.
   pub record Reports {Tables : Type 0} (Have : Tables → Content → Type 0) (AreRowsOf : Tables → List T → Type 0) (IsSound : Tables → Type 0) (facts : List Fact) (content : Content) : Type 0 where
     pub rows : Tables

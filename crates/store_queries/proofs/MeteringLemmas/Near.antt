@@ -43,7 +43,7 @@ use Rattle.store_queries.proofs.MeteringLemmas.Around.{AtRow, AreStruck, IsNextR
 use Rattle.store_queries.proofs.MeteringLemmas.Journals.{IsReported, back_by, numbered, one_back, voids_are}
 use Rattle.store_queries.proofs.MeteringLemmas.Shapes.{IsPlain, found_rest, found_there, plain}
 
--- ---- the index of the next meter entry that is not voided
+-- ---- a search, one index after another, finds the nearest entry that is not voided
 
 pub none_between : (vs : List Voided) (low high : ℕ) → high ≤ low + 1 → AreVoided vs low high
 none_between vs low high none place above below = absurd (omega (arith, none, above, below))
@@ -60,7 +60,7 @@ further_up vs low p high next are is place above below = elim (cases_Bool (nat_l
   | inr here ↦ let same : p ≡ place = grind (arith, nat_tests, here, below, next) in subst (λ q. list_any (names q) vs ≡ true) same (sym is)
 ]
 
--- ---- from the rows of `entries` to the row of one entry
+-- ---- a property that all rows of a meter have also holds for the row that a search finds
 
 row_holds : (P : EntryRow → Type 0) (place : ℕ) (rows : List EntryRow) (around : journal.Around) → AllByRecursion P rows → row_at place rows ≡ Some around → P around.row
 row_holds P place [] around all h = absurd (let e = h in cc)
@@ -73,7 +73,7 @@ row_holds P place (row ∷ rows) around all h = elim (cases_Bool (row.place == p
       subst P (sym it.2) (row_holds P place rows it.0 all.1 it.1)
 ]
 
--- ---- the entry of a recorded meter
+-- ---- an entry that is built from its row and the rows around it is the recorded entry
 
 module _ (journals : JournalsFit) (stand : RowsStand) (change : VoidsChangeTwoRows) (kept : JournalsAreKept) (places : PlacesWereKept) (facts : List Fact) (meter : List ℕ) (o : Opening) (there : opening_of facts meter ≡ Some o) (lawful : AreLawful facts)
     (vs : List Voided) (all : IsPermutation (filter (is_void_of meter) (map voided (voids_in facts))) vs) where
@@ -95,7 +95,8 @@ module _ (journals : JournalsFit) (stand : RowsStand) (change : VoidsChangeTwoRo
   plains : AllByRecursion (IsPlain lines) rows
   plains = plain stand change (installed o) (well facts o lawful (found facts o lawful recorded_there)) lines (journals facts o lawful recorded_there)
 
-  -- The table `voids` has a void for exactly the meter entries that the journal marks as voided.
+  -- The table `voids` has a row for exactly those indices of a meter whose entries are marked as
+  -- voided in the meter's journal (its history).
   named_is : (place : ℕ) → list_any (names place) vs ≡ is_voided place lines
   named_is place = sym (any_permutation (names place) _ _ all) ∙ voids_are meter place facts ∙ ap (λ m. is_voided place (journal_of facts m)) (sym meter_is)
 

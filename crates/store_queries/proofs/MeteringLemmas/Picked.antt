@@ -8,7 +8,7 @@ use Rattle.sqlite_keyed.proofs.ListLemmas.{all-filter, all_both}
 use Rattle.store_tables.specs.Answer.{IsFound, IsLast}
 use Rattle.store_facts.specs.Rows.{placed}
 
--- ---- rows that pass a test
+-- ---- filtering rows by a test returns exactly the rows that pass the test
 
 passing_step : {Y : Type 0} (p : Y → Bool) (b : Bool) (y : Y) (ys : List Y) → p y ≡ b → AllByRecursion (λ z. p z ≡ true) ys → AllByRecursion (λ z. p z ≡ true) (cond b (y ∷ ys) ys)
 passing_step p true y ys is more = (is, more)
@@ -43,7 +43,7 @@ none_mapped row p q agree (x ∷ xs) h = elim (cases_Bool (p x)) [
   | inr off ↦ cond-false _ _ _ off ∙ none_mapped row p q agree xs (sym (cond-false _ _ _ (agree x ∙ off)) ∙ h)
 ]
 
--- ---- rows that are numbered by index
+-- ---- if rows are numbered by index, the passing row with the greatest index is the latest element
 
 module _ {X Y : Type 0} (row : ℕ → X → Y) (p : X → Bool) (q : Y → Bool) (agree : (n : ℕ) (x : X) → q (row n x) ≡ p x) where
   -- If no numbered row passes a test, no element of the list passes it.

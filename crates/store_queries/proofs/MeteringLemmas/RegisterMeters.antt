@@ -1,4 +1,4 @@
--- Proofs about the installations at an accounting register, one after another.
+-- Proofs about the meters that were installed at an accounting register, one after another.
 use Rattle.std.proofs.Common.{◌≡◌, ℕ, zero, suc, ◌+◌, ◌<◌, ◌≤◌, List, [], ◌∷◌, ◌++◌, map, filter, take, length, get_or, Some, refl, sym, ap, subst, ◌∙◌, arith, add-one, take_all}
 use Rattle.std.specs.List.{AllByRecursion}
 use Rattle.std.proofs.lemmas.List.{length-map}
@@ -24,7 +24,7 @@ use Rattle.store_queries.proofs.FindingLemmas.Each.{each_filter, each_length, ea
 use Rattle.store_queries.proofs.FindingLemmas.Rows.{all_reverse, each_reverse, in_turn, placed_falls}
 use Rattle.store_queries.proofs.MeteringLemmas.Found.{alone}
 
--- ---- the rows of the installations at an accounting register
+-- ---- a query by accounting register returns the rows of its meters in the order of installation
 
 pub meters_shown : (facts : List Fact) (register : List ℕ) (rows : List Row) → Shows (is_at register) (FirstFirst installed_place) installed_shown (placed (installed_row facts) (openings_in facts)) rows
     → rows ≡ map installed_shown (rows_at register facts)
@@ -36,8 +36,8 @@ meters_shown facts register rows h =
 pub rows_sound : (facts : List Fact) (register : List ℕ) → HasReadableMeters facts → AllByRecursion IsSoundInstalled (rows_at register facts)
 rows_sound facts register sound = all_reverse IsSoundInstalled _ (all-filter IsSoundInstalled (is_at register) (placed (installed_row facts) (openings_in facts)) sound.installations)
 
--- True if a row of `installations` encodes an opening, and the opening's meter has no other
--- opening.
+-- True if a row of `installations` encodes an opening (the record that installs a meter), and the
+-- meter has no other opening.
 record IsInstalledAs (facts : List Fact) (row : Installed) (opening : Opening) : Type 0 where
   place : ℕ
   is : row ≡ installed_row facts place opening
@@ -55,7 +55,7 @@ rows_are facts register rows lawful h =
     (each_filter (IsInstalledAs facts) (is_at register) (λ (o : Opening). same o.register register) (λ y o is. ap (is_at register) is.is)
     (placed (installed_row facts) (openings_in facts)) (openings_in facts) (each_installed facts (openings_in facts) (alone facts lawful)))) h
 
--- ---- reading the installations row by row
+-- ---- if rows encode openings (records of installations), each row has an opening in the records
 
 module _ (facts : List Fact) where
   pub row_there : (openings : List Opening) (rows : List stored.Installation) (i : ℕ) (row : stored.Installation) → AreRowsOf facts openings rows → i < length rows → row ≡ get_or rows i row

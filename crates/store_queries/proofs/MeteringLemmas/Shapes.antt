@@ -1,4 +1,4 @@
--- Proofs about the possible rows of a meter's journal, by kind of entry.
+-- Proofs about the possible rows of a meter's journal (its history), by kind of entry.
 use Rattle.std.proofs.Common.{◌≡◌, ◌≢◌, ℕ, ◌+◌, ◌≤◌, ◌==◌, ◌&&◌, ◌||◌, not, Bool, true, false, cond, inl, inr, ◌⊎◌, List, [], ◌∷◌, map, length, Option, Some, None, option_map, refl, sym, ap, ap₂, subst, ◌∙◌, arith, eq-eqb, eqb-true}
 use Rattle.std.specs.List.{AllByRecursion}
 use Rattle.std.proofs.lemmas.Bool.{cases_Bool, cond-true, cond-false}
@@ -48,14 +48,14 @@ has_shape meter es kind.Closing (entry.Change at before after sf) h = absurd h
 has_shape meter es kind.Reset (entry.Step at raw rolls) h = absurd h
 has_shape meter es kind.Rescale (entry.Step at raw rolls) h = absurd h
 
--- True if a journal row fits its kind, and is marked as voided exactly if a void cancels it. Only
--- readings may be voided.
+-- True if a row of a meter's journal (its history) fits its kind, and is marked as voided exactly
+-- if a void cancels it. Only readings may be voided.
 pub record IsPlain (lines : Journal) (row : EntryRow) : Type 0 where
   pub shape : HasShape row.kind row.entry
   pub reading : row.stands ≡ false → is_read row.kind row.entry ≡ true
   pub stands : row.stands ≡ not (is_voided row.place lines)
 
--- ---- rows numbered by index
+-- ---- if rows are numbered by index, a search by index finds each row
 
 abbrev pub IsBelow : ℕ → EntryRow → Type 0
 IsBelow n row = row.place ≤ n
@@ -95,7 +95,7 @@ found_there place (row ∷ rows) around numbered h = elim (cases_Bool (row.place
       )
 ]
 
--- ---- the journal rows after a meter entry was voided
+-- ---- if an entry is voided, every other row keeps its kind and its mark
 
 shape_rolled : (last : Last) (k : EntryKind) (e : Entry) → HasShape k e → HasShape k (with_rolls last e)
 shape_rolled last k (entry.Change at before after sf) h = h
@@ -109,8 +109,8 @@ module _ (lines : Journal) (place : ℕ) where
   abbrev Later : Journal
   Later = Voided place ∷ lines
 
-  -- If a new void has another index than a journal row, the row still fits the journal with this
-  -- void.
+  -- If a new void cancels another entry than that of a journal row, the row still fits the meter's
+  -- journal (its history) with this void.
   unnamed : (row : EntryRow) → (row.place == place) ≡ false → IsPlain lines row → IsPlain Later row
   unnamed row off h = record { shape = h.shape; reading = h.reading; stands = h.stands ∙ sym (ap (λ b. not (b || is_voided row.place lines)) off) }
 
@@ -136,7 +136,7 @@ module _ (lines : Journal) (place : ℕ) where
   }
   changed_if false next last row is read h = next_if (is_next next row) last row is h
 
--- ---- all rows of a journal
+-- ---- every row of a meter's history fits its kind, and its mark as voided is correct
 
 plain_entered : (k : EntryKind) (e : Entry) (lines : Journal) (row : EntryRow) → IsPlain lines row → IsPlain (Entered k e ∷ lines) row
 plain_entered k e lines row h = record { shape = h.shape; reading = h.reading; stands = h.stands }
@@ -146,7 +146,7 @@ not_true true h = absurd (h refl)
 not_true false h = refl
 
 module _ (stand : RowsStand) (change : VoidsChangeTwoRows) (meter : Installed) (well : IsWellInstalled meter) where
-  -- If a journal has a void, the void's index belongs to an existing meter entry.
+  -- If a meter's journal (its history) has a void, the entry that the void cancels exists.
   voids_low : (lines : Journal) → AreFitting meter lines → (place : ℕ) → is_voided place lines ≡ true → place ≤ length (rows_of meter.opening lines) + 1
   voids_low [] fits place h = absurd (let e = h in cc)
   voids_low (Entered k e ∷ lines) fits place h = let low = voids_low lines fits.1 place h in omega (arith, low)

@@ -1,4 +1,5 @@
--- Defines when a relation holds between the elements of two lists at each index.
+-- Defines when a relation holds between the elements of two lists at each index, such as a table's
+-- rows and the values read from them.
 use Rattle.std.specs.Prelude.{List, [], ◌∷◌}
 
 -- True if two lists have the same length, and `Is` relates their elements at each index.

@@ -1,4 +1,5 @@
--- The contract of a look-up: how its answer follows from the records in a connection's database.
+-- The contract of a look-up, a query for stored records: its answer follows from the records in the
+-- connection's database.
 use Rattle.std.specs.Prelude.{◌≡◌, ℕ, List, map, Result, IfOk, IfErr}
 use Rattle.std.specs.List.{AllByRecursion}
 use Rattle.sqlite.specs.Order.{Row}
@@ -25,8 +26,8 @@ pub record Finds {S A : Type 0} (g : Ghosts S) (old new : Held S) (result : Resu
       → IfErr result (IsFault (state g old) (state g new) (AreSound facts))
   pub looks : (zone : List ℕ) → OnlyLooks g zone old new
 
--- True if the rules accepted the records, and the statement `Says` relates the records to an
--- answer.
+-- True if the records are lawful (the rules accepted each one after the earlier ones), and the
+-- statement `Says` relates them to an answer.
 abbrev pub OfLawful : {A : Type 0} → (List Fact → A → Type 0) → List Fact → A → Type 0
 OfLawful Says facts a = AreLawful facts × Says facts a
 

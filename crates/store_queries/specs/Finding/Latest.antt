@@ -15,13 +15,15 @@ abbrev pub greatest : {X : Type 0} → (moment : X → ℕ) → List X → ℕ
 greatest moment [] = 0
 greatest moment (x ∷ xs) = max (moment x) (greatest moment xs)
 
--- The latest timestamp of all openings and meter entries, in seconds since 1970-01-01 UTC.
+-- The latest timestamp of all meter entries, in seconds since 1970-01-01 UTC. A meter's first entry
+-- is its opening, made at installation.
 abbrev pub latest_entered : List Fact → ℕ
 latest_entered facts =
     max (greatest (λ o. o.at) (openings_in facts))
     (greatest (λ b. moment_of b.entry) (entries_in facts))
 
--- The latest time at which a meter entry was voided, in seconds since 1970-01-01 UTC.
+-- The latest time at which a meter entry was voided (marked as a false reading), in seconds since
+-- 1970-01-01 UTC.
 abbrev pub latest_voided : List Fact → ℕ
 latest_voided facts = greatest (λ v. v.at) (voids_in facts)
 
@@ -37,7 +39,7 @@ latest_started facts = greatest (λ p. p.at) (polls_in facts)
 abbrev pub latest_ended : List Fact → ℕ
 latest_ended facts = greatest (λ e. e.at) (ended_in facts)
 
--- The latest timestamp of all stored requests.
+-- The latest timestamp of all requests that are stored to detect retries.
 abbrev pub latest_replied : List Fact → ℕ
 latest_replied facts = greatest (λ r. r.at) (replies_in facts)
 

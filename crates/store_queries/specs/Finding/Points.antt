@@ -1,4 +1,4 @@
--- Conversions from rows of the table `points` to points of a point list.
+-- Conversions from rows of the table `points` to the SunSpec points that a device is polled for.
 use Rattle.std.specs.Prelude.{◌≡◌, ℕ, true, List, Option, Some, None, Result, Ok, Err}
 use Rattle.std.specs.List.{AllByRecursion}
 use Rattle.point_list.specs.declared.point.ListedPoint.{ListedPoint}
@@ -30,12 +30,14 @@ point_with named typed scaled row =
       scale = scale;
     }))))
 
--- True if the texts for a point's type and scale parse as the type and the scale of the point.
+-- True if the texts that the table stores for a point's type and scale parse back to this type and
+-- scale.
 pub record IsSpelled (p : ListedPoint) : Type 0 where
   pub kind : type_of (type_text p.kind) ≡ Some p.kind
   pub scale : scale_spelled (scale_text p.scale) ≡ Some p.scale
 
--- True if a row of `points` encodes a point, and no other point that satisfies `IsSpelled`.
+-- True if a row of `points` encodes no point other than the given one. Only points whose stored
+-- texts parse back to the point (`IsSpelled`) are compared.
 abbrev pub IsPointOf : Listed → ListedPoint → Type 0
 IsPointOf row point = (device : List ℕ) (place : ℕ) (p : ListedPoint) → IsSpelled p
     → row ≡ listed device place p → point ≡ p

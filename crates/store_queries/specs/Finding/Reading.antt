@@ -26,8 +26,7 @@ use Rattle.store_facts.specs.Rows.{added, registered, started, outcome_row}
 
 -- ---- rows of the table `devices`
 
--- The device with the given name and numbers, or `Damaged` if no device can have the name and the
--- numbers.
+-- The device with the given name and numbers, or `Damaged` if they are not valid for a device.
 abbrev pub device_with : (name : List ℕ) → DeviceRow → Result Device RowFault
 device_with text row =
     and_then (or_damaged (named text)) (λ name.
@@ -39,19 +38,20 @@ device_with text row =
     (λ window.
     Ok (record { name = name; unit = row.unit; timeout = timeout; window = window }))))
 
--- True if a row of `devices` encodes the given device, and no other device.
+-- True if a row of `devices` encodes no device other than the given one.
 abbrev pub IsDeviceOf : Added → Device → Type 0
 IsDeviceOf row device = (place : ℕ) (d : Device) → row ≡ added place d → device ≡ d
 
 -- ---- rows of the table `registers`
 
--- The source of an accounting register's scale factor, from the columns of its scale.
+-- The source of an accounting register's scale factor: a fixed exponent, or the address of a Modbus
+-- register.
 abbrev pub source_from : RegisterScale → ScaleSource
 source_from (scale.Fixed sf) = source.Fixed sf
 source_from (scale.At address) = source.Register address
 
--- The accounting register with the given names and numbers, or `Damaged` if no accounting register
--- can have the names and the numbers.
+-- The accounting register (named counter of a device) with the given names and numbers, or
+-- `Damaged` if they are not valid.
 abbrev pub register_with : (name device : List ℕ) → RegisterRow → Result Register RowFault
 register_with text of row =
     and_then (or_damaged (named text)) (λ name.
@@ -64,8 +64,7 @@ register_with text of row =
       scale = source_from row.scale;
     })))
 
--- True if a row of `registers` encodes the given accounting register, and no other accounting
--- register.
+-- True if a row of `registers` encodes no accounting register other than the given one.
 abbrev pub IsRegisterOf : Registered → Register → Type 0
 IsRegisterOf row register = (place : ℕ) (r : Register) → row ≡ registered place r → register ≡ r
 
@@ -82,7 +81,7 @@ pub record HasNumbers (name : List ℕ) (row : PollRow) (poll : Poll) : Type 0 w
   pub address : poll.span.address ≡ row.address
   pub count : poll.span.count ≡ row.count
 
--- True if a row of `polls` encodes the given poll, and no other poll.
+-- True if a row of `polls` encodes no poll other than the given one.
 abbrev pub IsPollOf : Started → Poll → Type 0
 IsPollOf row poll = (p : Poll) → row ≡ started p → poll ≡ p
 
@@ -90,9 +89,10 @@ IsPollOf row poll = (p : Poll) → row ≡ started p → poll ≡ p
 abbrev pub ended_from : OutcomeRow → EndedPoll
 ended_from row = record { poll = row.poll; at = row.moment; outcome = row.outcome }
 
--- ---- comparing a request with a stored request
+-- ---- comparing a request with the stored request of its idempotency key
 
--- Converts the result of comparing a request with the stored request to the type `Repeat`.
+-- Converts the result of comparing a request with the stored request (is it a retry?) from the type
+-- of the tables to the type of the records.
 abbrev pub repeat_from : kept.Repeat → Repeat
 repeat_from (kept_as.Same kind) = Same kind
 repeat_from kept_as.Other = Other

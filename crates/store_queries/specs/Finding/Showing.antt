@@ -1,4 +1,4 @@
--- The rows that queries return for given records.
+-- The result rows of queries, as functions of the stored records.
 use Rattle.std.specs.Prelude.{◌≡◌, ℕ, List, map, filter, reverse, Option, Vec}
 use Rattle.sqlite.specs.Order.{Row}
 use Rattle.office_events.specs.declared.facts.Fact.{Fact}
@@ -27,7 +27,7 @@ ShowsRegisters device facts rows =
     rows.items ≡ map register_shown
     (reverse (filter (is_register_of device) (placed registered (registers_in facts))))
 
--- True if a query returns the pending polls, in the order in which they were started.
+-- True if a query returns the polls without an outcome, in the order in which they were started.
 abbrev pub ShowsPendingPolls : {Z : Type 0} → List Fact → Vec Row Z → Type 0
 ShowsPendingPolls facts rows = rows.items ≡ map poll_shown (map started (pending_in facts))
 

@@ -1,5 +1,5 @@
--- Definitions of when rows can be read: their values must be valid for the tables and for the
--- records.
+-- Definitions of when rows can be read: their numbers must be in the ranges of the table, and their
+-- texts must be valid names.
 use Rattle.std.specs.Prelude.{◌≡◌, ℕ, List, map, true, string_bytes}
 use Rattle.std.specs.List.{AllByRecursion}
 use Rattle.office_events.specs.declared.facts.Fact.{Fact}

@@ -21,21 +21,22 @@ use Rattle.store_queries.specs.Metering.Entries.{row_from, names}
 use Rattle.store_queries.specs.declared.metering.around.Sides.{Sides}
 use Rattle.store_queries.specs.declared.metering.around.Around.{Around}
 
--- ---- the indices around an entry, by the voids of its meter
+-- ---- the indices around an entry that no void (a row that cancels an entry) cancels
 
--- True if each meter entry with an index between `low` and `high` has a void in the list.
+-- True if every index between `low` and `high` has a void in the list. A void cancels the meter
+-- entry at its index.
 abbrev pub AreVoided : List Voided → (low high : ℕ) → Type 0
 AreVoided voids low high =
     (place : ℕ) → low < place → place < high → list_any (names place) voids ≡ true
 
 -- True if `before` is the index of the last meter entry before `place` that is not voided, or 1 for
--- the opening.
+-- the meter's first entry.
 pub record IsBefore (voids : List Voided) (place before : ℕ) : Type 0 where
   pub lower : before < place
   pub between : AreVoided voids before place
   pub stands : (before ≡ 1) ⊎ (list_any (names before) voids ≡ false)
 
--- True if `after` is the first index after `place` that no void in the list has.
+-- True if `after` is the first index after `place` that no void in the list cancels.
 pub record IsAfter (voids : List Voided) (place after : ℕ) : Type 0 where
   pub higher : place < after
   pub small : after ≤ greatest_place
@@ -49,7 +50,8 @@ pub record AreSides (voids : List Voided) (place : ℕ) (sides : Sides) : Type 0
   pub after : IsAfter voids place sides.after
   pub stands : sides.stands ≡ not (list_any (names place) voids)
 
--- True if the voids that the result rows encode have the property `Is`.
+-- True if the property `Is` holds for the voids (cancellations of entries) that the result rows of
+-- a query encode.
 abbrev pub ByVoids : (List Voided → Type 0) → (rows : List Row) → Type 0
 ByVoids Is rows = (voids : List Voided) → rows ≡ map voided_shown voids → Is voids
 
@@ -72,34 +74,35 @@ pub record FindsAround (meter : List ℕ) (place low high : ℕ) (facts : List F
   pub before : FindsAt meter low facts (Some around.before)
   pub next : FindsAt meter high facts around.next
 
--- ---- the meter entry from its row and the rows around it
+-- ---- building a meter entry from its row and the rows around it
 
--- The journal row of the next meter entry that is not voided, or None if there is no next entry.
+-- The row in the meter's journal (its history) for the next entry that is not voided, or None if no
+-- such entry exists.
 abbrev pub next_from : Option EntryRow → Option journal.EntryRow
 next_from None = None
 next_from (Some next) = row_from next true
 
--- The meter's installation with the counter's state after an earlier entry, and with the meter's
--- total energy over all entries.
+-- The state of a meter with its counter as of an earlier entry, but with the total energy over all
+-- entries.
 abbrev pub stood : Installation → EntryRow → Installation
 stood whole before = record whole { last = counter_after before }
 
--- True if `seen` is the meter entry that the rows `around` determine.
+-- True if `seen` is the meter entry that its row and the rows around it encode.
 pub record IsSeen (whole : Installation) (around : Around) (stands : Bool) (seen : EntryContext) :
     Type 0 where
   pub before : seen.before ≡ stood whole around.before
   pub row : Some seen.row ≡ row_from around.entry stands
   pub next : seen.next ≡ next_from around.next
 
--- True if the answer is the meter's entry at index `place`, where `whole` is the meter's
--- installation.
+-- True if the answer is the meter's entry at index `place`, provided that `whole` is the meter's
+-- current state.
 abbrev pub ReportsOf : (meter : List ℕ) → (place : ℕ) → Installation → List Fact
     → Option EntryContext → Type 0
 ReportsOf meter place whole facts found =
     Some whole ≡ meter_of facts meter → ReportsNear facts meter place found
 
--- True if the rules accepted the records, and an entry that was built from rows is the meter's
--- entry at index `place`.
+-- True if the records are lawful (accepted by the rules), and an entry that was built from rows is
+-- the meter's entry at index `place`.
 pub record ReportsRightly (meter : List ℕ) (place : ℕ) (whole : Installation) (facts : List Fact)
     (found : Option EntryContext) : Type 0 where
   pub lawful : AreLawful facts

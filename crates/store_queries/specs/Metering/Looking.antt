@@ -1,4 +1,4 @@
--- The contract of a query that streams rows to a sink.
+-- The contract of a query that passes rows to a sink (a caller's visitor) one by one.
 use Rattle.std.specs.Prelude.{◌≡◌, ℕ, false, List, Result, IfErr, OnOk}
 use Rattle.sqlite.specs.Store.{Ghosts}
 use Rattle.sqlite.specs.Held.{Held, state}
@@ -9,11 +9,10 @@ use Rattle.store_tables.specs.declared.faults.RowFault.{RowFault}
 use Rattle.store_facts.specs.Holding.{HoldsFacts, OnlyLooks}
 use Rattle.store_facts.specs.Handing.{TookSome, IsStreamFault}
 
--- The contract of a stream, if reads of the database file return the written bytes. The sink
--- receives the rows of the records in order: at Ok all rows, and on a fault the first rows. Every
--- received row has the property `IsRow`, for any content of the database. The stream reports
--- `Damaged` only if the records have a value that no table, or no valid record, can have. Any other
--- fault is an error of the store, or too many rows for the count.
+-- The contract of a streaming query, if reads of the database file return the written bytes. The
+-- sink receives the rows of the records in order: at Ok all rows, and on a fault the first rows.
+-- The query reports `Damaged` only if the records have an invalid value. Every received row has the
+-- property `IsRow`, for any content of the database.
 pub record HandsOn {S K T : Type 0} (g : Ghosts S) (old new : Held S) (takes : K → T → K → Type 0)
     (before after : K)
     (result : Result (Unit {0}) RowFault) (IsRow : T → Type 0) (rows : List Fact → List T)

@@ -1,5 +1,5 @@
--- Definitions of when the rows of meters can be read: their values must be valid for the tables and
--- for the records.
+-- Definitions of when the rows of meters can be read: their numbers must be in the ranges of the
+-- table, and their texts must be valid names.
 use Rattle.std.specs.Prelude.{◌≡◌, ℕ, true, List, map, string_bytes}
 use Rattle.std.specs.List.{AllByRecursion}
 use Rattle.office_events.specs.declared.facts.Opening.{Opening}
@@ -15,7 +15,7 @@ use Rattle.store_facts.specs.Intervals.Rows.{IsSoundShare}
 use Rattle.store_facts.specs.Holds.{IsSoundReading}
 use Rattle.store_facts.specs.Rows.{placed, installed_row, ranged, entries_of, voided}
 
--- True if the names in an opening are valid names.
+-- True if the names in an opening, the record that installs a meter, are valid.
 pub record HasNames (opening : Opening) : Type 0 where
   pub meter : is_name opening.meter ≡ true
   pub register : is_name opening.register ≡ true
@@ -25,8 +25,8 @@ pub record IsNamed (row : stored.Installation) : Type 0 where
   pub meter : is_name (string_bytes row.meter) ≡ true
   pub register : is_name (string_bytes row.register) ≡ true
 
--- True if the rules accepted the records, and every row of their meters, counters' ranges and
--- entries can be read.
+-- True if the records are lawful (accepted by the rules), and every row of `installations`,
+-- `ranges` and `entries` can be read.
 pub record HasReadableMeters (facts : List Fact) : Type 0 where
   pub lawful : AreLawful facts
   pub names : AllByRecursion HasNames (openings_in facts)
@@ -35,16 +35,16 @@ pub record HasReadableMeters (facts : List Fact) : Type 0 where
   pub ranges : AllByRecursion IsSoundRanged (map ranged (openings_in facts))
   pub entries : (meter : List ℕ) → AllByRecursion IsSoundEntered (entries_of facts meter)
 
--- True if every row of the meters and every row of `voids` can be read.
+-- True if every row of the meters, their entries and their voids (cancelled readings) can be read.
 pub record HasReadableJournals (facts : List Fact) : Type 0 where
   pub meters : HasReadableMeters facts
   pub voids : AllByRecursion IsSoundVoided (map voided (voids_in facts))
 
--- True if every row of `intervals` can be read, for each meter.
+-- True if every row of `intervals`, the energy of a meter by quarter hour, can be read.
 abbrev pub HasReadableIntervals : List Fact → Type 0
 HasReadableIntervals facts =
     (meter : List ℕ) → AllByRecursion IsSoundShare (rows_of_meter facts meter)
 
--- True if every row of `holds` can be read.
+-- True if every row of `holds`, the table of rejected readings, can be read.
 abbrev pub HasReadableHolds : List Fact → Type 0
 HasReadableHolds facts = AllByRecursion IsSoundReading (holds_in facts)

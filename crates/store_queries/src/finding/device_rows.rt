@@ -38,7 +38,7 @@ fn window(polls: u8) -> Result<Window, RowFault>
     }
 }
 
-/// Converts a row of `devices` to a device. Reports invalid values as damage.
+/// Converts a row of `devices` to a device. Reports values that no device can have as `Damaged`.
 fn device_from(row: &store_devices::Device) -> Result<Device, RowFault>
     ensures { result ≡ device_with (string_bytes row.now.name) row.now.row }
 {

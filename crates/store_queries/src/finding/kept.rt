@@ -1,4 +1,5 @@
-//! Queries for stored requests.
+//! Queries for stored requests. The store keeps each accepted request with its response, so that a
+//! retry acts only once.
 ghost use Rattle.std.specs.Prelude.{◌≡◌, false, IsUtf8};
 ghost use Rattle.office_books.specs.Repeats.{repeat_of};
 ghost use Rattle.store_devices.specs.Polls.Rows.{IsCallNumber};
@@ -22,7 +23,8 @@ fn convert_repeat(repeat: store_devices::Repeat) -> Repeat
     }
 }
 
-/// Compares a request with the request that the table `replies` stores under its idempotency key.
+/// Compares a request with the request that the table `replies` stores under its idempotency key
+/// (`caller` and `number`).
 fn row_of<S: Alter>(
     conn: &mut Connection<S>,
     caller: &str,
@@ -38,8 +40,8 @@ fn row_of<S: Alter>(
     store_devices::repeat_of(conn, caller, number, request)
 }
 
-/// Compares a request with the request that is stored under its idempotency key. Returns None if
-/// the key has no stored request.
+/// Compares a request with the request that is stored under its idempotency key, to detect a retry.
+/// Returns None if the key has no stored request.
 pub fn repeat<S: Alter>(
     conn: &mut Connection<S>,
     caller: &Name,

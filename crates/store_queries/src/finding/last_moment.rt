@@ -1,6 +1,5 @@
 //! Queries for the latest timestamp of all records, in seconds since 1970-01-01 UTC. Each query
-//! scans a complete table, because no table has an index on timestamps, and only openings are
-//! recorded in order of time.
+//! scans a complete table, because no table has an index on timestamps.
 ghost use Rattle.std.specs.Prelude.{◌≡◌, false, max};
 ghost use Rattle.office_rules.specs.Facts.{latest_in};
 ghost use Rattle.store_queries.specs.Finding.Finding.{Finds};
@@ -12,7 +11,8 @@ use sqlite::{Alter, Connection};
 use store_devices::{latest_hold, latest_outcome, latest_reply, latest_start};
 use store_tables::{RowFault, check_open, latest_entry, latest_void};
 
-/// Returns the latest timestamp of all openings and meter entries, or 0 if no entry is stored.
+/// Returns the latest timestamp in the table `entries`, or 0 if the table is empty. A meter's first
+/// entry is its opening, made at installation.
 fn entered<S: Alter>(conn: &mut Connection<S>) -> Result<u64, RowFault>
     requires { conn.old.in_transaction ≡ false }
     ensures { Finds S.Store conn.old conn.new result
@@ -72,7 +72,8 @@ fn replied<S: Alter>(conn: &mut Connection<S>) -> Result<u64, RowFault>
     Ok(latest_reply(conn)?.unwrap_or(0))
 }
 
-/// Returns the latest timestamp of all openings, meter entries and voids, or 0 if none is stored.
+/// Returns the latest timestamp of all meter entries and of the records that void entries, or 0 if
+/// none is stored.
 fn booked<S: Alter>(conn: &mut Connection<S>) -> Result<u64, RowFault>
     requires { conn.old.in_transaction ≡ false }
     ensures { Finds S.Store conn.old conn.new result

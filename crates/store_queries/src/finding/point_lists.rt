@@ -1,4 +1,5 @@
-//! Queries for point lists and their plans. A plan is the fewest reads that cover a point list.
+//! Queries for the SunSpec points that a device is polled for, and for the plan of their reads. A
+//! plan is the fewest Modbus reads that cover a point list.
 ghost use Rattle.std.specs.Prelude.{◌≡◌, false, Some, IfOk, IfErr, IsUtf8};
 ghost use Rattle.office_rules.specs.Facts.{list_of};
 ghost use Rattle.read_plan.specs.PlannedLists.{IsPlanned};
@@ -24,7 +25,8 @@ use std::alloc::Global;
 use store_facts::text;
 use store_tables::RowFault;
 
-/// Plans the reads of a point list. Reports points that break a rule of point lists as damage.
+/// Plans the Modbus reads that cover a device's points. Reports points that break a rule of point
+/// lists as `Damaged`.
 fn with_plan(alloc: Global, points: Vec<ListedPoint>) -> Result<PlannedList, RowFault>
     ensures points { IfOk result (λ list. list.points ≡ points.items) }
     ensures planned { IfOk result IsPlanned }
@@ -87,8 +89,8 @@ pub fn read_count<S: Alter>(
     }
 }
 
-/// Returns the spans of Modbus registers that a plan reads. Begins at the read with the index
-/// `from`, and returns at most `most` reads.
+/// Returns the spans of Modbus registers that a plan reads. The first is the read with the index
+/// `from`; at most `most` spans are returned.
 fn spans_of(
     alloc: Global,
     list: &PlannedList,
@@ -104,8 +106,8 @@ fn spans_of(
     }
 }
 
-/// Returns the spans of Modbus registers that the plan of a device's point list reads: from read
-/// `from`, at most `most` reads.
+/// Returns the spans of Modbus registers that a device is polled for. The first is the planned read
+/// with the index `from`; at most `most` spans are returned.
 pub fn reads<S: Alter>(
     alloc: Global,
     conn: &mut Connection<S>,

@@ -47,7 +47,8 @@ fn scale(text: String) -> Result<PointScale, RowFault>
     }
 }
 
-/// Converts a row of `points` to a point of a point list. Reports invalid values as damage.
+/// Converts a row of `points` to a point of a point list. Reports texts that don't parse as
+/// `Damaged`.
 fn point_from(row: store_devices::Point) -> Result<ListedPoint, RowFault>
     ensures { result ≡ point_with (string_bytes row.name) (string_bytes row.kind)
         (string_bytes row.scale) row.row }

@@ -35,7 +35,7 @@ fn span_from(row: store_devices::PollRow) -> ReadSpan
     }
 }
 
-/// Converts a row of `polls` to a poll. Reports invalid values as damage.
+/// Converts a row of `polls` to a poll. Reports an invalid name of the device as `Damaged`.
 fn poll_from(row: &store_devices::Poll) -> Result<Poll, RowFault>
     requires { IsSoundPoll row.now.row }
     ensures numbers { IfOk result (HasNumbers (string_bytes row.now.device) row.now.row) }
@@ -111,7 +111,7 @@ fn ended(row: OutcomeRow) -> EndedPoll
     }
 }
 
-/// Returns the outcome of a poll, or None if the poll is pending.
+/// Returns the recorded outcome of a poll, or None if the poll has no outcome yet.
 fn end_of<S: Alter>(conn: &mut Connection<S>, number: u64) -> Result<Option<EndedPoll>, RowFault>
     requires idle { conn.old.in_transaction ≡ false }
     requires place { number ≤ greatest_place }
@@ -158,7 +158,7 @@ pub fn poll_count<S: Alter>(conn: &mut Connection<S>) -> Result<u64, RowFault>
     }
 }
 
-/// Queries the rows of the pending polls, in the order of their numbers.
+/// Queries the rows of the polls without an outcome, in the order of their numbers.
 fn waiting<S: Alter>(conn: &mut Connection<S>) -> Result<Vec<Row>, RowFault>
     requires { conn.old.in_transaction ≡ false }
     ensures { Finds S.Store conn.old conn.new result ShowsPendingPolls HasReadablePolls }
@@ -167,7 +167,7 @@ fn waiting<S: Alter>(conn: &mut Connection<S>) -> Result<Vec<Row>, RowFault>
     Ok(pending_rows(conn)?)
 }
 
-/// Returns the pending polls, in the order in which they were started.
+/// Returns the polls that have no outcome yet, in the order in which they were started.
 pub fn pending<S: Alter>(conn: &mut Connection<S>) -> Result<Vec<Poll>, RowFault>
     requires { conn.old.in_transaction ≡ false }
     ensures { Finds S.Store conn.old conn.new result

@@ -1,4 +1,4 @@
-//! Queries for accounting registers.
+//! Queries for accounting registers: the named energy counters of devices.
 ghost use Rattle.std.specs.Prelude.{◌≡◌, false, length, string_bytes, IsUtf8};
 ghost use Rattle.std.specs.List.{filter};
 ghost use Rattle.office_rules.specs.Facts as facts_of;
@@ -28,7 +28,8 @@ fn source(scale: RegisterScale) -> ScaleSource
     }
 }
 
-/// Converts a row of `registers` to an accounting register. Reports invalid values as damage.
+/// Converts a row of `registers` to an accounting register (a named energy counter of a device).
+/// Reports invalid values as `Damaged`.
 fn register_from(row: &store_devices::Register) -> Result<Register, RowFault>
     ensures { result ≡
         register_with (string_bytes row.now.name) (string_bytes row.now.device) row.now.row }
@@ -120,7 +121,7 @@ pub fn registers<S: Alter>(
     registers_in(&rows)
 }
 
-/// Returns the accounting registers of a device that get a reading from a Modbus read of `span`.
+/// Returns the accounting registers of a device whose counters a Modbus read of `span` contains.
 /// Queries all accounting registers of the device.
 pub fn registers_read<S: Alter>(
     conn: &mut Connection<S>,

@@ -1,4 +1,5 @@
-//! Builds an entry of a meter from its row and the rows around it.
+//! Builds an entry of a meter from its row and the rows of its neighbours, instead of reading all
+//! rows of the meter.
 ghost use Rattle.std.specs.Prelude.{◌≡◌, ◌≤◌, false, IfOk, IfSome, IsUtf8};
 ghost use Rattle.office_rules.specs.Lawful.{AreLawful};
 ghost use Rattle.office_rules.specs.Ranges.{IsSound};
@@ -33,7 +34,7 @@ pub(crate) struct Sides {
 }
 
 /// The row of a meter entry, and the rows of the nearest entries before and after it that are not
-/// voided. `before` may be the opening.
+/// voided. `before` may be the meter's first entry, made at its installation.
 #[derive(Clone, Copy, Debug, PartialEq, Eq)]
 pub(crate) struct Around {
     pub entry: EntryRow,
@@ -41,8 +42,8 @@ pub(crate) struct Around {
     pub next: Option<EntryRow>,
 }
 
-/// Returns true if one of the voids cancels the meter entry at `place`, or None if a void can't be
-/// read.
+/// Returns true if one of `voids`, the rows that cancel readings, cancels the entry at index
+/// `place`. Returns None if a row can't be read.
 fn is_named(voids: &[Row], place: u64) -> Option<bool>
     ensures { IfSome result (ReportsVoided voids.now place) }
 {
@@ -52,8 +53,8 @@ fn is_named(voids: &[Row], place: u64) -> Option<bool>
     }
 }
 
-/// Returns the index of the last meter entry before `place` without a void, or 1 for the opening.
-/// Returns None if a void can't be read.
+/// Returns the index of the last entry before `place` that no row of `voids` cancels, or 1 for the
+/// meter's first entry. Returns None if a row can't be read.
 fn place_before(voids: &[Row], place: u64) -> Option<u64>
     requires following { 2 ≤ place }
     ensures before { IfSome result (λ n. ByVoids (λ vs. IsBefore vs place n) voids.now) }
@@ -68,8 +69,8 @@ fn place_before(voids: &[Row], place: u64) -> Option<u64>
     Some(1)
 }
 
-/// Returns the first index after `place` that no void has. Returns None if a void can't be read, or
-/// if every later index has a void.
+/// Returns the first index after `place` that no row of `voids` cancels. Returns None if a row
+/// can't be read, or if every later index is cancelled.
 fn place_after(voids: &[Row], place: u64) -> Option<u64>
     requires place { place ≤ greatest_place }
     ensures after { IfSome result (λ n. ByVoids (λ vs. IsAfter vs place n) voids.now) }
@@ -83,8 +84,8 @@ fn place_after(voids: &[Row], place: u64) -> Option<u64>
     None
 }
 
-/// Returns the indices on both sides of the entry at `place`, and whether the entry is not voided.
-/// Returns None if no entry can have the index `place`.
+/// Returns the indices of the nearest entries around `place` that are not voided, and whether the
+/// entry at `place` counts. Returns None if no entry can have the index `place`.
 fn sides_of(voids: &[Row], place: u64) -> Option<Sides>
     ensures following { IfSome result (λ sides. 2 ≤ place) }
     ensures place { IfSome result (λ sides. place ≤ greatest_place) }
@@ -120,8 +121,8 @@ fn row_there<S: Alter>(
     entry_at(conn, meter, place)
 }
 
-/// Queries the row of a meter entry and the rows before and after it. Returns None if the row of
-/// the entry, or the row before it, is missing.
+/// Queries the row of the meter entry at `place`, and the rows at the indices in `sides`. Returns
+/// None if the row of the entry, or the row before it, is missing.
 fn rows_around<S: Alter>(
     conn: &mut Connection<S>,
     meter: &str,
@@ -150,7 +151,8 @@ fn rows_around<S: Alter>(
     }))
 }
 
-/// Converts the row of the next meter entry that is not voided to a journal row.
+/// Converts the row of the next entry that is not voided to a row of the meter's journal, its
+/// history.
 fn next_row(next: &Option<EntryRow>) -> Option<meter_journal::EntryRow>
     ensures { result ≡ next_from next.now }
 {
@@ -160,8 +162,8 @@ fn next_row(next: &Option<EntryRow>) -> Option<meter_journal::EntryRow>
     }
 }
 
-/// Returns the installation with its counter's state after an earlier entry, and the total energy
-/// of the complete meter.
+/// Returns the state of a meter with its counter as of an earlier entry, but with the meter's total
+/// energy: the energy up to that entry is not known.
 fn stood_after(whole: &Installation, before: &EntryRow) -> Installation
     ensures { result ≡ stood whole.now before.now }
 {
@@ -173,8 +175,8 @@ fn stood_after(whole: &Installation, before: &EntryRow) -> Installation
     }
 }
 
-/// Builds an entry from its row and the rows around it. Returns None if no office can have these
-/// rows.
+/// Builds an entry from its row and the rows around it. Returns None if the row is a meter's first
+/// entry, or if a number is out of its range.
 fn seen(whole: &Installation, around: &Around, stands: bool) -> Option<EntryContext>
     ensures seen { IfSome result (IsSeen whole.now around.now stands) }
     ensures sound { IfSome result (λ found. IsSound found.before) }
@@ -188,7 +190,7 @@ fn seen(whole: &Installation, around: &Around, stands: bool) -> Option<EntryCont
     Some(EntryContext { before, row, next })
 }
 
-/// Returns the entry of a meter at an index from its row and the rows around it. Returns None if
+/// Returns the meter entry at index `place` from its row and the rows around it. Returns None if
 /// these rows don't determine the entry.
 fn entry_from_neighbours<S: Alter>(
     conn: &mut Connection<S>,
@@ -216,7 +218,7 @@ fn entry_from_neighbours<S: Alter>(
     Ok(seen(whole, &around, sides.stands))
 }
 
-/// Returns the entry of a meter at an index from all rows of the meter in `entries`.
+/// Returns the meter entry at index `place` from all rows of the meter in `entries`.
 fn entry_from_all_rows<S: Alter>(
     alloc: Global,
     conn: &mut Connection<S>,
@@ -239,10 +241,9 @@ fn entry_from_all_rows<S: Alter>(
     }
 }
 
-/// Returns the entry of a meter at an index of at least 2, with the meter's total energy instead of
-/// the energy before the entry. Reads the meter's voids and the rows around the entry. Reads all
-/// entries of the meter if these rows don't determine the entry, for example because the entry
-/// doesn't exist.
+/// Returns the meter entry at index `place`, with the meter's total energy instead of the energy
+/// before the entry. Reads the meter's voids (cancelled readings) and the rows around the entry. If
+/// these rows don't determine the entry, reads all entries of the meter.
 pub fn entry_near<S: Alter>(
     alloc: Global,
     conn: &mut Connection<S>,

@@ -30,7 +30,7 @@ fn entries<S: Alter>(conn: &mut Connection<S>, meter: &str) -> Result<Vec<Row>, 
     Ok(rows)
 }
 
-/// Queries the voids of a meter's entries.
+/// Queries a meter's rows of `voids`, which cancel single entries.
 pub(crate) fn voids<S: Alter>(conn: &mut Connection<S>, meter: &str) -> Result<Vec<Row>, RowFault>
     requires { conn.old.in_transaction ≡ false }
     ensures { Finds S.Store conn.old conn.new result
@@ -41,7 +41,8 @@ pub(crate) fn voids<S: Alter>(conn: &mut Connection<S>, meter: &str) -> Result<V
     Ok(rows)
 }
 
-/// Returns the journal rows of a meter after its opening, the oldest first.
+/// Returns all entries of a meter except its first one, the oldest first. Entries that a void
+/// cancels are marked.
 pub(crate) fn rows<S: Alter>(
     alloc: Global,
     conn: &mut Connection<S>,
@@ -59,8 +60,8 @@ pub(crate) fn rows<S: Alter>(
     journal_rows(alloc, &entries, &voids)
 }
 
-/// Returns the entry of a meter at an index of at least 2. The result also has the meter's state
-/// before the entry, and the next entry that is not voided. Reads all entries of the meter.
+/// Returns the meter entry at index `place`, with the meter's state before the entry and the next
+/// entry that is not voided. Returns None for index 1. Reads all entries of the meter.
 pub fn entry<S: Alter>(
     alloc: Global,
     conn: &mut Connection<S>,

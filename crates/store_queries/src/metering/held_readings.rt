@@ -1,4 +1,4 @@
-//! Streams of rejected readings to a sink.
+//! Streams rejected readings to a `RowSink`, which receives them one by one.
 ghost use Rattle.std.specs.Prelude.{◌≡◌, false, IsUtf8};
 ghost use Rattle.office_books.specs.Holds.{holds_of, holds_within};
 ghost use Rattle.store_facts.specs.Holds.{IsSoundReading};
@@ -12,8 +12,8 @@ use sqlite::{Alter, Connection};
 use store_facts::{holds as tables, text};
 use store_tables::{RowFault, check_open};
 
-/// Streams the rejected readings of a meter with timestamps in `span` to a sink, in the order in
-/// which they were recorded. Keeps no row in memory.
+/// Passes the rejected readings of a meter with timestamps in `span` to `sink` one by one, in the
+/// order in which they were recorded. Keeps no row in memory.
 pub fn holds<S: Alter, K: RowSink<HeldReading>>(
     conn: &mut Connection<S>,
     meter: &Name,

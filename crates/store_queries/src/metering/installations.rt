@@ -1,4 +1,5 @@
-//! Builds a meter's installation from its rows in three tables.
+//! Builds a meter's installation (its opening, last entry and total energy) from its rows in three
+//! tables.
 ghost use Rattle.std.specs.Prelude.{◌≡◌, false, IfOk, IfErr};
 ghost use Rattle.office_rules.specs.Ranges.{IsSound};
 ghost use Rattle.store_queries.specs.Finding.Finding.{Finds};
@@ -16,7 +17,8 @@ use sqlite::{Alter, Connection};
 use store_facts::name;
 use store_tables::{EntryRow, InstallationRow, RowFault};
 
-/// Builds the opening of a meter from its rows in `installations`, `ranges` and `entries`.
+/// Builds the opening of a meter, the record of its installation, from its rows in `installations`,
+/// `ranges` and `entries`.
 fn opening(
     row: &store_tables::Installation,
     range: u64,
@@ -38,8 +40,8 @@ fn opening(
     })
 }
 
-/// Builds an installation from its opening and the numbers of its row in `installations`. Reports
-/// numbers out of their ranges as damage.
+/// Builds the state of a meter from its opening (the record of its installation) and its row in
+/// `installations`. Reports numbers out of their ranges as `Damaged`.
 fn installed(opening: Opening, row: InstallationRow) -> Result<Installation, RowFault>
     ensures stands { IfOk result (λ found. found ≡ standing_from opening row) }
     ensures sound { IfOk result IsSound }
@@ -63,8 +65,8 @@ fn installed(opening: Opening, row: InstallationRow) -> Result<Installation, Row
     }
 }
 
-/// Returns the installation that a row of `installations` and the meter's rows in other tables
-/// encode.
+/// Returns the state of the meter that has the row `row` in `installations`. Also queries the
+/// meter's counter range and first entry.
 pub(crate) fn standing<S: Alter>(
     conn: &mut Connection<S>,
     row: &store_tables::Installation,

@@ -1,4 +1,5 @@
-//! Builds the journal of a meter from the rows of its entries and voids.
+//! Builds the journal of a meter (its entries in order) from the rows of its entries and voids. A
+//! void is a row that cancels one entry.
 ghost use Rattle.std.specs.Prelude.{◌≡◌, ◌++◌, ◌∷◌, [], IfOk, IfErr, OnOk};
 ghost use Rattle.std.specs.Option.{option_to_list};
 ghost use Rattle.store_queries.specs.Metering.Entries.{step_row, change_row, row_from};
@@ -13,7 +14,8 @@ use sqlite::{Error, ErrorCode, Row};
 use std::alloc::Global;
 use store_tables::{EntryKind, RowFault, read_entry, read_void};
 
-/// Returns the journal row of a reading, a reading that a person entered, or a closing.
+/// Returns the row in a meter's journal (its history) for an entry that reads the counter: by a
+/// poll, by hand, or when the meter is closed.
 fn step(kind: meter_journal::EntryKind, row: store_tables::EntryRow, stands: bool) -> EntryRow
     ensures { result ≡ step_row kind row stands }
 {
@@ -29,7 +31,8 @@ fn step(kind: meter_journal::EntryKind, row: store_tables::EntryRow, stands: boo
     }
 }
 
-/// Returns the journal row of a reset or a rescale.
+/// Returns the row in a meter's journal (its history) for an entry that sets the counter or its
+/// scale factor: a reset or a rescale.
 fn change(kind: meter_journal::EntryKind, row: store_tables::EntryRow, stands: bool) -> EntryRow
     ensures { result ≡ change_row kind row stands }
 {
@@ -46,8 +49,8 @@ fn change(kind: meter_journal::EntryKind, row: store_tables::EntryRow, stands: b
     }
 }
 
-/// Returns the journal row of a meter entry, or None for the opening, which is not a row of the
-/// journal.
+/// Converts a row of `entries` to a row of the meter's journal (its history). Returns None for the
+/// first entry, which the journal stores apart from its rows.
 pub(crate) fn entry_row(row: store_tables::EntryRow, stands: bool) -> Option<EntryRow>
     ensures { result ≡ row_from row stands }
 {
@@ -61,7 +64,8 @@ pub(crate) fn entry_row(row: store_tables::EntryRow, stands: bool) -> Option<Ent
     }
 }
 
-/// Returns true if one of the voids cancels the meter entry at `place`.
+/// Returns true if one of `voids`, the rows that cancel readings, cancels the entry at index
+/// `place`.
 pub(crate) fn is_voided(voids: &[Row], place: u64) -> Result<bool, RowFault>
     ensures reported { IfOk result (ReportsVoided voids.now place) }
     ensures fault { IfErr result (IsFaultOfVoids voids.now) }
@@ -84,7 +88,7 @@ fn push(rows: &mut Vec<EntryRow>, row: EntryRow) -> Result<(), RowFault>
     }
 }
 
-/// Appends a journal row to the rows of a journal. If the row is None, appends nothing.
+/// Appends `row` to the rows of a meter's journal (its history). Appends nothing if `row` is None.
 fn add(rows: &mut Vec<EntryRow>, row: Option<EntryRow>) -> Result<(), RowFault>
     ensures put { OnOk result (rows.new.items ≡ rows.old.items ++ option_to_list row) }
     ensures fault { IfErr result (λ e. e ≡ Sql want_of_memory) }
@@ -95,7 +99,8 @@ fn add(rows: &mut Vec<EntryRow>, row: Option<EntryRow>) -> Result<(), RowFault>
     }
 }
 
-/// Builds the journal rows of a meter after its opening, the oldest first.
+/// Builds the rows of a meter's journal (its history) from result rows, the oldest first. The
+/// meter's first entry, made at installation, has no journal row.
 pub fn journal_rows(
     alloc: Global,
     entries: &[Row],

@@ -19,7 +19,7 @@ use std::alloc::Global;
 use store_facts::text;
 use store_tables::RowFault;
 
-/// Lists the opening and the journal rows of a meter, the oldest first. Begins at index `from`, and
+/// Lists a meter's first entry and its later entries, the oldest first. Begins at index `from`, and
 /// lists at most `most` entries.
 fn listed(
     alloc: Global,

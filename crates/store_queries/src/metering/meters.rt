@@ -1,4 +1,5 @@
-//! Queries for installations by meter and by accounting register.
+//! Queries for the installation of a meter (its opening, last entry and total energy) by the
+//! meter's name or by its accounting register.
 ghost use Rattle.std.specs.Prelude.{◌≡◌, false, length, IfOk, IfSome, IsUtf8};
 ghost use Rattle.office_rules.specs.Ranges.{IsSound};
 ghost use Rattle.office_rules.specs.Facts.{openings_in};
@@ -14,7 +15,7 @@ use sqlite::{Alter, Connection};
 use store_facts::text;
 use store_tables::{RowFault, check_open, last_installation};
 
-/// Returns the installation of a meter, or None if the store has no such meter.
+/// Returns the stored state of a meter, or None if the store has no meter with this name.
 pub fn meter<S: Alter>(
     conn: &mut Connection<S>,
     name: &Name,
@@ -32,8 +33,8 @@ pub fn meter<S: Alter>(
     }
 }
 
-/// Returns the latest installation at an accounting register, or None if no meter was installed at
-/// the register.
+/// Returns the state of the meter that was installed last at an accounting register (a named
+/// counter of a device). Returns None if no meter was installed there.
 pub fn installation<S: Alter>(
     conn: &mut Connection<S>,
     register: &Name,
@@ -51,7 +52,8 @@ pub fn installation<S: Alter>(
     }
 }
 
-/// Returns the greatest index of all installations, which is the number of installations.
+/// Returns the greatest index in `installations`. Rows are numbered from 1, so this index is the
+/// number of meters.
 fn last_place<S: Alter>(conn: &mut Connection<S>) -> Result<Option<u64>, RowFault>
     requires { conn.old.in_transaction ≡ false }
     ensures { Finds S.Store conn.old conn.new result CountsOpenings HasReadableMeters }

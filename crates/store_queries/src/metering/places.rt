@@ -20,7 +20,8 @@ use office_books::installation_after;
 use office_events::{EntryContext, Installation};
 use store_tables::RowFault;
 
-/// Returns the first `count` journal rows, or all rows if there are fewer.
+/// Returns the first `count` rows of a meter's journal (its history), or all rows if there are
+/// fewer.
 fn first(rows: &[EntryRow], count: usize) -> &[EntryRow]
     ensures { result.now ≡ take count rows.now }
 {
@@ -31,8 +32,8 @@ fn first(rows: &[EntryRow], count: usize) -> &[EntryRow]
     }
 }
 
-/// Returns the counter's state and the energy after some journal rows. Reports rows that may not
-/// follow one another as damage.
+/// Returns the counter's state and the total energy after the entries in `rows`. Reports entries
+/// that the rules don't allow in this order as `Damaged`.
 pub fn tally(meter: &Installed, rows: &[EntryRow]) -> Result<Tally, RowFault>
     requires range_low { MIN_RANGE ≤ meter.now.range }
     requires range_high { meter.now.range ≤ MAX_RANGE }
@@ -48,8 +49,8 @@ pub fn tally(meter: &Installed, rows: &[EntryRow]) -> Result<Tally, RowFault>
     }
 }
 
-/// Returns the state of an installation after some journal rows. Reports rows that may not follow
-/// one another as damage.
+/// Returns the state of a meter after the entries in `rows`. Reports entries that the rules don't
+/// allow in this order as `Damaged`.
 fn stood_after(whole: &Installation, rows: &[EntryRow]) -> Result<Installation, RowFault>
     ensures stands { let es = entries_in (lists.latest_first rows.now) in
         IfOk result (λ row. row ≡ meters.standing whole.now.opening es whole.now.ended) }
@@ -64,8 +65,8 @@ fn stood_after(whole: &Installation, rows: &[EntryRow]) -> Result<Installation, 
     }
 }
 
-/// Finds the entry at an index in a meter's journal, whose oldest row is first. Returns the entry
-/// with the meter's state before the entry and the next entry that is not voided.
+/// Finds the entry at index `place` in a meter's journal (its history, the oldest row first).
+/// Returns it with the meter's state before the entry, and with the next entry that is not voided.
 pub(crate) fn placed(
     whole: &Installation,
     rows: &[EntryRow],

@@ -1,4 +1,4 @@
-//! Queries for all installations at an accounting register.
+//! Queries for all meters that were installed at an accounting register, one after another.
 ghost use Rattle.std.specs.Prelude.{◌≡◌, false, List, map, IsUtf8};
 ghost use Rattle.office_books.specs.Entries.{installations_of};
 ghost use Rattle.office_events.specs.declared.facts.Opening.{Opening as RecordedOpening};
@@ -17,8 +17,8 @@ use std::alloc::Global;
 use store_facts::{register_meter_rows, text};
 use store_tables::{RowFault, check_open, read_installation};
 
-/// Queries the rows of the installations at an accounting register, in the order in which they were
-/// installed.
+/// Queries the rows of `installations` at an accounting register, in the order in which the meters
+/// were installed.
 fn rows_at<S: Alter>(conn: &mut Connection<S>, register: &str) -> Result<Vec<Row>, RowFault>
     requires { conn.old.in_transaction ≡ false }
     ensures { Finds S.Store conn.old conn.new result
@@ -28,7 +28,7 @@ fn rows_at<S: Alter>(conn: &mut Connection<S>, register: &str) -> Result<Vec<Row
     Ok(register_meter_rows(conn, register)?)
 }
 
-/// Reads installations from the rows of the query for an accounting register's installations.
+/// Reads rows of `installations` from the result rows of a query.
 fn installed_in(rows: &Vec<Row>) -> Result<Vec<store_tables::Installation>, RowFault>
     ensures { ReadsAll rows.now.items installed_shown IsInstalled IsSoundInstalled
         (λ v. v.items) result }
@@ -41,7 +41,7 @@ fn installed_in(rows: &Vec<Row>) -> Result<Vec<store_tables::Installation>, RowF
     Ok(installed)
 }
 
-/// Reads the rows of the installations at an accounting register.
+/// Queries and reads the rows of `installations` at an accounting register.
 fn installed_at<S: Alter>(
     conn: &mut Connection<S>,
     register: &str,
@@ -55,7 +55,7 @@ fn installed_at<S: Alter>(
     installed_in(&rows)
 }
 
-/// Returns the installations that rows of `installations` encode.
+/// Returns the state of the meter of each row in `rows`, in the same order.
 fn standing_all<S: Alter>(
     alloc: Global,
     conn: &mut Connection<S>,
@@ -76,8 +76,8 @@ fn standing_all<S: Alter>(
     Ok(found)
 }
 
-/// Returns all installations at an accounting register, including closed ones, in the order in
-/// which they were installed.
+/// Returns the state of each meter that was installed at an accounting register, including closed
+/// meters, in the order of installation.
 pub fn meters_at<S: Alter>(
     alloc: Global,
     conn: &mut Connection<S>,

@@ -1,4 +1,4 @@
-//! Queries for single rows of a meter, with contracts about the records.
+//! Queries for single rows of a meter, with contracts about the records that the rows encode.
 ghost use Rattle.std.specs.Prelude.{◌≡◌, false};
 ghost use Rattle.office_rules.specs.Facts.{opening_of, installed_at};
 ghost use Rattle.store_queries.specs.Finding.Finding.{Finds};
@@ -12,7 +12,7 @@ use store_tables::{
     range_of,
 };
 
-/// Queries the row of a meter's installation.
+/// Queries the meter's row in `installations`, which has its last entry and total energy.
 pub(crate) fn row_of<S: Alter>(
     conn: &mut Connection<S>,
     meter: &str,
@@ -25,7 +25,7 @@ pub(crate) fn row_of<S: Alter>(
     installation_of(conn, meter)
 }
 
-/// Queries the row of the latest installation at an accounting register.
+/// Queries the row of the meter that was installed last at an accounting register.
 pub(crate) fn row_at<S: Alter>(
     conn: &mut Connection<S>,
     register: &str,
@@ -51,7 +51,7 @@ pub(crate) fn range<S: Alter>(
     range_of(conn, meter)
 }
 
-/// Queries the first entry of a meter, which is its opening.
+/// Queries the first entry of a meter, its opening, which was made at installation.
 pub(crate) fn first_entry<S: Alter>(
     conn: &mut Connection<S>,
     meter: &str,

@@ -1,4 +1,5 @@
-//! Streams of the energy of meters by quarter hours.
+//! Streams the energy of meters by quarter hours to a `RowSink`, which receives the rows one by
+//! one.
 ghost use Rattle.std.specs.Prelude.{◌≡◌, ◌+◌, false, min, IsUtf8};
 ghost use Rattle.office_books.specs.Spans.{rows_within};
 ghost use Rattle.office_rules.specs.Intervals.{rows_of_meter, rows_of_register};
@@ -15,15 +16,15 @@ use sqlite::{Alter, Connection};
 use store_facts::{intervals as tables, text};
 use store_tables::{LATEST_MOMENT, RowFault, check_open};
 
-/// Limits a bound of a time span to one second after the latest timestamp of the store.
+/// Limits a bound of a time span to one second after the latest timestamp that the store allows.
 pub(super) fn bound(moment: u64) -> u64
     ensures { result ≡ min moment (latest_moment + 1) }
 {
     moment.min(LATEST_MOMENT + 1)
 }
 
-/// Streams the energy of a meter by the quarter hours that start in `span`, ordered by their
-/// starts. Reads no other row.
+/// Passes the energy of a meter in each quarter hour that starts in `span` to `sink`, in the order
+/// of time. Reads no other row.
 pub fn intervals<S: Alter, K: RowSink<Share>>(
     conn: &mut Connection<S>,
     meter: &Name,
@@ -47,8 +48,8 @@ pub fn intervals<S: Alter, K: RowSink<Share>>(
     }
 }
 
-/// Streams the energy of an accounting register by the quarter hours that start in `span`. The
-/// meters follow one another in the order of installation.
+/// Passes the energy of an accounting register in each quarter hour that starts in `span` to
+/// `sink`. The register's meters follow one another in the order of installation.
 pub fn register_intervals<S: Alter, K: RowSink<Share>>(
     conn: &mut Connection<S>,
     register: &Name,

@@ -1,11 +1,12 @@
--- The timestamps that the queries for the latest entry and the latest void show.
+-- The timestamps that the queries for the latest entry and the latest void (cancellation of an
+-- entry) return.
 use Rattle.std.specs.Prelude.{◌≡◌, ℕ, pos, ◌≤◌, [], ◌∷◌}
 use Rattle.sqlite.specs.declared.types.Value.TheVariants.{Int}
 use Rattle.sqlite.specs.Order.{Row}
 use Rattle.store_tables.specs.Limits.{latest_moment}
 use Rattle.store_tables.specs.Entries.Rows.{Entered, Voided}
 
--- The timestamp of an entry, in seconds since 1970-01-01 UTC.
+-- The timestamp of a meter's entry, in seconds since 1970-01-01 UTC.
 abbrev pub entry_moment : Entered → ℕ
 entry_moment e = e.entry.moment
 
@@ -13,7 +14,7 @@ entry_moment e = e.entry.moment
 abbrev pub entry_moment_shown : Entered → Row
 entry_moment_shown e = Int (pos e.entry.moment) ∷ []
 
--- True if a look-up read the timestamp of the entry `e`.
+-- True if a query returned the timestamp of the entry `e`.
 abbrev pub HasEntryMoment : Entered → ℕ → Type 0
 HasEntryMoment e moment = moment ≡ e.entry.moment
 
@@ -21,14 +22,17 @@ HasEntryMoment e moment = moment ≡ e.entry.moment
 abbrev pub void_moment : Voided → ℕ
 void_moment v = v.moment
 
--- The column that the query for the latest void returns: the time at which the entry was voided.
+-- The column that the query for the latest row of `voids` returns: the time at which the entry was
+-- voided.
 abbrev pub void_moment_shown : Voided → Row
 void_moment_shown v = Int (pos v.moment) ∷ []
 
--- True if a look-up read the time at which the entry of the void `v` was voided.
+-- True if a query returned the time at which an entry was voided. The row `v` of `voids` has this
+-- time.
 abbrev pub HasVoidMoment : Voided → ℕ → Type 0
 HasVoidMoment v moment = moment ≡ v.moment
 
--- True if the time at which an entry was voided is at most the store's latest timestamp.
+-- True if the time at which an entry was voided is at most the latest timestamp that the store
+-- accepts.
 abbrev pub IsTimelyVoid : Voided → Type 0
 IsTimelyVoid v = v.moment ≤ latest_moment

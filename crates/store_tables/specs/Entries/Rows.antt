@@ -1,4 +1,5 @@
--- Rows of `entries` and `voids`, their columns, and the ranges of their values.
+-- Rows of `entries` (readings and corrections of meters) and `voids` (cancelled entries), their
+-- columns, and the ranges of their values.
 use Rattle.std.specs.Prelude.{◌≡◌, ℕ, pos, ◌≤◌, List, [], ◌∷◌, IsTrue, Bool, bytes_eq, ◌&&◌, ◌==◌, Option, Some, None, if◌then◌else◌, Result, Ok}
 use Rattle.std.specs.Option.{option_and_then}
 use Rattle.energy_core.specs.declared.limits.TheConstants.{MAX_SHOWN}
@@ -21,7 +22,7 @@ kind_number Closing = 4
 kind_number Reset = 5
 kind_number Rescale = 6
 
--- The kind of entry that a number in the column `kind` encodes, or None.
+-- The kind of entry that a number in the column `kind` encodes, or None for any other number.
 abbrev pub kind_of : ℕ → Option EntryKind
 kind_of n =
     if n == 1 then Some Opening else
@@ -36,7 +37,7 @@ pub record Entered : Type 0 where
   pub meter : List ℕ
   pub entry : EntryRow
 
--- The columns of an entry in the table `entries`.
+-- The columns of a meter's entry in the table `entries`.
 abbrev pub entry_columns : Entered → Row
 entry_columns e =
     Text e.meter ∷ Int (pos e.entry.place) ∷ Int (pos (kind_number e.entry.kind))
@@ -72,7 +73,7 @@ entry_shown e =
     ∷ Int (pos e.entry.raw)
     ∷ Int (pos e.entry.rolls) ∷ Int (pos e.entry.after) ∷ Int e.entry.sf ∷ []
 
--- True if the entry that a look-up read equals the stored entry.
+-- True if the entry that a query returned equals the stored entry.
 abbrev pub IsRow : Entered → EntryRow → Type 0
 IsRow e row = row ≡ e.entry
 
@@ -84,7 +85,7 @@ IsSoundEntered e = IsSoundEntry e.entry
 abbrev pub place_shown : Entered → Row
 place_shown e = Int (pos e.entry.place) ∷ []
 
--- The kind of entry whose number is in a column, or None.
+-- The kind of entry whose number is in a column, or None for any other value.
 abbrev pub kind_in : Value → Option EntryKind
 kind_in v = option_and_then kind_of (whole_in 1 6 v)
 
@@ -112,7 +113,7 @@ entry_in row =
 abbrev pub entry_place : Entered → ℕ
 entry_place e = e.entry.place
 
--- ---- voids
+-- ---- rows of `voids`, which cancel entries
 
 -- A void: a record that cancels the entry of a meter at index `place`.
 pub record Voided : Type 0 where
@@ -123,7 +124,7 @@ pub record Voided : Type 0 where
 abbrev pub voided_at : (meter : List ℕ) → (place moment : ℕ) → Voided
 voided_at meter place moment = record { meter = meter; place = place; moment = moment }
 
--- The columns of a void in the table `voids`.
+-- The columns of a row of `voids`: the meter, the index of the cancelled entry, and the time.
 abbrev pub voided_columns : Voided → Row
 voided_columns v = Text v.meter ∷ Int (pos v.place) ∷ Int (pos v.moment) ∷ []
 
@@ -131,11 +132,11 @@ voided_columns v = Text v.meter ∷ Int (pos v.place) ∷ Int (pos v.moment) ∷
 abbrev pub voided_shown : Voided → Row
 voided_shown v = Int (pos v.place) ∷ []
 
--- True if a void cancels an entry of the meter `meter`.
+-- True if a row of `voids` cancels an entry of the meter `meter`.
 abbrev pub is_void_of : (meter : List ℕ) → Voided → Bool
 is_void_of meter v = bytes_eq v.meter meter
 
--- The index of the entry that a void cancels.
+-- The index of the entry that a row of `voids` cancels.
 abbrev pub voided_place : Voided → ℕ
 voided_place v = v.place
 
@@ -143,6 +144,6 @@ voided_place v = v.place
 abbrev pub IsSoundVoided : Voided → Type 0
 IsSoundVoided v = IsPlace v.place
 
--- True if a look-up read the index of the voided entry.
+-- True if a query returned the index of the voided entry.
 abbrev pub HasPlace : Voided → ℕ → Type 0
 HasPlace v place = place ≡ v.place

@@ -1,4 +1,5 @@
--- The numbers of the B-trees that store the tables `entries` and `voids`.
+-- The numbers that identify the B-trees of the tables `entries` and `voids` in contracts and
+-- proofs.
 use Rattle.std.specs.Prelude.{ℕ}
 
 abbrev pub entries : ℕ

@@ -1,4 +1,5 @@
--- Rows of `installations` and `ranges`, their columns, and the ranges of their values.
+-- Rows of `installations` (meters) and `ranges` (values of their counters), their columns, and the
+-- ranges of their values.
 use Rattle.std.specs.Prelude.{◌≡◌, ℕ, pos, ◌≤◌, List, [], ◌∷◌, IsTrue, Bool, bytes_eq, ◌==◌, Option, Some, None, if◌then◌else◌, Result, Ok, true, false, IsUtf8, string_bytes}
 use Rattle.std.specs.Option.{option_and_then}
 use Rattle.energy_core.specs.declared.limits.TheConstants.{MAX_CEILING, MAX_RANGE, MAX_SHOWN, MAX_TOTAL, MIN_RANGE}
@@ -26,7 +27,8 @@ abbrev pub ended_number : Bool → ℕ
 ended_number false = 0
 ended_number true = 1
 
--- An installation: a meter with the accounting register at which it is installed.
+-- A row of `installations`: a meter with the accounting register (named counter of a device) at
+-- which it is installed.
 pub record Installed : Type 0 where
   pub meter : List ℕ
   pub register : List ℕ
@@ -35,7 +37,8 @@ pub record Installed : Type 0 where
 abbrev pub meter_at : (meter register : List ℕ) → InstallationRow → Installed
 meter_at meter register row = record { meter = meter; register = register; row = row }
 
--- The columns of an installation in the table `installations`.
+-- The columns of a meter in the table `installations`. The first value is the rowid, and the column
+-- of the integer key is NULL.
 abbrev pub installed_columns : Installed → Row
 installed_columns i =
     Int (pos i.row.place) ∷ Null ∷ Text i.meter ∷ Text i.register ∷ Int (pos i.row.ceiling)
@@ -43,7 +46,7 @@ installed_columns i =
     ∷ Int (pos i.row.last.raw)
     ∷ Int i.row.last.sf ∷ Int (pos i.row.last.total) ∷ []
 
--- The columns that a SELECT from `installations` returns for an installation.
+-- The columns that a SELECT from `installations` returns for a meter.
 abbrev pub installed_shown : Installed → Row
 installed_shown i =
     Int (pos i.row.place) ∷ Text i.meter ∷ Text i.register ∷ Int (pos i.row.ceiling)
@@ -51,23 +54,23 @@ installed_shown i =
     ∷ Int (pos i.row.last.raw)
     ∷ Int i.row.last.sf ∷ Int (pos i.row.last.total) ∷ []
 
--- True if an installation belongs to the meter `meter`.
+-- True if a row of `installations` belongs to the meter `meter`.
 abbrev pub is_meter : (meter : List ℕ) → Installed → Bool
 is_meter meter i = bytes_eq i.meter meter
 
--- True if an installation is at the accounting register `register`.
+-- True if a row of `installations` has a meter at the accounting register `register`.
 abbrev pub is_at : (register : List ℕ) → Installed → Bool
 is_at register i = bytes_eq i.register register
 
--- The index of an installation.
+-- The index of a row of `installations`, in the order of installation.
 abbrev pub installed_place : Installed → ℕ
 installed_place i = i.row.place
 
--- An installation with its last entry and its total energy replaced.
+-- A row of `installations` after an UPDATE replaced the meter's last entry and total energy.
 abbrev pub moved : LastRow → Installed → Installed
 moved last i = record i { row = record i.row { last = last } }
 
--- An installation that is marked as closed.
+-- A row of `installations` after an UPDATE marked the meter as closed.
 abbrev pub ended : Installed → Installed
 ended i = record i { row = record i.row { is_ended = true } }
 
@@ -78,20 +81,20 @@ pub record IsSoundLast (last : LastRow) : Type 0 where
   pub sf : IsTrue (is_within 3 last.sf)
   pub total : last.total ≤ greatest_total
 
--- True if every number of an installation is in its range. Names are not checked.
+-- True if every number in a row of `installations` is in its range. Names are not checked.
 pub record IsSoundInstallation (row : InstallationRow) : Type 0 where
   pub place : (1 ≤ row.place) × (row.place ≤ greatest_place)
   pub ceiling : (1 ≤ row.ceiling) × (row.ceiling ≤ greatest_ceiling)
   pub last : IsSoundLast row.last
 
--- True if every value of an installation is in its range, and its names are UTF-8.
+-- True if every number in a row of `installations` is in its range, and its names are UTF-8.
 pub record IsSoundInstalled (i : Installed) : Type 0 where
   pub row : IsSoundInstallation i.row
   pub meter : IsUtf8 i.meter
   pub register : IsUtf8 i.register
 
--- True if the installation that a look-up read has the names and numbers of the stored
--- installation.
+-- True if the row that a query returned has the names and numbers of the stored row of
+-- `installations`.
 pub record IsInstalled (i : Installed) (a : Installation) : Type 0 where
   pub meter : string_bytes a.meter ≡ i.meter
   pub register : string_bytes a.register ≡ i.register
@@ -114,7 +117,8 @@ last_in row =
     and_then (or_damaged (whole_in 0 greatest_total (column row 8))) (λ total.
     Ok (record { moment = moment; raw = raw; sf = sf; total = total })))))
 
--- The numbers of an installation in a result row, or `Damaged` if a number is out of its range.
+-- The numbers of a meter in a result row of `installations`, or `Damaged` if a number is out of its
+-- range.
 abbrev pub installation_in : Row → Result InstallationRow RowFault
 installation_in row =
     and_then (or_damaged (whole_in 1 greatest_place (column row 0))) (λ place.
@@ -123,30 +127,30 @@ installation_in row =
     and_then (last_in row) (λ last.
     Ok (record { place = place; ceiling = ceiling; is_ended = is_ended; last = last })))))
 
--- The column that the query for the last installation returns: the installation's index.
+-- The column that the query for the last row of `installations` returns: the row's index.
 abbrev pub installed_place_shown : Installed → Row
 installed_place_shown i = Int (pos i.row.place) ∷ []
 
--- True if a look-up read the index of the installation.
+-- True if a query returned the index of the row of `installations`.
 abbrev pub HasInstalledPlace : Installed → ℕ → Type 0
 HasInstalledPlace i place = place ≡ i.row.place
 
--- ---- ranges
+-- ---- rows of `ranges`: how many values each meter's counter has before it rolls over
 
 -- The range of a meter's counter: how many values the counter has before it rolls over.
 pub record Ranged : Type 0 where
   pub meter : List ℕ
   pub range : ℕ
 
--- The columns of a counter's range in the table `ranges`.
+-- The columns of a row of `ranges`: the meter, and how many values its counter has.
 abbrev pub ranged_columns : Ranged → Row
 ranged_columns r = Text r.meter ∷ Int (pos r.range) ∷ []
 
--- The column that the query for a counter's range returns: the range.
+-- The column that the query on `ranges` returns: how many values a meter's counter has.
 abbrev pub range_shown : Ranged → Row
 range_shown r = Int (pos r.range) ∷ []
 
--- True if a counter's range belongs to the meter `meter`.
+-- True if a row of `ranges` belongs to the meter `meter`.
 abbrev pub is_range_of : (meter : List ℕ) → Ranged → Bool
 is_range_of meter r = bytes_eq r.meter meter
 
@@ -158,6 +162,6 @@ IsRange range = (MIN_RANGE ≤ range) × (range ≤ MAX_RANGE)
 abbrev pub IsSoundRanged : Ranged → Type 0
 IsSoundRanged r = IsRange r.range
 
--- True if a look-up read the range of the counter.
+-- True if a query returned the number of values of the counter in a row of `ranges`.
 abbrev pub HasRange : Ranged → ℕ → Type 0
 HasRange r range = range ≡ r.range

@@ -1,4 +1,5 @@
--- The numbers of the B-trees that store the tables `installations` and `ranges`.
+-- The numbers that identify the B-trees of the tables `installations` and `ranges` in contracts and
+-- proofs.
 use Rattle.std.specs.Prelude.{ℕ}
 
 abbrev pub installations : ℕ

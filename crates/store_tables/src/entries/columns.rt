@@ -22,7 +22,7 @@ fn kind(row: &Row, at: usize) -> Result<EntryKind, RowFault>
     }
 }
 
-/// Reads an entry from the seven columns that the queries of `entries` select.
+/// Reads a meter's entry from the seven columns that the queries of `entries` select.
 pub(crate) fn entry(row: &Row) -> Result<EntryRow, RowFault>
     ensures { result ≡ entry_in row.now }
 {
@@ -44,7 +44,7 @@ pub(crate) fn entry(row: &Row) -> Result<EntryRow, RowFault>
     })
 }
 
-/// Reads an entry from a row of `entry_rows`.
+/// Reads a meter's entry from a result row of the query `entry_rows`.
 pub fn read_entry(row: &Row) -> Result<EntryRow, RowFault>
     ensures read { ReadsRow row.now entry_shown IsRow IsSoundEntered result }
     ensures sound { IfOk result IsSoundEntry }
@@ -52,7 +52,7 @@ pub fn read_entry(row: &Row) -> Result<EntryRow, RowFault>
     entry(row)
 }
 
-/// Reads the index of a voided entry from a row of `void_rows`.
+/// Reads the index of a voided entry from a result row of the query `void_rows`.
 pub fn read_void(row: &Row) -> Result<u64, RowFault>
     ensures read { ReadsRow row.now voided_shown HasPlace IsSoundVoided result }
     ensures sound { IfOk result IsPlace }

@@ -1,4 +1,4 @@
-//! Statements on the table `entries`.
+//! SQL statements on the table `entries`, which has the readings and corrections of meters.
 ghost use Rattle.std.specs.Prelude.{◌≤◌, IfOk, IfSome};
 ghost use Rattle.sqlite.specs.Held.{state};
 ghost use Rattle.store_tables.specs.Content.{Edits, with_row, changed_where};
@@ -21,7 +21,7 @@ use sqlite::{Alter, Connection, Error, Row, Transaction, params};
 const OF_METER: &str =
     "SELECT place, kind, moment, raw, rolls, \"after\", sf FROM entries WHERE meter = ?1 ORDER BY place";
 
-/// Inserts an entry of a meter.
+/// Inserts the row of a meter's entry into `entries`.
 pub fn insert_entry<S: Alter>(
     tx: &mut Transaction<'_, S>,
     meter: &str,
@@ -50,8 +50,8 @@ pub fn insert_entry<S: Alter>(
     )
 }
 
-/// Sets how often the counter rolled over between the entry at index `place` and the entry before
-/// it.
+/// Sets how often a meter's counter rolled over between the previous entry and the entry at index
+/// `place`.
 pub fn set_rollovers<S: Alter>(
     tx: &mut Transaction<'_, S>,
     meter: &str,
@@ -111,8 +111,8 @@ pub fn entry_rows<S: Alter>(conn: &mut Connection<S>, meter: &str) -> Result<Vec
     conn.query_all(OF_METER, params![meter])
 }
 
-/// Queries, inside a transaction, the index of a meter's last entry. The first column has the
-/// index.
+/// Queries the index of a meter's last entry inside a transaction, to number the next entry. The
+/// result has one column.
 pub fn last_entry_rows<S: Alter>(
     tx: &mut Transaction<'_, S>,
     meter: &str,

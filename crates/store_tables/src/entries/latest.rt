@@ -1,6 +1,5 @@
-//! The latest timestamps of `entries` and `voids`, in seconds since 1970-01-01 UTC. Each query
-//! scans its complete table, which has no index on timestamps. The queries run once, when an office
-//! is opened.
+//! Queries for the latest timestamps of `entries` and `voids`, in seconds since 1970-01-01 UTC.
+//! Each query scans a complete table, which has no index on timestamps, when a database is opened.
 ghost use Rattle.std.specs.Prelude.{◌≤◌, IfOk, IfSome};
 ghost use Rattle.store_tables.specs.Limits.{latest_moment};
 ghost use Rattle.store_tables.specs.Answer.{IsLast, LastFirst, every};
@@ -26,8 +25,8 @@ fn entry_moments<S: Alter>(conn: &mut Connection<S>) -> Result<Vec<Row>, Error>
     )
 }
 
-/// Returns the latest timestamp of all entries of all meters, or None without entries. The opening
-/// of a meter is an entry too.
+/// Returns the latest timestamp of all entries of all meters, or None if the table `entries` is
+/// empty.
 pub fn latest_entry<S: Alter>(conn: &mut Connection<S>) -> Result<Option<u64>, RowFault>
     ensures finds { LooksUp S.Store conn.old conn.new entries entry_columns IsSoundEntered result
         (IsLast every HasEntryMoment entry_moment) }

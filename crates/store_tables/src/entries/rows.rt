@@ -2,8 +2,8 @@
 ghost use Rattle.std.specs.Prelude.{◌≡◌};
 ghost use Rattle.store_tables.specs.Entries.Rows.{kind_number, kind_of};
 
-/// The kind of an entry. An entry is a reading or a change of a meter's counter that the store has
-/// accepted.
+/// The kind of a meter's entry. An entry is a reading or a change of the meter's counter that the
+/// store has accepted.
 #[derive(Clone, Copy, Debug, PartialEq, Eq)]
 pub enum EntryKind {
     /// The first entry of a meter: the counter's value when the meter was installed.
@@ -16,7 +16,8 @@ pub enum EntryKind {
     Closing,
     /// A reset: the counter was set to another value.
     Reset,
-    /// A rescale: the counter was set to another value, with another scale factor.
+    /// A rescale: the counter was set to another value, with another scale factor (decimal
+    /// exponent).
     Rescale,
 }
 
@@ -51,10 +52,12 @@ impl EntryKind {
     }
 }
 
-/// An entry of a meter. Timestamps are seconds since 1970-01-01 UTC.
+/// An entry of a meter: an accepted reading, or a change of its counter. Timestamps are seconds
+/// since 1970-01-01 UTC.
 #[derive(Clone, Copy, Debug, PartialEq, Eq)]
 pub struct EntryRow {
-    /// The index of the entry. The opening has index 1.
+    /// The index of the entry among the meter's entries. The first entry, made at installation, has
+    /// index 1.
     pub place: u64,
     pub kind: EntryKind,
     pub moment: u64,

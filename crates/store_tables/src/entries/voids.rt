@@ -1,4 +1,4 @@
-//! Statements on the table `voids`.
+//! SQL statements on the table `voids`, whose rows cancel entries of meters.
 ghost use Rattle.std.specs.Prelude.{◌≤◌};
 ghost use Rattle.sqlite.specs.Held.{state};
 ghost use Rattle.store_tables.specs.Content.{Edits, with_row};
@@ -16,7 +16,7 @@ use sqlite::{Alter, Connection, Error, Row, Transaction, params};
 /// The query for the indices of a meter's voided entries, in ascending order.
 const OF_METER: &str = "SELECT place FROM voids WHERE meter = ?1 ORDER BY place";
 
-/// Records that the entry of a meter at index `place` was voided at `moment`.
+/// Inserts a row that cancels a meter's entry at index `place`, voided at the time `moment`.
 pub fn insert_void<S: Alter>(
     tx: &mut Transaction<'_, S>,
     meter: &str,
@@ -37,7 +37,7 @@ pub fn insert_void<S: Alter>(
     )
 }
 
-/// Queries the voided entries of a meter in ascending order of index. `read_void` reads each row.
+/// Queries the indices of a meter's voided entries in ascending order. `read_void` reads each row.
 pub fn void_rows<S: Alter>(conn: &mut Connection<S>, meter: &str) -> Result<Vec<Row>, Error>
     ensures asks { Asks S.Store conn.old conn.new }
     ensures shows { ReportsRows S.Store conn.old conn.new voids voided_columns result

@@ -38,7 +38,8 @@ fn last(row: &Row) -> Result<LastRow, RowFault>
     })
 }
 
-/// Reads all columns of an installation except the names of its meter and register.
+/// Reads all columns of a row of `installations` except the names of the meter and the accounting
+/// register.
 fn numbers(row: &Row) -> Result<InstallationRow, RowFault>
     ensures { result ≡ installation_in row.now }
 {
@@ -54,7 +55,7 @@ fn numbers(row: &Row) -> Result<InstallationRow, RowFault>
     })
 }
 
-/// Reads an installation from a row of `installation_rows`.
+/// Reads the row of a meter from a result row of the query `installation_rows`.
 pub fn read_installation(row: &Row) -> Result<Installation, RowFault>
     ensures read { ReadsRow row.now installed_shown IsInstalled IsSoundInstalled result }
     ensures sound { IfOk result (λ a. IsSoundInstallation a.row) }
@@ -69,7 +70,7 @@ pub fn read_installation(row: &Row) -> Result<Installation, RowFault>
     })
 }
 
-/// Reads the range of a counter from a row of `range_rows`.
+/// Reads how many values a meter's counter has from a result row of the query `range_rows`.
 pub fn read_range(row: &Row) -> Result<u64, RowFault>
     ensures read { ReadsRow row.now range_shown HasRange IsSoundRanged result }
     ensures sound { IfOk result IsRange }

@@ -1,4 +1,4 @@
-//! Statements on the table `installations`.
+//! SQL statements on the table `installations`, which has a row for each meter.
 ghost use Rattle.std.specs.Prelude.{◌≡◌, IfOk, IfSome};
 ghost use Rattle.sqlite.specs.Held.{state};
 ghost use Rattle.store_tables.specs.Content.{Edits, with_row, changed_where};
@@ -18,11 +18,11 @@ use crate::meters::rows::{Installation, InstallationRow, LastRow};
 use crate::{GREATEST_PLACE, RowFault, first_whole, number, signed};
 use sqlite::{Alter, Connection, Error, Row, Transaction, params};
 
-/// The query for the installation of a meter.
+/// The query for a meter's row of `installations`.
 const OF_METER: &str =
     "SELECT place, meter, register, ceiling, ended, last_moment, last_raw, last_sf, total FROM installations WHERE meter = ?1 LIMIT 1";
 
-/// The query for the greatest index of all installations.
+/// The query for the greatest index of all rows of `installations`.
 const LAST: &str = "SELECT place FROM installations ORDER BY place DESC LIMIT 1";
 
 fn flag(is: bool) -> u32
@@ -31,7 +31,7 @@ fn flag(is: bool) -> u32
     if is { 1 } else { 0 }
 }
 
-/// Inserts an installation: a meter at an accounting register.
+/// Inserts the row of a meter at the accounting register `register` (a named counter of a device).
 pub fn insert_installation<S: Alter>(
     tx: &mut Transaction<'_, S>,
     meter: &str,
@@ -100,7 +100,7 @@ pub fn close_installation<S: Alter>(
     )
 }
 
-/// Queries the installation of a meter.
+/// Queries a meter's row of `installations`.
 fn rows_of<S: Alter>(conn: &mut Connection<S>, meter: &str) -> Result<Vec<Row>, Error>
     ensures asks { Asks S.Store conn.old conn.new }
     ensures shows { ReportsRows S.Store conn.old conn.new installations installed_columns result
@@ -109,7 +109,7 @@ fn rows_of<S: Alter>(conn: &mut Connection<S>, meter: &str) -> Result<Vec<Row>, 
     conn.query_all(OF_METER, params![meter])
 }
 
-/// Returns the installation of a meter, or None if the store has no such meter.
+/// Returns a meter's row of `installations`, or None if the store has no such meter.
 pub fn installation_of<S: Alter>(
     conn: &mut Connection<S>,
     meter: &str,
@@ -126,7 +126,7 @@ pub fn installation_of<S: Alter>(
     }
 }
 
-/// Queries the latest installation at an accounting register.
+/// Queries the row of the meter that was installed last at an accounting register.
 fn rows_at<S: Alter>(conn: &mut Connection<S>, register: &str) -> Result<Vec<Row>, Error>
     ensures asks { Asks S.Store conn.old conn.new }
     ensures shows { ReportsRows S.Store conn.old conn.new installations installed_columns result
@@ -138,8 +138,8 @@ fn rows_at<S: Alter>(conn: &mut Connection<S>, register: &str) -> Result<Vec<Row
     )
 }
 
-/// Returns the latest installation at an accounting register, or None if no meter was installed at
-/// the register.
+/// Returns the row of the meter that was installed last at an accounting register, or None if no
+/// meter was installed there.
 pub fn installation_at<S: Alter>(
     conn: &mut Connection<S>,
     register: &str,
@@ -156,7 +156,7 @@ pub fn installation_at<S: Alter>(
     }
 }
 
-/// Queries the greatest index of all installations.
+/// Queries the greatest index of all rows of `installations`.
 fn last_rows<S: Alter>(conn: &mut Connection<S>) -> Result<Vec<Row>, Error>
     ensures asks { Asks S.Store conn.old conn.new }
     ensures shows { ReportsRows S.Store conn.old conn.new installations installed_columns result
@@ -165,8 +165,8 @@ fn last_rows<S: Alter>(conn: &mut Connection<S>) -> Result<Vec<Row>, Error>
     conn.query_all(LAST, &[])
 }
 
-/// Returns the greatest index of all installations, or None without installations. Indices begin at
-/// 1 without gaps, so the greatest index is the number of installations.
+/// Returns the greatest index of all rows of `installations`, or None without rows. Indices begin
+/// at 1 without gaps, so this index is the number of meters.
 pub fn last_installation<S: Alter>(conn: &mut Connection<S>) -> Result<Option<u64>, RowFault>
     ensures finds { LooksUp S.Store conn.old conn.new
         installations installed_columns IsSoundInstalled result
@@ -177,7 +177,8 @@ pub fn last_installation<S: Alter>(conn: &mut Connection<S>) -> Result<Option<u6
     first_whole(&rows, 1, GREATEST_PLACE)
 }
 
-/// Queries the installation of a meter inside a transaction. `read_installation` reads the row.
+/// Queries a meter's row of `installations` inside a transaction. `read_installation` reads the
+/// row.
 pub fn installation_rows<S: Alter>(
     tx: &mut Transaction<'_, S>,
     meter: &str,
@@ -191,8 +192,8 @@ pub fn installation_rows<S: Alter>(
     tx.query_all(OF_METER, params![meter])
 }
 
-/// Queries, inside a transaction, the index of the last installation. The first column has the
-/// index.
+/// Queries the greatest index of `installations` inside a transaction, to number the next meter.
+/// The result has one column.
 pub fn last_installation_rows<S: Alter>(tx: &mut Transaction<'_, S>) -> Result<Vec<Row>, Error>
     ensures same_reference { IsSameBorrow tx.old.conn tx.new.conn }
     ensures asks { AsksInside S.Store tx.old.conn.now tx.new.conn.now result }

@@ -1,4 +1,5 @@
-//! Statements on the table `ranges`.
+//! SQL statements on the table `ranges`: how many values each meter's counter has before it rolls
+//! over.
 ghost use Rattle.std.specs.Prelude.{IfOk, IfSome};
 ghost use Rattle.sqlite.specs.Held.{state};
 ghost use Rattle.store_tables.specs.Content.{Edits, with_row};
@@ -13,10 +14,10 @@ use crate::{RowFault, first_whole, number};
 use energy_core::{MAX_RANGE, MIN_RANGE};
 use sqlite::{Alter, Connection, Error, Row, Transaction, params};
 
-/// The query for the range of a meter's counter.
+/// The query for the number of values that a meter's counter has.
 const OF_METER: &str = "SELECT \"range\" FROM ranges WHERE meter = ?1 LIMIT 1";
 
-/// Inserts the range of a meter's counter: how many values the counter has.
+/// Inserts the range of a meter's counter: how many values the counter has before it rolls over.
 pub fn insert_range<S: Alter>(
     tx: &mut Transaction<'_, S>,
     meter: &str,
@@ -34,7 +35,7 @@ pub fn insert_range<S: Alter>(
     )
 }
 
-/// Queries the range of a meter's counter.
+/// Queries the range of a meter's counter: how many values the counter has before it rolls over.
 fn rows_of<S: Alter>(conn: &mut Connection<S>, meter: &str) -> Result<Vec<Row>, Error>
     ensures asks { Asks S.Store conn.old conn.new }
     ensures shows { ReportsRows S.Store conn.old conn.new ranges ranged_columns result
@@ -54,7 +55,8 @@ pub fn range_of<S: Alter>(conn: &mut Connection<S>, meter: &str) -> Result<Optio
     first_whole(&rows, MIN_RANGE, MAX_RANGE)
 }
 
-/// Queries the range of a meter's counter inside a transaction. `read_range` reads the row.
+/// Queries the number of values of a meter's counter inside a transaction. `read_range` reads the
+/// row.
 pub fn range_rows<S: Alter>(tx: &mut Transaction<'_, S>, meter: &str) -> Result<Vec<Row>, Error>
     ensures same_reference { IsSameBorrow tx.old.conn tx.new.conn }
     ensures asks { AsksInside S.Store tx.old.conn.now tx.new.conn.now result }

@@ -1,6 +1,7 @@
-//! Installations, as the table `installations` stores them.
+//! The rows of the table `installations`, one for each meter.
 
-/// The last entry of a meter, and its total energy since its opening, in milliwatt-hours (mWh).
+/// The last entry of a meter, and its total energy since its installation, in milliwatt-hours
+/// (mWh).
 #[derive(Clone, Copy, Debug, PartialEq, Eq)]
 pub struct LastRow {
     pub moment: u64,
@@ -9,10 +10,11 @@ pub struct LastRow {
     pub total: u64,
 }
 
-/// An installation without the names of its meter and register.
+/// The columns of a meter's row in `installations`, except the names of the meter and its
+/// accounting register.
 #[derive(Clone, Copy, Debug, PartialEq, Eq)]
 pub struct InstallationRow {
-    /// The index of the installation, from 1.
+    /// The index of the row, from 1 in the order of installation.
     pub place: u64,
     /// The greatest power that can flow through the meter, in W.
     pub ceiling: u64,
@@ -21,7 +23,8 @@ pub struct InstallationRow {
     pub last: LastRow,
 }
 
-/// An installation: a meter with the accounting register at which it is installed.
+/// A row of `installations`: a meter with the accounting register (named counter of a device) at
+/// which it is installed.
 #[derive(Debug, Drop)]
 pub struct Installation {
     pub meter: String,

@@ -1,7 +1,7 @@
-//! The requests that a test sends to an office after its script of events: one exchanges the meter,
-//! and the other voids the meter's reading.
+//! The requests that a test sends after its script of events: one exchanges the meter, and the
+//! other voids (cancels) the meter's reading.
 
-/// A request that a test sends to an office after its script of events.
+/// A request that a test sends after a script of commands and device events.
 #[derive(Clone, Copy, Debug)]
 pub(crate) enum Asked {
     Exchange,
@@ -20,11 +20,11 @@ const VOID: &[u8] =
 const VOID_DONE: &[u8] =
     b"HTTP/1.1 200 OK\r\nContent-Type: application/json\r\nContent-Length: 15\r\nConnection: close\r\n\r\n{\"done\":\"void\"}";
 
-/// The HTTP response of an office whose store fails during the request.
+/// The HTTP response to a request during which the store fails.
 pub(crate) const UNAVAILABLE: &[u8] =
     b"HTTP/1.1 503 Service Unavailable\r\nContent-Type: application/json\r\nContent-Length: 14\r\nConnection: close\r\n\r\n{\"refused\":13}";
 
-/// Returns the bytes of a request to the office.
+/// Returns the bytes of the HTTP request.
 pub(crate) fn request_of(asked: Asked) -> &'static [u8] {
     match asked {
         Asked::Exchange => EXCHANGE,
@@ -32,7 +32,7 @@ pub(crate) fn request_of(asked: Asked) -> &'static [u8] {
     }
 }
 
-/// Returns the HTTP response for a request that the office carried out.
+/// Returns the HTTP response for a request that was carried out.
 pub(crate) fn reply_of(asked: Asked) -> &'static [u8] {
     match asked {
         Asked::Exchange => EXCHANGE_DONE,

@@ -17,8 +17,8 @@ struct Case {
     calls: usize,
 }
 
-// The tasks that the test interrupts by crashes. In the tasks of the office, the first step creates
-// the tables. The fifth step connects the device, and records nothing.
+// The tasks that the test interrupts by crashes. In the last two tasks, the first step creates the
+// tables. The fifth step connects the device, and records nothing.
 static CASES: [Case; 3] = [
     Case {
         act: Act::Bring,

@@ -1,4 +1,5 @@
-//! Runs a metering office over a database: it handles the events of a script, and then a request.
+//! Runs the core of `sunreg` over a database: it handles the events of a script, and then a
+//! request.
 use crate::stops::asked::{Asked, UNAVAILABLE, reply_of, request_of};
 use mb_wire::MemoryLink;
 use office_books::Books;
@@ -11,8 +12,8 @@ use sqlite::{Alter, Connection};
 use std::alloc::Global;
 use std::process::Abort;
 
-/// A script with a device, its accounting register and its meter. The response to a poll has the
-/// counter value 5200 with the scale factor 0.
+/// A script with a device, its accounting register (a named counter) and its meter. The response to
+/// a poll has the counter value 5200 with the scale factor 0.
 const READ: &str = "1000 device inv 1 5 1
 1000 register main inv 3 40094 @40096
 1000 install main m1 5000 0 100000
@@ -20,7 +21,7 @@ const READ: &str = "1000 device inv 1 5 1
 1898 start inv 3 40094 3
 1900 bytes inv 000000000009010306000014500000";
 
-/// Runs all steps except the first over a new store. They open an office, process the events of the
+/// Runs all steps except the first over a new store. They open the store, process the events of the
 /// script, and send a request. Returns how many steps were acknowledged, including the first, and
 /// the store.
 fn play_over<B: Books>(rt: &impl Abort, alloc: Global, books: B, asked: Asked) -> (usize, B) {
@@ -64,8 +65,8 @@ fn event_of(rt: &impl Abort, alloc: Global, line: &str) -> (u64, Event) {
     }
 }
 
-/// Returns true if the office accepts the event of a script line. Only a failure of the store may
-/// cause a refusal.
+/// Returns true if the event of a script line is accepted. Only a failure of the store may cause a
+/// refusal.
 pub(crate) fn accepts<B: Books>(
     rt: &impl Abort,
     alloc: Global,
@@ -80,8 +81,8 @@ pub(crate) fn accepts<B: Books>(
     }
 }
 
-/// Returns true if the office acknowledges the request. Any other response must report that the
-/// store failed.
+/// Returns true if the request is acknowledged. Any other response must report that the store
+/// failed.
 pub(crate) fn acknowledges<B: Books>(
     rt: &impl Abort,
     alloc: Global,

@@ -1,4 +1,4 @@
-//! Asserts which rows the file of a metering office has after a crash.
+//! Asserts which rows a database file has after a crash.
 use crate::made::{create_store, found, opened};
 use crate::stops::asked::Asked;
 use crate::stops::offices::acknowledges;
@@ -9,10 +9,9 @@ use sqlite::{Alter, Connection};
 use std::alloc::Global;
 use std::process::Abort;
 
-/// Queries, each with the number that the query returns in each state of the file, after the office
-/// was opened again at time 5000. The states are: no tables, new tables, after each of the six
-/// events of the script, after the exchange, and after the void. A poll that was pending is
-/// recorded as lost when the office is opened again.
+/// Queries, each with the number that the query returns in each state of the file, after a restart
+/// at time 5000. The states are: no tables, new tables, after each of the six events of the script,
+/// after the exchange, and after the void. A restart records a pending poll as lost.
 static STATES: [(&str, &[i64]); 17] = [
     (
         "SELECT count(*) FROM meta WHERE id = 1 AND version = 3 AND zone = 'UTC0'",
@@ -100,8 +99,8 @@ static EXCHANGED_ROWS: [(&str, i64); 5] = [
     ("SELECT count(*) FROM replies", 1),
 ];
 
-/// Queries, each with the number that it returns after a retry of the request that voids the
-/// reading.
+/// Queries, each with the number that it returns after a retry of the request that voids (cancels)
+/// the reading.
 static VOIDED_ROWS: [(&str, i64); 5] = [
     ("SELECT count(*) FROM voids", 1),
     (
@@ -159,8 +158,8 @@ fn assert_recorded_once<S: Alter>(rt: &impl Abort, connection: &mut Connection<S
     }
 }
 
-/// Opens an office at time 5000. If a request is given, sends it again and asserts that the office
-/// acknowledges it. Returns the store.
+/// Restarts at time 5000 over a store that survived a crash. If a request is given, sends it again
+/// and asserts that it is acknowledged. Returns the store.
 fn reopened<B: Books>(rt: &impl Abort, alloc: Global, books: B, again: Option<Asked>) -> B {
     let mut office = opened(rt, alloc, books, 5000);
     if let Some(asked) = again {

@@ -1,4 +1,4 @@
--- Lemmas on the result of the SQL query for the time zone of an office's file.
+-- Lemmas on the result of the SQL query for the time zone of a database file.
 use Rattle.std.proofs.Common.{◌≡◌, inl, List, ℕ, [], ◌∷◌, map, filter, true, false, codes, refl, sym, ap, subst, ◌∙◌, IsPermutation}
 use Rattle.std.proofs.lemmas.List.Sorted.{IsPermutation-sym, IsPermutation-trans}
 use Rattle.sqlite.specs.declared.types.Value.TheVariants.{Null}

@@ -1,4 +1,4 @@
--- Lemmas on merging the reports on the files of one office.
+-- Lemmas on merging the reports on several successive database files.
 use Rattle.std.proofs.Common.{◌≡◌, ℕ, List, [], Result, Ok, Err, IfOk, Option, Some, None, refl, sym, subst, ◌∙◌}
 use Rattle.std.specs.Prelude.{◌≢◌, IfErr, string_bytes}
 use Rattle.sqlite.specs.Store.{Ghosts}
@@ -25,8 +25,8 @@ module _ {K : Type 0} (k : keepings.Ghosts K) (range : DayRange) (register : Lis
       joins its files (subst (λ (those : K). k.keeps its range register files those) (sym are) has)
 
   module _ {S : Type 0} (g : Ghosts S) where
-    -- If what a report needs from a store was added to a merged report, then the contract for
-    -- adding the store's database file is satisfied.
+    -- If the data that a report needs from a store was added to a merged report, then the contract
+    -- for adding the store's database file is satisfied.
     pub joins_file : (old : Held S) (its : List ℕ) (kept : K) (books : SqlBooks S g) (result : Result K JoinFault)
         → (HasCleanDisk (state g books.connection) → HasCleanDisk (state g old)) → HoldsAlone g its books.connection facts
         → IfOk result (JoinsBooks k (ledger_beneath g) books range register kept) → IfOk result (JoinsFile k g old range register facts kept)

@@ -1,4 +1,4 @@
--- Defines when a database file has all records of an office, with its write-ahead log or alone.
+-- Defines when a database file has all metering records, with its write-ahead log or alone.
 use Rattle.std.specs.Prelude.{◌≡◌, ℕ, List}
 use Rattle.sqlite_disk.specs.declared.Disk.{Ghosts}
 use Rattle.sqlite_disk.specs.declared.Files.{Files}
@@ -27,8 +27,8 @@ pub record HasPastIn (image : Image) (past : History) : Type 0 where
   pub holds : HoldsDatabase image trees
   pub has : TreesHavePast trees past
 
--- States that the database file alone has the records of the history `past`, and also with its log.
--- Both are true as well for any files that a crash leaves.
+-- States that the database file has the records of the history `past`, both alone and with its
+-- write-ahead log. The same holds for any files that a crash leaves.
 pub record HasPastAlone {D : Type 0} (g : Ghosts D) (files : Files D) (past : History) :
     Type 0 where
   pub trees : Trees

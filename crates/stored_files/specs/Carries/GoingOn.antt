@@ -1,5 +1,5 @@
--- Defines the file rollover of an office from one database into a new one. Each open meter
--- continues in the new database from its last entry.
+-- Defines file rollovers. A file rollover begins a new database, in which each open meter continues
+-- from its last entry in the old database.
 use Rattle.std.specs.Prelude.{◌≡◌, ℕ, List, [], ◌∷◌, Option}
 use Rattle.sqlite.specs.Store.{Ghosts}
 use Rattle.sqlite.specs.Held.{Held, state}
@@ -17,13 +17,13 @@ use Rattle.carried_books.specs.Carrying.Feeding.{history_with}
 use Rattle.carried_books.specs.Carrying.Plans.{AreCarried}
 use Rattle.carried_books.specs.declared.carrying.commands.TimedCommand.{TimedCommand}
 
--- The history of a new office that was opened at time 0 and then accepted the commands `commands`.
+-- The history of a new store that was opened at time 0 and then accepted the commands `commands`.
 abbrev pub set_up_by : List TimedCommand → History
 set_up_by commands = history_with (Opened 0 ∷ []) commands
 
--- States that an office was rolled over into a new office. The old store was only queried. The
--- commands `commands` follow from its records, and install `meters` meters. The new office was
--- opened at time 0, and accepted only these commands.
+-- States that the meters of an old store were rolled over into a new store. The old store was only
+-- queried. The commands `commands` follow from its records, and install `meters` meters. The new
+-- store was opened at time 0, and accepted only these commands.
 pub record GoesOn {O N : Type 0} (of_old : O → Ledger) (of_new : N → Ledger) (old : O)
     (until : Option ℕ) (meters : ℕ) : Type 0 where
   pub asked : O
@@ -34,15 +34,15 @@ pub record GoesOn {O N : Type 0} (of_old : O → Ledger) (of_new : N → Ledger)
   pub stands : StandsIfClean of_new (set_up_by commands) office
 
 module _ {S : Type 0} (g : Ghosts S) where
-  -- States the contract `GoesOn` for a new office in a database, whose tables were created for the
-  -- time zone `zone`.
+  -- States the contract `GoesOn` of a file rollover, for a new store in a database whose tables
+  -- were created for the time zone `zone`.
   pub record GoesOnIn {O : Type 0} (of_old : O → Ledger) (old : O) (zone : List ℕ)
       (until : Option ℕ) (new : Held S) (meters : ℕ) : Type 0 where
     pub made : IsMade g zone new
     pub goes_on : GoesOn of_old (ledger_beneath g) old until meters
 
-  -- States the contract `GoesOn` for two offices in databases. The file of the old office has the
-  -- records `facts`.
+  -- States the contract `GoesOn` of a file rollover, for an old and a new store in databases. The
+  -- file of the old store has the records `facts`.
   pub record GoesOnFrom (old : Held S) (facts : List Fact) (zone : List ℕ) (until : Option ℕ)
       (new : Held S) (meters : ℕ) : Type 0 where
     pub asked : SqlBooks S g
@@ -53,8 +53,8 @@ module _ {S : Type 0} (g : Ghosts S) where
     pub office : Office (SqlBooks S g)
     pub stands : StandsIfClean (ledger_beneath g) (set_up_by commands) office
 
-  -- States that an office with the records `facts` was rolled over into a new database. The new
-  -- office has the old office's time zone. It accepted only the commands `commands`, which install
+  -- States that the records `facts` of an old database were rolled over into a new database with
+  -- the same time zone. The new database accepted only the commands `commands`, which install
   -- `meters` meters. The claims hold only if the disks returned what was written to them.
   pub record IsCarriedInto (facts : List Fact) (zone : List ℕ) (until : Option ℕ)
       (new : Held S) (meters : ℕ) : Type 0 where

@@ -1,4 +1,4 @@
--- Defines the query for an office's time zone, which is stored in the table `meta`.
+-- Defines the query for the time zone of a database file, which is stored in the table `meta`.
 use Rattle.std.specs.Prelude.{◌≡◌, ℕ, List, [], ◌∷◌, Vec, String, string_bytes}
 use Rattle.sqlite.specs.declared.types.Value.TheVariants.{Text}
 use Rattle.sqlite.specs.Order.{Row}
@@ -16,8 +16,8 @@ abbrev pub ShowsZone : {Z : Type 0} → Content → (old new : State) → Vec Ro
 ShowsZone content old new rows =
     IsUnchanged old new × ((m : Meta) → IsMarked m content → rows.items ≡ zone_shown m ∷ [])
 
--- States that `reported` is the office's time zone `zone`, and that the query for it committed
--- nothing.
+-- States that `reported` is the time zone `zone` of a database file, and that the query for the
+-- time zone committed nothing.
 pub record ReportsZone {Z : Type 0} (zone : List ℕ) (old new : State) (reported : String Z) : Type 0 where
   pub bytes : string_bytes reported ≡ zone
   pub same : new.committed ≡ old.committed

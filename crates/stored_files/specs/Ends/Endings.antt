@@ -26,8 +26,8 @@ ending_number (Failed failure) = 3
 abbrev pub IsReported : Ending → Type 0
 IsReported ending = 1 < ending_number ending
 
--- The ending of a command with this exit status. Status `Failed` means here that standard input or
--- standard output failed, or memory ran out.
+-- The ending of a command with this exit status. Here, the status `Failed` means that standard
+-- input or standard output failed, or that memory ran out.
 abbrev pub ending_of : ExitStatus → Ending
 ending_of status.Fine = Fine
 ending_of status.Refused = Refused

@@ -1,5 +1,5 @@
--- Defines the merged report on several files of an office, which are opened one at a time. A
--- `Keeping` collects what the report needs from each file.
+-- Defines the merged report on several successive database files, which are opened one at a time. A
+-- `Keeping` collects the data that the report needs from each file.
 use Rattle.std.specs.Prelude.{◌≡◌, ℕ, List, [], ◌∷◌, Option, Some, None, MatchOption, string_bytes}
 use Rattle.sqlite.specs.Store.{Ghosts}
 use Rattle.sqlite.specs.Held.{Held, state}
@@ -46,8 +46,8 @@ module _ {K : Type 0} (k : keepings.Ghosts K) where
   JoinsOne range register facts old new = (its : Zone) (files : List (List Fact))
       → k.keeps its range register files old → k.keeps its range register (facts ∷ files) new
 
-  -- States that a store was only queried, and that what a merged report needs from its records was
-  -- added to the report.
+  -- States that a store was only queried, and that the data which a merged report needs from its
+  -- records was added to the report.
   pub record JoinsBooks {B : Type 0} (ledger : B → Ledger) (books : B) (range : DayRange)
       (register : List ℕ) (old new : K) : Type 0 where
     pub asked : B
@@ -55,8 +55,8 @@ module _ {K : Type 0} (k : keepings.Ghosts K) where
     pub joins : (known : List Fact) → (ledger books).holds known → (ledger asked).is_clean
         → JoinsOne range register known old new
 
-  -- States what is true of a file with the records `facts` if it can't be added to a merged report
-  -- for the reason `why`. Only the reason `Unjoined` says something about the records.
+  -- States why a file with the records `facts` can't be added to a merged report, for the reason
+  -- `why`. Only the reason `Unjoined` says something about the records.
   abbrev pub Parts : DayRange → (register : List ℕ) → (facts : List Fact) → K → JoinFault → Type 0
   Parts range register facts kept (fault.Unjoined why) = k.parts range register facts kept why
   Parts range register facts kept why = Unit {0}
@@ -71,7 +71,8 @@ module _ {K : Type 0} (k : keepings.Ghosts K) where
         → Parts range register known kept why
 
   module _ {S : Type 0} (g : Ghosts S) where
-    -- States the contract `JoinsBooks` for a store in a database file with the records `facts`.
+    -- States that the records `facts` of a database file were added to a merged report, as
+    -- `JoinsBooks` states for any store.
     pub record JoinsFile (old : Held S) (range : DayRange) (register : List ℕ)
         (facts : List Fact) (kept new : K) : Type 0 where
       pub asked : SqlBooks S g
@@ -90,16 +91,17 @@ module _ {K : Type 0} (k : keepings.Ghosts K) where
       pub joins : (ledger_beneath g asked).is_clean
           → JoinsNext zone range register facts before new
 
-    -- States the contract `PartsBooks` for a store in a database file with the records `facts`.
+    -- States that the records `facts` of a database file could not be added to a merged report, as
+    -- `PartsBooks` states for any store.
     pub record Refuses (old : Held S) (range : DayRange) (register : List ℕ) (facts : List Fact)
         (kept : K) (why : JoinFault) : Type 0 where
       pub asked : SqlBooks S g
       pub clean : (ledger_beneath g asked).is_clean → HasCleanDisk (state g old)
       pub parts : (ledger_beneath g asked).is_clean → Parts range register facts kept why
 
-    -- States what is true of a file with the time zone of the earlier files, if it was not added to
-    -- a merged report. The office was not opened, its records don't continue the earlier records,
-    -- or its store failed.
+    -- States why a file with the time zone of the earlier files was not added to a merged report.
+    -- The store could not be opened, its records don't continue the earlier records, or the store
+    -- failed.
     abbrev pub PartsFrom : (old : Held S) → DayRange → (register : List ℕ) → (facts : List Fact)
         → (kept : K) → JoinFault → Type 0
     PartsFrom old range register facts kept (fault.Unopened why) = Unit {0}
@@ -118,8 +120,8 @@ module _ {K : Type 0} (k : keepings.Ghosts K) where
       pub are : (ledger_beneath g asked).is_clean → AreBefore zone range before kept
       pub parts : (ledger_beneath g asked).is_clean → Parts range register facts kept why
 
-    -- States what is true of a file with the time zone of the earlier files, if it was not added to
-    -- a merged report. It refers to the data `before` of the earlier files.
+    -- States why a file with the time zone of the earlier files was not added to a merged report.
+    -- The data about the earlier files is `before`.
     abbrev pub RefusesIn : (old : Held S) → (zone : List ℕ) → DayRange → (register : List ℕ)
         → (facts : List Fact) → (before : Option (JoinedOffice K)) → JoinFault → Type 0
     RefusesIn old zone range register facts before (fault.Unopened why) = Unit {0}
@@ -134,9 +136,8 @@ module _ {K : Type 0} (k : keepings.Ghosts K) where
       pub left : Held S
       pub other : HasCleanDisk (state g left) → IsOfZone zone before → ⊥
 
-    -- States what is true of a file that was not added to a merged report. The office was not
-    -- opened, the time zone differs, the records don't continue the earlier records, or the store
-    -- failed.
+    -- States why a file was not added to a merged report. The store could not be opened, the time
+    -- zone differs, the records don't continue the earlier records, or the store failed.
     abbrev pub RefusesOffice : (old : Held S) → (zone : List ℕ) → DayRange → (register : List ℕ)
         → (facts : List Fact) → (before : Option (JoinedOffice K)) → JoinFault → Type 0
     RefusesOffice old zone range register facts before (fault.Unopened why) = Unit {0}

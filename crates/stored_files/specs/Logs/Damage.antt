@@ -22,9 +22,9 @@ IsOpen page_size log k = slice_index log (frame_at page_size k + 8) ≡ slice_in
 
 -- States that a transaction begins at frame `i`, but that recovery ends earlier, at frame `k`. A
 -- transaction begins only after the previous one is on the disk. The transaction at frame `k` was
--- therefore complete, and was damaged later. If the gate of frame `k` differs from the header's
--- salt byte, frame `i` must be a count frame. Frames of one large transaction look similar, but are
--- no count frames.
+-- therefore complete, and was damaged later. If the gate of frame `k` (its first salt byte) differs
+-- from the header's, frame `i` must be a count frame. Frames of one large transaction look similar,
+-- but are no count frames.
 pub record IsCutOff (page_size : ℕ) (log : List ℕ) (k i : ℕ) : Type 0 where
   pub behind : k < i
   pub begins : Begins page_size log i
@@ -75,7 +75,7 @@ pub record KeepsAll (page_size : ℕ) (log db : List ℕ) : Type 0 where
   pub replays : Replays page_size log taken
   pub keeps : KeepsPages page_size log db taken
 
--- States that nothing is lost by ignoring a log whose first byte a checkpoint changed.
+-- States that SQLite loses nothing by ignoring a log whose first byte a checkpoint changed.
 abbrev pub IsEmptied : ℕ → List ℕ → List ℕ → Type 0
 IsEmptied page_size log db = KeepsAll page_size (opened log) db
 

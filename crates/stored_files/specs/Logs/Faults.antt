@@ -8,14 +8,14 @@ use Rattle.stored_files.specs.declared.logs.check.LogFault.{LogFault}
 use Rattle.stored_files.specs.declared.logs.check.LogFault.TheVariants.{Header, Count, Commits, Memory}
 use Rattle.stored_files.specs.Logs.Damage.{HasRoom, LosesFrom}
 
--- States what is true of a log that is rejected for the reason of a `LogFault`.
+-- States the damage of a write-ahead log that is rejected for the reason of a `LogFault`.
 abbrev pub IsCause : ℕ → List ℕ → LogFault → Type 0
 IsCause page_size log Header = HasRoom log × (¬ IsHeader page_size (header log))
 IsCause page_size log Count = (k : ℕ) → ¬ Replays page_size log k
 IsCause page_size log (Commits at) = (k : ℕ) × (at ≡ frame_at page_size k) × LosesFrom page_size log k
 IsCause page_size log Memory = ⊤
 
--- States what is true of a log whose frames recovery can't read, for the reason of a `LogFault`.
+-- States why recovery can't read the frames of a write-ahead log, for the reason of a `LogFault`.
 abbrev pub IsUnread : ℕ → List ℕ → LogFault → Type 0
 IsUnread page_size log Count = (k : ℕ) → ¬ Replays page_size log k
 IsUnread page_size log Memory = ⊤

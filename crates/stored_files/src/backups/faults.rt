@@ -20,7 +20,7 @@ pub enum CopyFault {
     Unwritable,
     /// At each attempt, another process merged the log into the original file during the copying.
     Changing,
-    /// The copy is not a database, or its database is damaged.
+    /// The copy does not have the tables of `sunreg`.
     Torn,
     /// The copy does not have the tables of an office.
     NotOurs,

@@ -1,4 +1,4 @@
-//! Merges the write-ahead log of an office's database into its file.
+//! Merges the write-ahead log of a database into the database file.
 ghost use Rattle.std.specs.Prelude.{◌≡◌, Err, IfOk};
 ghost use Rattle.sqlite_wal.specs.Files.{image_at};
 ghost use Rattle.sqlite_wal.specs.Reads.{AreClean};
@@ -30,9 +30,9 @@ fn close_alone<D: Disk + Drop>(connection: Connection<FileStore<D>>) -> Result<F
     }
 }
 
-/// Merges the log of an office's database into its file, and returns the file and the log. The file
+/// Merges the write-ahead log of a database into the database file, and returns both. The file
 /// alone then has all records. The tables may be of any version. Returns `NotOurs` unless the
-/// tables have the names of an office's tables, in their order.
+/// tables have the names of the tables of `sunreg`, in their order.
 pub fn whole_files<D: Disk + Drop>(
     connection: Connection<FileStore<D>>,
 ) -> Result<Files<D>, CopyFault>

@@ -1,4 +1,5 @@
-//! Rolls an office over from one database into another.
+//! Rolls the meters of one database over into a new database, in which each open meter continues
+//! from its last entry.
 ghost use Rattle.std.specs.Prelude.{◌≡◌, ℕ, List, [], Err, IfOk};
 ghost use Rattle.office_events.specs.declared.facts.Fact.{Fact};
 ghost use Rattle.office_rules.specs.History.{History, facts_of};
@@ -17,19 +18,19 @@ use office_store::{OpenFault, SqlBooks};
 use sqlite::{Alter, Connection};
 use std::alloc::Global;
 
-/// A reason why an office was not rolled over into a new database.
+/// A reason why a file rollover, which begins a new database, was not completed.
 #[derive(Clone, Copy, Debug, PartialEq, Eq)]
 pub enum CarryEnd {
-    /// The office in the old database could not be opened.
+    /// The store in the old database could not be opened.
     Unopened(OpenFault),
-    /// The tables of the new office could not be created.
+    /// The tables of the new database could not be created.
     Unmade(OpenFault),
     /// The file rollover began, but was not completed.
     Ended(CarryFault),
 }
 
-// Opens a new office over the store `new`, and rolls the office of the store `old` over into it.
-// Returns the number of meters that continue in the new office.
+// Rolls the store `old` over into the store `new`, in which each open meter continues from its last
+// entry. Returns the number of meters that continue.
 fn carry_into<O: Books, N: Books>(
     alloc: Global,
     old: O,
@@ -48,7 +49,7 @@ fn carry_into<O: Books, N: Books>(
     }
 }
 
-// Creates the tables of a new office, and rolls the office of the store `old` over into it.
+// Creates the tables of a new store, and rolls the store `old` over into the new store.
 fn carry_into_created<O: Books, S: Alter + Drop>(
     alloc: Global,
     old: O,
@@ -67,7 +68,7 @@ fn carry_into_created<O: Books, S: Alter + Drop>(
     }
 }
 
-// Opens the old office, and rolls it over into a new office.
+// Opens the old store, and rolls its open meters over into a new store.
 fn carry_opened<S: Alter + Drop>(
     alloc: Global,
     old: Connection<S>,
@@ -84,9 +85,9 @@ fn carry_opened<S: Alter + Drop>(
     }
 }
 
-/// Creates a new office in an empty database, with the time zone of an old office, and rolls the
-/// old office over with `carry_books`. Returns the number of meters that continue in the new
-/// office. The new office is opened at time 0, so that every later timestamp is valid.
+/// Creates a new store in an empty database, with the time zone of the old store. Each open meter
+/// continues in the new store from its last entry. Returns the number of these meters. The new
+/// store is opened at time 0, before every later timestamp.
 pub fn carry_stored<S: Alter + Drop>(
     alloc: Global,
     old: Connection<S>,

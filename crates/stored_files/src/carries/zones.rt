@@ -1,4 +1,4 @@
-//! Reads the time zone of an office's file from the table `meta`.
+//! Reads the time zone of a database file from the table `meta`.
 ghost use Rattle.std.specs.Prelude.{◌≡◌, ◌∷◌, [], ℕ, List, false, Err, IfOk, string_bytes};
 ghost use Rattle.sqlite.specs.Held.{state};
 ghost use Rattle.sqlite.specs.State.{HasCleanDisk, IsUnchanged};
@@ -58,8 +58,7 @@ fn zone_in(rows: &[Row]) -> Result<String, OpenFault>
     }
 }
 
-// Queries the time zone of an office's file. The caller must have checked that the database is
-// open.
+// Queries the time zone of a database file. The caller must have checked that the database is open.
 fn zone_of_open<S: Alter>(connection: &mut Connection<S>) -> Result<String, OpenFault>
     ensures clean { HasCleanDisk (state S.Store connection.new)
         → HasCleanDisk (state S.Store connection.old) }
@@ -76,7 +75,7 @@ fn zone_of_open<S: Alter>(connection: &mut Connection<S>) -> Result<String, Open
     }
 }
 
-// Queries the time zone of an office's file. First checks that the database is open.
+// Queries the time zone of a database file. First checks that the database is open.
 fn zone_of_file<S: Alter>(connection: &mut Connection<S>) -> Result<String, OpenFault>
     requires { connection.old.in_transaction ≡ false }
     ensures clean { HasCleanDisk (state S.Store connection.new)
@@ -93,7 +92,7 @@ fn zone_of_file<S: Alter>(connection: &mut Connection<S>) -> Result<String, Open
     }
 }
 
-/// Returns the time zone of an office's file as text. The tables may be of any version. Writes
+/// Returns the time zone of a database file as text. The tables may be of any version. Writes
 /// nothing to the file.
 pub fn read_zone_text<S: Alter>(connection: &mut Connection<S>) -> Result<String, OpenFault>
     ensures foreign { ((layout : TheLayout) → ¬ IsNamedAs connection.old.schema layout)

@@ -11,7 +11,7 @@ use std::io::Write;
 #[derive(Drop)]
 pub enum Ending<'a> {
     Fine,
-    /// The input is wrong, or the office refused the input. The output states the reason.
+    /// The input is wrong, or the rules refused the input. The output states the reason.
     Refused,
     /// The arguments are wrong. The text is the message with the reason.
     Wrong(String),
@@ -21,7 +21,8 @@ pub enum Ending<'a> {
     NoZone(&'a str),
     /// The value `word` of the option `option` is not a calendar date.
     NoDay { option: &'a str, word: &'a str },
-    /// The requested range of days ends before it begins.
+    /// The file in the option `--against` does not have the text of a seal, which has digests of a
+    /// database's records.
     Backward,
     /// The file in the option `--against` does not have the text of a seal.
     NoSeal(&'a str),
@@ -46,8 +47,8 @@ impl<'a> Ending<'a> {
     }
 }
 
-/// Maps the exit status of a command to its ending. Status `Failed` means here that standard input
-/// or standard output failed, or memory ran out.
+/// Maps the exit status of a command to its ending. Here, the status `Failed` means that standard
+/// input or standard output failed, or that memory ran out.
 pub fn ending_of(status: ExitStatus) -> Ending<'static>
     ensures { result ≡ ending_of status }
 {

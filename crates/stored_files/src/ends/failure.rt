@@ -29,29 +29,29 @@ pub enum Failure<'a> {
         path: &'a str,
         fault: FileFault,
     },
-    /// The tables of a new office could not be created in the file.
+    /// The tables for metering records could not be created in the file.
     Unmade {
         path: &'a str,
         fault: OpenFault,
     },
-    /// The file has no tables, but it is not empty. A new office is created only in an empty file.
+    /// The file has no tables, but it is not empty. Tables are created only in an empty file.
     Occupied {
         path: &'a str,
     },
-    /// The office in the file could not be opened.
+    /// The metering records in the file could not be opened.
     Unopened {
         path: &'a str,
         fault: OpenFault,
     },
-    /// The file has no tables. They may be in the file's log, which may be missing.
+    /// The file has no tables. They may be in the file's write-ahead log, which may be missing.
     Bare {
         path: &'a str,
     },
-    /// The file is missing or empty, although its log is not.
+    /// The file is missing or empty, although its write-ahead log is not.
     LogAlone {
         path: &'a str,
     },
-    /// The log of the file has lost no commits, so recovery has nothing to do.
+    /// The write-ahead log of the file has lost no commits, so recovery has nothing to do.
     Undamaged {
         path: &'a str,
     },
@@ -93,8 +93,8 @@ pub enum Failure<'a> {
     },
     /// The operating system can't report which sockets are ready.
     Sockets,
-    /// The office stopped while the program polled devices, because its store failed or memory ran
-    /// out. Or a file of the office was lost.
+    /// Recording stopped while the program polled devices, because the database failed or memory
+    /// ran out, or because a database file was lost.
     Stopped,
 }
 
@@ -201,8 +201,8 @@ impl<'a> Display for Failure<'a> {
 
 impl<'a> Error for Failure<'a> {}
 
-// Returns the part of a message that says why the tables of an office could not be created, and
-// what to do.
+// Returns the part of a message that says why the tables for metering records could not be created,
+// and what to do.
 fn why_unmade(fault: OpenFault) -> &'static str {
     match fault {
         OpenFault::NotOurs => "already has tables: skip create, or choose another file",
@@ -213,7 +213,8 @@ fn why_unmade(fault: OpenFault) -> &'static str {
     }
 }
 
-// Returns the part of a message that says why an office could not be opened, and what to do.
+// Returns the part of a message that says why the metering records could not be opened, and what to
+// do.
 fn why_unopened(fault: OpenFault) -> &'static str {
     match fault {
         OpenFault::NotOurs =>

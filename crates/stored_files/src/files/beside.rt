@@ -84,7 +84,7 @@ pub(crate) fn page_size_in(db: &[u8]) -> Option<PageSize>
     PageSize::new(if named == 1 { 65536 } else { named })
 }
 
-// Checks the log of a database file whose page size is `size`.
+// Checks the log of a database file whose page size is `size`, for lost commits.
 fn check_log_for(rt: &HostRuntime, path: &str, log: &[u8], size: PageSize) -> Result<(), FileFault>
     ensures { IfErr result (λ fault. fault ≢ FileFault.Missing) }
 {

@@ -28,7 +28,7 @@ pub trait Databases {
 }
 
 /// Opens the database in a file, or creates an empty database if the file does not exist. Unlike
-/// [`make_file`], it does not check whether the log has lost commits.
+/// [`make_file`], this function does not check whether the log has lost commits.
 pub fn connect<S: Start>(
     rt: &HostRuntime,
     path: &str,

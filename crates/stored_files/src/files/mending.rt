@@ -36,8 +36,9 @@ fn write_header(rt: &HostRuntime, path: &str, header: &[u8; 32]) -> io::Result<(
     log.sync_all()
 }
 
-/// Repairs the header of the log beside the file at a path, if one byte of the header is damaged.
-/// Use it only on copies of an office's files, because it overwrites the header of the log.
+/// Repairs the header of the write-ahead log beside the file at a path, if one byte of the header
+/// is damaged. Use this function only on copies of database files, because it overwrites the
+/// header.
 pub fn mend_beside(rt: &HostRuntime, path: &str) -> Result<LogHeader, FileFault> {
     let Ok(log_path) = log_of(rt, path) else {
         return Err(FileFault::Memory);

@@ -1,4 +1,4 @@
-//! Checks whether a database has the tables of an office.
+//! Checks whether a database has the tables of `sunreg`.
 ghost use Rattle.std.specs.Prelude.{◌↔◌, ◌≡◌, false, IsTrue};
 ghost use Rattle.store_files.specs.declared.layouts.Layout.{Layout as TheLayout};
 ghost use Rattle.store_files.specs.Layouts.{no_schema, IsNamedAs};
@@ -16,8 +16,8 @@ pub fn is_bare<S: Alter>(connection: &Connection<S>) -> bool
         && schema.views.as_slice().is_empty()
 }
 
-/// Returns whether a database has the tables of an office of any version. Compares the names and
-/// the order of the tables.
+/// Returns whether a database has the tables of `sunreg` of any version. Compares the names and the
+/// order of the tables.
 pub fn is_office<S: Alter>(connection: &Connection<S>) -> bool
     ensures named { IsTrue result → (layout : TheLayout) × IsNamedAs connection.now.schema layout }
     ensures foreign { result ≡ false → (layout : TheLayout)

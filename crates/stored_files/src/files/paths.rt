@@ -36,7 +36,8 @@ pub fn length_of(rt: &HostRuntime, path: &str) -> Option<u64> {
     }
 }
 
-/// Returns whether a file is missing or empty. `length` is None for a missing file.
+/// Returns whether a file is missing or empty, given its length. `length` is None for a missing
+/// file.
 pub fn is_blank(length: Option<u64>) -> bool {
     length.unwrap_or(0) == 0
 }

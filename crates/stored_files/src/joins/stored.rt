@@ -1,4 +1,4 @@
-//! Merges the reports on several database files of an office, with one file open at a time.
+//! Merges the reports on several successive database files, with one file open at a time.
 ghost use Rattle.std.specs.Prelude.{◌≡◌, ◌≢◌, ◌↔◌, ℕ, List, Err, IfErr, IfOk, IsTrue, string_bytes};
 ghost use Rattle.office_events.specs.declared.facts.Fact.{Fact};
 ghost use Rattle.office_rules.specs.History.{History, facts_of};
@@ -22,17 +22,18 @@ use std::alloc::Global;
 /// A reason why a database file could not be added to a merged report.
 #[derive(Clone, Copy, Debug, PartialEq, Eq)]
 pub enum JoinFault {
-    /// The office in the database could not be opened.
+    /// The store in the database could not be opened.
     Unopened(OpenFault),
     /// The file has another time zone than the earlier files of the merged report.
     OtherZone,
-    /// The accounting register, or one of its meters, does not continue from the earlier files.
+    /// The accounting register (a named counter of a device), or one of its meters, does not
+    /// continue from the earlier files.
     Unjoined(Unjoined),
     /// The file's store failed, or memory ran out.
     Books(Refusal),
 }
 
-/// The data of a merged report so far, and the time zone of its files as text.
+/// The data of a merged report on the files so far, and the time zone of these files as text.
 #[derive(Drop)]
 pub struct JoinedOffice<K> {
     pub zone: String,
@@ -154,8 +155,9 @@ fn refused<K: Keeping>(
     Err(why)
 }
 
-/// Adds an office in a database to a merged report of earlier files, if there are any. The report
-/// is about an accounting register in a range of days. Writes nothing to the database.
+/// Adds a database to a merged report of earlier files, if there are any. The report is about an
+/// accounting register (a named counter of a device) in a range of days. Writes nothing to the
+/// database.
 pub fn join_stored<S: Alter + Drop, K: Keeping>(
     alloc: Global,
     connection: Connection<S>,

@@ -23,8 +23,8 @@ const SALT: usize = 16;
 /// frame's gate.
 const GATE: usize = 8;
 
-/// The page number that marks a count frame. From the count frame of a commit, recovery detects
-/// that bytes of the commit's frames were lost and read as zeros.
+/// The page number that marks a count frame, an extra frame of a commit. From the count frame,
+/// recovery detects that bytes of the commit's frames were lost and read as zeros.
 const COUNT_PAGE: u32 = 0xff00_0000;
 
 /// A reason why a write-ahead log is rejected.
@@ -102,7 +102,7 @@ fn file_of(alloc: Global, bytes: &[u8]) -> io::Result<Memory>
     Ok(file)
 }
 
-// Maps an SQLite error of reading a log's frames to a `LogFault`.
+// Maps an SQLite error of reading a write-ahead log's frames to a `LogFault`.
 fn fault_of(error: Error) -> LogFault
     ensures { result ≡ fault_of error }
 {

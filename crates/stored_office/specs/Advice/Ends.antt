@@ -11,25 +11,28 @@ use Rattle.office_rounds.specs.declared.fault.RoundFault.TheVariants.{Refused}
 use Rattle.stored_office.specs.declared.tasks.tasks.Done.{Done}
 use Rattle.stored_office.specs.declared.tasks.tasks.Done.TheVariants as task
 
--- True if a round of polls was completed, or ended because the office refused to continue.
+-- True if a round of polls was completed, or ended because the office, which checks all events
+-- against its rules, refused an event.
 abbrev pub is_finished : Result (Unit {0}) RoundFault → Bool
 is_finished (Ok x) = true
 is_finished (Err (Refused why)) = true
 is_finished (Err _) = false
 
--- True if the exit status means that the office refused an event.
+-- True if the exit status means that the office refused an event, such as a poll's start.
 abbrev pub is_refusal : ExitStatus → Bool
 is_refusal status.Refused = true
 is_refusal _ = false
 
 -- True if explanations follow a round of polls. They follow only if the round was completed, or if
--- the office refused to open or to poll. Any other failure has its own message.
+-- the office (the part that checks and records events) refused to open or to poll. Any other
+-- failure has its own message.
 abbrev pub has_messages : PollEnd → Bool
 has_messages (Polled done) = is_finished done
 has_messages (Unopened why) = is_refusal why
 has_messages Unconnected = false
 
--- True if a task that serves HTTP ended because its office refused to open.
+-- True if a task that serves HTTP ended because the office, which checks and records all events,
+-- refused to open.
 abbrev pub is_refused_serving : ServeEnd → Bool
 is_refused_serving serving.Served = false
 is_refused_serving (serving.Unopened why) = is_refusal why
@@ -41,8 +44,8 @@ is_refused_polling (Polled done) = false
 is_refused_polling (Unopened why) = is_refusal why
 is_refused_polling Unconnected = false
 
--- True if a task may have failed because the office's latest record is later than the clock,
--- without saying so. These tasks print only the number of the refusal.
+-- True if a task may have failed because the latest record in the database is later than the clock.
+-- These tasks print only the number of the refusal, and not this cause.
 abbrev pub may_be_ahead : Done → Bool
 may_be_ahead (task.Reported status) = false
 may_be_ahead (task.Served end) = is_refused_serving end

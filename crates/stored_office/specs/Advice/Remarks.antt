@@ -10,7 +10,7 @@ use Rattle.script_lines.specs.LineWords.Fields.{AnyName, Number, first_value, en
 use Rattle.stored_office.specs.declared.advice.remarks.Remark.{Remark}
 use Rattle.stored_office.specs.declared.advice.remarks.Remark.TheVariants.{Refused, Held}
 
--- The number if it is less than 2^32, otherwise None.
+-- The number as an error number of 32 bits, or None if it is 2^32 or greater.
 abbrev pub small : ℕ → Option ℕ
 small number = if nat_lt number 4294967296 then Some number else None
 

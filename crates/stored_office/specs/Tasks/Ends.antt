@@ -1,4 +1,4 @@
--- Defines the exit statuses of the program's tasks over an office.
+-- Defines the exit statuses of the tasks that the program executes on a database.
 use Rattle.std.specs.Prelude.{ℕ, Result, Ok, Err}
 use Rattle.command_io.specs.Statuses.{status_number}
 use Rattle.office_program.specs.Texts.Rounds.{round_status}

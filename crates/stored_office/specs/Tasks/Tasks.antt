@@ -1,4 +1,4 @@
--- Defines what each task does to an office's store, what it prints, and its results.
+-- Defines what each task does to the store in a database, what it prints, and its results.
 use Rattle.std.specs.Prelude.{ℕ, List, Option}
 use Rattle.sqlite.specs.Store.{Ghosts}
 use Rattle.office_rules.specs.History.{History}

@@ -8,7 +8,8 @@ use office_program::{PollEnd, ServeEnd};
 use office_rounds::RoundFault;
 
 /// Returns whether explanations follow a round of polls. They follow only if the round was
-/// completed, or if the office refused to open or to poll. Any other failure has its own message.
+/// completed, or if the office (the part that checks and records events) refused to open or to
+/// poll. Any other failure has its own message.
 pub(crate) fn has_messages(end: PollEnd) -> bool
     ensures { result ≡ ends.has_messages end }
 {
@@ -35,7 +36,8 @@ fn is_refusal(status: ExitStatus) -> bool
     }
 }
 
-// Returns whether a task that serves HTTP ended because its office refused to open.
+// Returns whether a task that serves HTTP ended because the office, which checks and records all
+// events, refused to open.
 fn is_refused_serving(end: ServeEnd) -> bool
     ensures { result ≡ ends.is_refused_serving end }
 {
@@ -47,7 +49,8 @@ fn is_refused_serving(end: ServeEnd) -> bool
     }
 }
 
-// Returns whether a task that polls a device ended because its office refused to open.
+// Returns whether a task that polls a device ended because the office, which checks and records all
+// events, refused to open.
 fn is_refused_polling(end: PollEnd) -> bool
     ensures { result ≡ ends.is_refused_polling end }
 {
@@ -58,9 +61,9 @@ fn is_refused_polling(end: PollEnd) -> bool
     }
 }
 
-/// Returns whether a task may have failed because the office's latest record is later than the
-/// clock, without saying so. These tasks print only the number of the refusal. The command `run`
-/// explains the refusal itself.
+/// Returns whether a task may have failed because the latest record in the database is later than
+/// the clock. These tasks print only the number of the refusal, and not this cause. The command
+/// `run` explains the refusal itself.
 pub fn may_be_ahead(done: Done) -> bool
     ensures { result ≡ ends.may_be_ahead done }
 {

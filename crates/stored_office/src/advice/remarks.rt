@@ -15,9 +15,10 @@ use std::alloc::AllocError;
 /// The content of a line that a round of polls printed and that needs an explanation.
 #[derive(Clone, Copy, Debug, PartialEq, Eq)]
 pub(crate) enum Remark {
-    /// The line `refused N`: a refusal of the office, with its number.
+    /// The line `refused N`: an event was refused for the reason with the number N.
     Refused(u32),
-    /// The line `held METER RAW cause N`: the office rejected a reading of the meter.
+    /// The line `held METER RAW cause N`: a reading of the meter was rejected for the cause with
+    /// the number N.
     Held(Name, u32),
 }
 

@@ -1,5 +1,5 @@
-//! Runs of an office over a store in a database. Their contracts are the main theorem about an
-//! office.
+//! Runs of an office, the part of the program that checks and records events, over a store in a
+//! database. Their contracts are the main theorem about an office.
 ghost use Rattle.std.specs.Prelude.{ℕ, List, [], IfErr, IfOk, IfSome};
 ghost use Rattle.office_core.specs.EventRun.{HandsBack, IsCleanOnlyIfWas, RecordsIfClean};
 ghost use Rattle.office_rules.specs.Lawfulness.{IsPast};
@@ -13,10 +13,10 @@ use office_store::SqlBooks;
 use sqlite::{Alter, Connection};
 use std::alloc::Global;
 
-/// Opens an office over a store in a database, and processes events. The main theorem about an
-/// office applies on two conditions. The store must have exactly the records of a history of
-/// accepted events, and must still have them after a crash. The disk must return what was written
-/// to it.
+/// Opens an office (the checks and the recording of events) over a store in a database, and
+/// processes events. The main theorem about an office applies on two conditions. The store must
+/// have exactly the records of a history of accepted events, and must still have them after a
+/// crash. The disk must return what was written to it.
 pub fn run_stored<S: Alter + Drop>(
     alloc: Global,
     books: SqlBooks<S>,
@@ -34,9 +34,10 @@ pub fn run_stored<S: Alter + Drop>(
     run(alloc, books, opened, events)
 }
 
-/// Creates a store in an empty database, opens an office over it, and processes events. Its days
-/// are those of the time zone `zone`. The main theorem applies if the disk returns what was written
-/// to it. Returns None if the store could not be created, or if the office could not be opened.
+/// Creates a store in an empty database, opens an office (the checks and the recording of events)
+/// over the store, and processes events. The civil days are those of the time zone `zone`. The main
+/// theorem about an office applies if the disk returns what was written to it. Returns None if the
+/// store could not be created, or if the office could not be opened.
 pub fn run_created<S: Alter + Drop>(
     alloc: Global,
     connection: Connection<S>,

@@ -1,4 +1,4 @@
-//! The tasks of commands that need an office, and their execution.
+//! The tasks of commands that work on a database file, and their execution.
 ghost use Rattle.std.specs.Prelude.{◌≡◌, Err, IfOk, IfErr};
 ghost use Rattle.office_rules.specs.History.{History};
 ghost use Rattle.office_core.specs.Leaving.{BooksStand};
@@ -26,7 +26,7 @@ use std::io::Write;
 use std::net::Net;
 use std::rt::Files;
 
-/// What a command does with an office and its store.
+/// What a command does with the store in a database file.
 #[derive(Clone, Copy)]
 pub enum Task<'a> {
     /// Prints the energy of an accounting register, as `report_books` does.
@@ -53,13 +53,13 @@ pub enum Task<'a> {
         names: &'a [&'a str],
         connections: u32,
     },
-    /// Feeds the office the events in the lines of a text, with `caller` in their idempotency keys,
-    /// as `enter_books` does.
+    /// Processes the events, such as meter entries, in the lines of a text, as `enter_books` does.
+    /// The idempotency keys of the lines contain `caller`.
     Enter {
         caller: &'a str,
         text: &'a [u8],
     },
-    /// Checks the lines of a text without changing the office, as `check_books` does.
+    /// Checks the lines of a text without changing the store, as `check_books` does.
     Check {
         caller: &'a str,
         text: &'a [u8],

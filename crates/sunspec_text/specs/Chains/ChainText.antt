@@ -41,13 +41,13 @@ chain_lines word base models end =
     ++ codes "end "
     ++ decimal end ++ codes "\n"
 
--- The lines of a SunSpec chain that was parsed from a device's words.
+-- The lines of a SunSpec chain that was parsed from a device's Modbus registers.
 abbrev pub lines_of : Chain → List ℕ
 lines_of chain =
     chain_lines (words_of chain) (base_of chain) (models_of chain) (end_of chain)
 
--- The address at the end of a chain fault's line, after a space. No text if the fault concerns no
--- single word.
+-- The part of a fault's line that names the faulty Modbus address, after a space. Empty if the
+-- fault concerns no single address.
 abbrev pub place_text : ChainFault → List ℕ
 place_text NoMark = []
 place_text (Unreadable address) = codes " " ++ decimal address
@@ -55,14 +55,14 @@ place_text PastEnd = []
 place_text TooMany = []
 place_text Memory = []
 
--- The line that reports a fault of a SunSpec chain. It has the fault's number, and for some faults
--- an address.
+-- The line that reports why a device has no valid chain of SunSpec models. It has the fault's
+-- number, and for some faults an address.
 abbrev pub fault_line : ChainFault → List ℕ
 fault_line fault =
     codes "fault " ++ decimal (chain_fault_number fault) ++ place_text fault ++ codes "\n"
 
--- States that a device's words have the given chain fault. False for `Memory`, because running out
--- of memory is no fault of the words.
+-- States that a device's Modbus registers have the given fault of the SunSpec chain. False for
+-- `Memory`, because running out of memory is no fault of the registers.
 abbrev pub IsWrong : Words → ChainFault → Type 0
 IsWrong word Memory = ⊥
 IsWrong word NoMark = Fails word NoMark
@@ -77,8 +77,8 @@ FaultPrints fault printed Fine = ⊥
 FaultPrints fault printed Refused = (fault ≢ Memory) × (printed ≡ fault_line fault)
 FaultPrints fault printed Failed = ⊥
 
--- States that the output is the lines of the chain in a device's words. If the words have a chain
--- fault, the output is the fault's line.
+-- States that the output is the lines of the SunSpec chain in a device's Modbus registers. If the
+-- registers contain no valid chain, the output is the fault's line.
 abbrev pub WordsPrint : Words → (printed : List ℕ) → ExitStatus → Type 0
 WordsPrint word printed Fine =
     (base : ℕ) × (models : List Model) × (end : ℕ) × IsChain word base models end
@@ -87,14 +87,14 @@ WordsPrint word printed Refused =
     (fault : ChainFault) × IsWrong word fault × (printed ≡ fault_line fault)
 WordsPrint word printed Failed = ⊥
 
--- States the output for the words that were parsed from the input lines. If a line is malformed,
+-- States the output for the Modbus registers that the input lines describe. If a line is malformed,
 -- the output is `bad line N` with the first such line's number.
 abbrev pub LinesPrint : Result Words ℕ → (printed : List ℕ) → ExitStatus → Type 0
 LinesPrint (Err number) printed status = (status ≡ Refused) × (printed ≡ bad_line number)
 LinesPrint (Ok word) printed status = WordsPrint word printed status
 
--- States the output for an input. If the input exceeds the maximum length, the output reports that,
--- otherwise the output is for the words in the input's lines.
+-- States the output for an input that describes Modbus registers. The output is `too long` if the
+-- input exceeds the maximum length.
 pub record ChainPrints (input printed : List ℕ) (status : ExitStatus) : Type 0 where
   pub long : most_bytes < length input → (status ≡ Refused) × (printed ≡ too_long)
   pub lines : length input ≤ most_bytes

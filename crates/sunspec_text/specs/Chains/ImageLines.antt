@@ -1,4 +1,4 @@
--- Defines the words of a device that lines `ADDRESS HEX` describe. HEX has the 16-bit words of the
+-- Defines the register image that lines `ADDRESS HEX` describe. HEX has the 16-bit words of the
 -- Modbus registers from ADDRESS on.
 use Rattle.std.specs.Prelude.{ℕ, ◌+◌, ◌%◌, ◌==◌, nat_le, if◌then◌else◌, List, [], ◌∷◌, length, Some, None, Ok, Err, option_and_then, option_map, ◌≡◌, Vec}
 use Rattle.std.specs.declared.option.Option.{Option}
@@ -9,8 +9,8 @@ use Rattle.command_io.specs.Lines.{Line}
 use Rattle.script_lines.specs.LineWords.Words.{words_of}
 use Rattle.script_lines.specs.LineWords.Values.{bytes_of, number_of}
 
--- The content of a line `ADDRESS HEX`: some words of a device, and the address of the first of
--- these words.
+-- The content of a line `ADDRESS HEX`: the 16-bit words of some Modbus registers, and the address
+-- of the first register.
 pub record Put : Type 0 where
   pub address : ℕ
   pub words : List ℕ
@@ -44,8 +44,8 @@ append_at None words = None
 append_at (Some address) None = None
 append_at (Some address) (Some words) = Some (record { address = address; words = words })
 
--- The content of a line `ADDRESS HEX`, from the words of the line. If the hexadecimal digits are
--- missing, the line has no words of the device.
+-- The content of a line `ADDRESS HEX`, split at its spaces. If the hexadecimal digits are missing,
+-- the line describes no registers.
 abbrev pub write_said : List (List ℕ) → Option Put
 write_said [] = None
 write_said (address ∷ []) = append_at (address_of address) (Some [])
@@ -56,31 +56,31 @@ write_said (address ∷ hex ∷ more ∷ rest) = None
 abbrev pub write_of : List ℕ → Option Put
 write_of line = write_said (words_of line)
 
--- The image of a device's words after adding the words of one line. `None` if these words extend
--- past address 65,535.
+-- The register image after adding the registers of one line. `None` if these registers extend past
+-- address 65,535.
 abbrev pub words_after_put : Words → Put → Option Words
 words_after_put word put =
     if nat_le (put.address + length put.words) 65536
     then Some (add_words word put.address put.words)
     else None
 
--- The image of a device's words after reading one line, or `None` if the line is malformed.
+-- The register image after reading one line, or `None` if the line is malformed.
 abbrev pub words_after : Words → List ℕ → Option Words
 words_after word line = option_and_then (words_after_put word) (write_of line)
 
--- Applies the next parsing step to the image. If there is no image, returns the number of the
--- malformed line.
+-- Applies the next parsing step to the register image. If there is no image, returns the number of
+-- the malformed line.
 abbrev pub or_bad_line : Option Words → ℕ → (Words → Result Words ℕ) → Result Words ℕ
 or_bad_line None number goes_on = Err number
 or_bad_line (Some word) number goes_on = goes_on word
 
--- The image of a device's words after reading all lines. If a line is malformed, the result is the
--- number of the first such line.
+-- The register image after reading all lines. If a line is malformed, the result is the number of
+-- the first such line.
 abbrev pub words_reported : Words → List Line → Result Words ℕ
 words_reported word [] = Ok word
 words_reported word (line ∷ lines) =
     or_bad_line (words_after word line.text) line.number (λ later. words_reported later lines)
 
--- The image of a device's words before the first line is read. The image has no words.
+-- The register image before the first line is read: no register has a value.
 abbrev pub nothing_read : Words
 nothing_read address = None

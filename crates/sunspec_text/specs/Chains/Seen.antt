@@ -1,4 +1,5 @@
--- Defines the contracts for parsing lines `ADDRESS HEX` into an image of a device's words.
+-- Defines the contracts for parsing lines `ADDRESS HEX` into an image of a device's Modbus
+-- registers.
 use Rattle.std.specs.Prelude.{◌≡◌, ℕ, List, None, Ok, Err}
 use Rattle.std.specs.declared.result.Result.{Result}
 use Rattle.sun_chain.specs.Image.{Words, word_in}
@@ -13,7 +14,7 @@ use Rattle.sunspec_text.specs.declared.chains.image_lines.LoadFault.TheVariants.
 abbrev pub seen_put : LoadedPut → Put
 seen_put put = record { address = put.address; words = put.words.items }
 
--- States that the image has exactly the words that the lines of the text contain.
+-- States that the register image has exactly the values that the lines of the text contain.
 abbrev pub ReportsImage : (text : List ℕ) → Image → Type 0
 ReportsImage text image = words_reported nothing_read (speaking_lines text) ≡ Ok (word_in image)
 
@@ -23,18 +24,18 @@ pub record IsBad (word : Words) (line : Line) (number : ℕ) : Type 0 where
   pub number_of : number ≡ line.number
   pub wrong : words_after word line.text ≡ None
 
--- States that the fault explains why a line was not added to the image. The line is malformed, or
--- memory ran out.
+-- States that the fault explains why a line was not added to the register image. The line is
+-- malformed, or memory ran out.
 abbrev pub ExplainsLine : LoadFault → Words → Line → Type 0
 ExplainsLine (BadLine number) word line = IsBad word line number
 ExplainsLine Memory word line = Unit {0}
 
--- States that the fault explains why the lines give no image. The fault has the number of the first
--- malformed line, or memory ran out.
+-- States that the fault explains why the lines give no register image. The fault has the number of
+-- the first malformed line, or memory ran out.
 abbrev pub Explains : LoadFault → Result Words ℕ → Type 0
 Explains (BadLine number) reported = reported ≡ Err number
 Explains Memory reported = Unit {0}
 
--- States that the fault explains why the lines of the text give no image.
+-- States that the fault explains why the lines of the text give no register image.
 abbrev pub ExplainsText : (text : List ℕ) → LoadFault → Type 0
 ExplainsText text fault = Explains fault (words_reported nothing_read (speaking_lines text))

@@ -83,8 +83,7 @@ pub record LinesPrint (list : List ListedPoint) (reads : List PlannedRead) (prin
   pub placed : PointsPrint list list reads points
   pub lines : printed ≡ read_lines 1 reads ++ points
 
--- States that the output is the lines of a read plan for the point list, and that the plan is a
--- valid plan.
+-- States that the output is the lines of a valid read plan for the point list.
 pub record PlanPrints (list : List ListedPoint) (printed : List ℕ) : Type 0 where
   pub reads : List PlannedRead
   pub rule : FollowsRule (items_of list) (read_runs reads)

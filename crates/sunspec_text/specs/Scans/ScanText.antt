@@ -17,8 +17,8 @@ use Rattle.sunspec_text.specs.Chains.ChainText.{WordsPrint}
 use Rattle.sunspec_text.specs.declared.scans.scan_printout.ScanForm.{ScanForm}
 use Rattle.sunspec_text.specs.declared.scans.scan_printout.ScanForm.TheVariants as form
 
--- States that a device's words contain a chain of SunSpec models, and that these models satisfy
--- `P`.
+-- States that a device's Modbus registers contain a chain of SunSpec models, and that these models
+-- satisfy `P`.
 abbrev pub WithChain : Words → (List Model → Type 0) → Type 0
 WithChain word P =
     (base : ℕ) × (models : List Model) × (end : ℕ) × IsChain word base models end × P models
@@ -30,20 +30,21 @@ PrintsTooMany word printed models =
     (chain_faults (points_from word 1 models) ≢ [])
     × (printed ≡ flat_map fault_line (chain_faults (points_from word 1 models)))
 
--- States that the output explains why a device has no point list. The device's words contain no
--- chain, or a chain with too many points.
+-- States that the output explains why a device has no point list. The device's Modbus registers
+-- contain no SunSpec chain, or a chain with too many points.
 abbrev pub PrintsNoList : Words → (printed : List ℕ) → Type 0
 PrintsNoList word printed =
     WordsPrint word printed Refused ⊎ WithChain word (PrintsTooMany word printed)
 
--- States that the output is the point list of the chain in a device's words, or a fault.
+-- States that the output is the point list of the SunSpec chain in a device's Modbus registers, or
+-- a fault.
 abbrev pub ListPrints : Words → (printed : List ℕ) → ExitStatus → Type 0
 ListPrints word printed Fine =
     WithChain word (λ models. printed ≡ list_text (points_from word 1 models))
 ListPrints word printed Refused = PrintsNoList word printed
 ListPrints word printed Failed = ⊥
 
--- States that the output is the script lines that set up a device. These lines exist if and only if
+-- States that the output is script lines that add a device to `sunreg`. They exist if and only if
 -- the device has a point list, and their text is not specified.
 abbrev pub SetupPrints : Words → (printed : List ℕ) → ExitStatus → Type 0
 SetupPrints word printed Fine = WithChain word (λ models. Unit {0})
@@ -63,15 +64,15 @@ LinesPrint printed Fine = Unit {0}
 LinesPrint printed Refused = ⊥
 LinesPrint printed Failed = ⊥
 
--- States that the output for a device's words is printed as requested, which is a SunSpec chain, a
+-- States that the output for a device's Modbus registers has the requested form: a SunSpec chain, a
 -- point list or setup lines.
 abbrev pub FormPrints : ScanForm → Words → (printed : List ℕ) → ExitStatus → Type 0
 FormPrints form.Chain word printed status = WordsPrint word printed status
 FormPrints form.List word printed status = ListPrints word printed status
 FormPrints (form.Setup site) word printed status = SetupPrints word printed status
 
--- States that a scan read a device's words over a link and wrote the requested output, or that the
--- scan failed.
+-- States that a scan read a device's Modbus registers over a link and wrote the requested output,
+-- or that the scan failed.
 pub record ScanPrints {P : Type 0} (p : printers.Ghosts P) (unit : ℕ) (form : ScanForm)
     (old_bytes old_given new_bytes new_given : Option (List ℕ)) (old new : P) (status : ExitStatus)
     : Type 0 where

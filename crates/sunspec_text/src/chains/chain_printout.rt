@@ -1,4 +1,4 @@
-//! Prints the chain of SunSpec models in a device's words.
+//! Prints the chain of SunSpec models in a device's Modbus registers.
 ghost use Rattle.std.specs.Prelude.{IfSome, OnOk, flat_map, map};
 ghost use Rattle.std.specs.Io.KnownBytes.{Appends};
 ghost use Rattle.sun_chain.specs.Chain.{words_of};
@@ -17,8 +17,8 @@ use std::alloc::Global;
 use std::io::{self, Read, Write};
 use sun_chain::{Chain, ChainFault, Image, Model, NamedPoint, walk};
 
-/// Reads lines `ADDRESS HEX`, where HEX are a device's words from ADDRESS on, and prints the chain
-/// of SunSpec models in these words.
+/// Reads lines `ADDRESS HEX`, where HEX are the Modbus registers from ADDRESS on, and prints the
+/// chain of SunSpec models in these registers.
 ///
 /// Prints `base B`, for each model `model ADDRESS ID L` and its points `point NAME VALUE`, then
 /// `end ADDRESS`. A fault prints only `fault N`. A malformed line, or a line that extends past
@@ -44,7 +44,8 @@ fn print_said<P: Printer>(alloc: Global, text: &[u8], output: &mut P) -> ExitSta
     print_end(&lines, meant, output)
 }
 
-// Writes the chain of SunSpec models in lines `ADDRESS HEX`, or a fault.
+// Writes the chain of SunSpec models in the Modbus registers that lines `ADDRESS HEX` describe, or
+// a fault.
 fn print_lines<W: Write>(alloc: Global, text: &[u8], output: &mut W) -> ExitStatus
     ensures { PrintsAs (LinesPrint (words_reported nothing_read (speaking_lines text.now))) result
         (W.contents output.old) (W.contents output.new) }
@@ -59,8 +60,8 @@ fn print_lines<W: Write>(alloc: Global, text: &[u8], output: &mut W) -> ExitStat
     }
 }
 
-/// Writes the chain of SunSpec models in an image of a device's words, or the line of the chain's
-/// fault.
+/// Writes the chain of SunSpec models in an image of Modbus registers. If the image has no valid
+/// chain, writes the fault's line.
 pub(crate) fn print_image<W: Write>(alloc: Global, image: &Image, output: &mut W) -> ExitStatus
     ensures { PrintsAs (WordsPrint (word_in image.now)) result
         (W.contents output.old) (W.contents output.new) }

@@ -1,4 +1,5 @@
-//! Reads a device's words from lines `ADDRESS HEX`, where HEX are the words from ADDRESS on.
+//! Reads an image of Modbus registers from lines `ADDRESS HEX`, where HEX are the 16-bit words from
+//! ADDRESS on.
 ghost use Rattle.std.specs.Prelude.{◌≡◌, IfOk, IfErr, OnOk, Some, option_map};
 ghost use Rattle.sun_chain.specs.Image.{word_in};
 ghost use Rattle.sunspec_text.specs.Chains.ImageLines.{SpellsWords, address_of, write_of, words_after};
@@ -11,7 +12,7 @@ use script_lines::{Words, hex_bytes, number};
 use std::alloc::{AllocError, Global};
 use sun_chain::{Image, ImageFault};
 
-/// The reason why lines `ADDRESS HEX` give no image of a device's words.
+/// The reason why lines `ADDRESS HEX` give no image of Modbus registers.
 #[derive(Clone, Copy, Debug, PartialEq, Eq)]
 pub(crate) enum LoadFault {
     /// The line with this number is malformed, or extends past address 65,535.
@@ -19,14 +20,14 @@ pub(crate) enum LoadFault {
     Memory,
 }
 
-/// Some 16-bit words of a device, and the address of the first of these words.
+/// The 16-bit words of some Modbus registers, and the address of the first register.
 #[derive(Drop)]
 pub(crate) struct Put {
     address: u16,
     words: Vec<u16>,
 }
 
-/// Reads lines `ADDRESS HEX` into an image of a device's words.
+/// Reads lines `ADDRESS HEX` into an image of Modbus registers.
 pub(crate) fn load(alloc: Global, text: &[u8]) -> Result<Image, LoadFault>
     ensures image { IfOk result (ReportsImage text.now) }
     ensures fault { IfErr result (ExplainsText text.now) }
@@ -39,7 +40,7 @@ pub(crate) fn load(alloc: Global, text: &[u8]) -> Result<Image, LoadFault>
     Ok(image)
 }
 
-// Parses a line `ADDRESS HEX`, and adds its words to the image.
+// Parses a line `ADDRESS HEX`, and adds its Modbus registers to the image.
 fn write_line(alloc: Global, image: &mut Image, line: InputLine<'_>) -> Result<(), LoadFault>
     ensures put { OnOk result
         (words_after (word_in image.old) line.entry.text.now ≡ Some (word_in image.new)) }

@@ -61,7 +61,7 @@ pub fn scan_text<L: Link, V: ScanObserver, P: Printer>(
     }
 }
 
-// Builds the complete output for an image of a device's words in memory, and then prints this
+// Builds the complete output for an image of Modbus registers in memory, and then prints this
 // output as a chain, a point list or setup lines.
 fn print_scanned<P: Printer>(
     alloc: Global,
@@ -77,7 +77,8 @@ fn print_scanned<P: Printer>(
     print_end(&lines, meant, output)
 }
 
-// Writes the output for an image of a device's words, as a chain, a point list or setup lines.
+// Writes the output for an image of Modbus registers, as a SunSpec chain, a point list or setup
+// lines.
 fn print_form<W: Write>(
     alloc: Global,
     image: &Image,
@@ -94,7 +95,7 @@ fn print_form<W: Write>(
     }
 }
 
-// Writes the point list of the chain in an image of a device's words.
+// Writes the point list of the SunSpec chain in an image of Modbus registers.
 fn print_listed<W: Write>(alloc: Global, image: &Image, output: &mut W) -> ExitStatus
     ensures { PrintsAs (ListPrints (word_in image.now)) result
         (W.contents output.old) (W.contents output.new) }
@@ -112,7 +113,7 @@ fn print_listed<W: Write>(alloc: Global, image: &Image, output: &mut W) -> ExitS
     }
 }
 
-// Writes the script lines that set up the device whose words are in the image.
+// Writes the script lines that add a device with these Modbus registers to `sunreg`.
 fn print_setup<W: Write>(alloc: Global, image: &Image, site: Site<'_>, output: &mut W) -> ExitStatus
     ensures { PrintsAs (SetupPrints (word_in image.now)) result
         (W.contents output.old) (W.contents output.new) }
@@ -138,7 +139,7 @@ fn print_faults<W: Write>(faults: &FaultyRows, output: &mut W) -> ExitStatus
     }
 }
 
-// Writes the script lines that set up a device and its energy counters.
+// Writes the script lines that add a device and its energy counters to `sunreg`.
 fn print_lines<W: Write>(
     alloc: Global,
     chain: &Chain<'_>,

@@ -1,5 +1,5 @@
-//! Builds the script lines that set up a device. These lines add the device, its point list, and an
-//! accounting register for each energy counter.
+//! Builds the script lines that add a device to `sunreg`. They have the device, its point list, and
+//! an accounting register (a named counter) for each of its energy counters.
 
 use std::alloc::Global;
 use std::io::{self, Write};
@@ -15,8 +15,8 @@ pub struct Site<'a> {
     pub timeout: u32,
 }
 
-/// An energy counter of a device in Wh. It has the name of its SunSpec point, and a code. The name
-/// of the counter's accounting register is the device's name followed by this code.
+/// An energy counter of a device in Wh: the name of its SunSpec point, and a code. In `sunreg` the
+/// counter's name is the device's name followed by this code.
 #[derive(Clone, Copy)]
 struct Counter {
     point: &'static str,
@@ -26,8 +26,8 @@ struct Counter {
     front: &'static str,
 }
 
-// Makes a table of energy counters. Each row has the name of a SunSpec point, the code in the
-// accounting register's name, and the text before the line `register`.
+// Makes a table of energy counters. Each row has the name of a SunSpec point, the code that ends
+// the counter's name in `sunreg`, and the text before the line `register`.
 macro_rules! counters {
     ($(($point:expr, $code:expr, $front:expr),)*) => {
         [$(Counter { point: $point, code: $code, front: $front }),*]

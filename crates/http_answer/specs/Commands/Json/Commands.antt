@@ -70,6 +70,7 @@ pub record IsClose (d : Data) (body : CloseBody) : Type 0 where
   pub raw : whole (codes "raw") d ≡ Some (pos body.raw)
   pub rolls : whole (codes "rolls") d ≡ Some (pos body.rolls)
 
--- The parsed void command has the sequence number of the meter entry in the JSON object `d`.
+-- The parsed void command names the meter entry to withdraw by the sequence number in the JSON
+-- object `d`.
 pub record IsVoid (d : Data) (body : VoidBody) : Type 0 where
   pub place : whole (codes "place") d ≡ Some (pos body.place)

@@ -92,6 +92,7 @@ close_members =
     ∷ record { name = codes "rolls"; want = Natural }
     ∷ []
 
--- The required member of the body that voids a meter entry: the entry's sequence number.
+-- The required member of the body that voids a meter entry (withdraws it as false): the entry's
+-- sequence number.
 abbrev pub void_members : List Member
 void_members = record { name = codes "place"; want = Natural } ∷ []

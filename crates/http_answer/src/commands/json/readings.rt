@@ -1,4 +1,5 @@
-//! Reads the JSON bodies that enter readings by hand, close meters and void entries.
+//! Reads the JSON bodies that enter readings by hand, close meters, and void entries (withdraw them
+//! as false).
 ghost use Rattle.serde_json.specs.View.{view};
 ghost use Rattle.http_answer.specs.Commands.Json.Members.{Reads};
 ghost use Rattle.http_answer.specs.Commands.Json.Tables.{close_members, fault_of, manual_members, void_members};
@@ -24,7 +25,7 @@ pub struct CloseBody {
     pub rolls: u64,
 }
 
-/// The sequence number of the meter entry that a command voids.
+/// The sequence number of the meter entry that a command voids (withdraws as false).
 #[derive(Clone, Copy, Debug, PartialEq, Eq)]
 pub struct VoidBody {
     pub place: u64,
@@ -56,7 +57,7 @@ pub fn close_in(body: &Body) -> Result<CloseBody, BodyFault>
     })
 }
 
-/// Reads the JSON body of the command that voids a meter entry.
+/// Reads the JSON body of the command that voids a meter entry (withdraws it as false).
 pub fn void_in(body: &Body) -> Result<VoidBody, BodyFault>
     ensures { Reads (fault_of void_members (view body.now)) (IsVoid (view body.now)) result }
 {

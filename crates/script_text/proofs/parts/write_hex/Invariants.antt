@@ -1,4 +1,4 @@
--- Loop invariant: the writer received the hex text of all bytes that are not in the rest.
+-- Loop invariant: the writer received the hex text of all bytes except those still to be written.
 use Rattle.std.proofs.Common.{◌≡◌, ℕ, List, ◌++◌, length}
 use Rattle.std.specs.Io.KnownBytes.{Appends}
 use Rattle.hex.specs.Hex.{encode_lower}
