@@ -28,7 +28,7 @@ use Rattle.run_http.specs.Answer.{Asks}
 use Rattle.http_peers.specs.Clients.{AreAt, OnlyQueries, ServesClients}
 use Rattle.run_http.specs.OfficeRequests.{AsksAllRows}
 use Rattle.run_http.specs.Pieces.{BeginsReply, ReportsOn, with_all_rows, with_rows}
-use Rattle.http_peers.specs.Responses.{BeginsResponse, BeginsRows, ExecutesOnly, ExecutesUnlessRejected, IsBegunWith, MayBeginAll, MayBeginRoute, MayBeginRows, RepliesDays, RepliesRoute, RespondsByRoute, RespondsToOffice}
+use Rattle.http_peers.specs.Responses.{BeginsResponse, BeginsRows, ExecutesUnlessRejected, IsBegunWith, MayBeginAll, MayBeginRoute, MayBeginRows, RepliesDays, RepliesRoute, RespondsByRoute, RespondsToOffice}
 use Rattle.run_http.specs.StatusRoute.{IsFor, IsRunRoute}
 use Rattle.run_http.specs.declared.answer.ClientResponse.{ClientResponse}
 use Rattle.run_http.specs.declared.answer.ClientResponse.TheVariants.{Open, Replied, Failed}
@@ -226,29 +226,3 @@ begun_serves names ledger at old new context route before after response (inl ha
 begun_serves names ledger at old new context route before after response (inr (kept, has)) =
     queries_serve names at ledger old new
     (both_query ledger old has.mid new has.looks (response_queries ledger has.mid new context route response has.responds))
-
-pub executes_nothing : {B : Type 0} (ledger : B → Ledger) (at : ℕ) (office : Office B) (request : List ℕ) → ExecutesOnly ledger at office office request
-executes_nothing ledger at office request = inl (queries_nothing ledger office)
-
-office_executes : {B : Type 0} (ledger : B → Ledger) (at : ℕ) (old new : Office B) (table : Table) (request : List ℕ) (before after : Option RemainingRows)
-    (rejects : Bool) (response : ClientResponse) → RespondsToOffice ledger at old new table request before after rejects response
-    → ExecutesOnly ledger at old new request
-office_executes ledger at old new table request before after true response responds =
-    subst (λ it. ExecutesOnly ledger at old it request) (sym responds.0) (executes_nothing ledger at old request)
-office_executes ledger at old new table request before after false response (inl has) =
-    inl (begun_queries ledger old new has.meter 0 18446744073709551615 (with_all_rows []) before after response has.begins)
-office_executes ledger at old new table request before after false response (inr (kept, has)) = inr (response, has)
-
-pub executes_only : {B : Type 0} (ledger : B → Ledger) (at : ℕ) (old new : Office B) (table : Table) (left : ℕ) (is_lost : Bool) (request : List ℕ)
-    (before after : Option RemainingRows) (response : ClientResponse)
-    → ExecutesUnlessRejected ledger at old new table left is_lost request before after response → ExecutesOnly ledger at old new request
-executes_only ledger at old new table left is_lost request before after response has =
-    office_executes ledger at old new table request before after has.rejects response has.responds
-
-pub begun_executes : {B : Type 0} (ledger : B → Ledger) (at : ℕ) (old new : Office B) (context : RunContext) (route : RunRoute) (request : List ℕ)
-    (before after : Option RemainingRows) (response : ClientResponse) → BeginsResponse ledger old new context route before after response
-    → ExecutesOnly ledger at old new request
-begun_executes ledger at old new context route request before after response (inl has) =
-    inl (begun_queries ledger old new has.meter has.from has.till (with_rows []) before after response has.begins)
-begun_executes ledger at old new context route request before after response (inr (kept, has)) =
-    inl (both_query ledger old has.mid new has.looks (response_queries ledger has.mid new context route response has.responds))

@@ -45,6 +45,9 @@ use Rattle.run_http.specs.declared.meter_replies.TheConstants.{MOST_ENTRIES}
 use Rattle.run_http.specs.declared.pieces.RemainingRows.{RemainingRows}
 use Rattle.run_http.specs.declared.route.RunRoute.{RunRoute}
 use Rattle.run_http.specs.declared.route.RunRoute.TheVariants.{Own, Metrics, Site, Intervals, Entries, Voids, Energy, Meters}
+use Rattle.http_peers.specs.Repeats.{WasReplied}
+use Rattle.http_peers.specs.declared.http_port.HttpPort.{HttpPort}
+use Rattle.http_peers.specs.declared.repeats.Replied as stored
 use Rattle.http_peers.specs.declared.run_context.RunContext.{RunContext}
 
 -- The response with the energy of an accounting register: over the earlier database files and the
@@ -230,30 +233,45 @@ pub record ExecutesUnlessRejected {B : Type 0} (ledger : B → Ledger) (at : ℕ
   pub tests : Rejects left is_lost request rejects
   pub responds : RespondsToOffice ledger at old new table request before after rejects response
 
--- The response to a request, by the route of `sunreg run` that matches it. If no route matches, the
--- condition `Executed` says what the program did.
-abbrev pub RespondsBy : {B : Type 0} → (B → Ledger) → (old new : Office B) → RunContext
-    → (Executed : Type 0) → Option RunRoute → (before after : Option RemainingRows)
-    → ClientResponse → Type 0
-RespondsBy ledger old new context Executed None before after response = Executed
-RespondsBy ledger old new context Executed (Some route) before after response =
+-- The response to a request, by the route of `sunreg run` that matches it. If none matches, the
+-- program executes the request, or rejects it as a command that may not be stored.
+abbrev pub RespondsBy : {B : Type 0} → (B → Ledger) → HttpPort → (old new : Office B)
+    → (request : List ℕ) → RunContext → Option RunRoute
+    → (before after : Option RemainingRows) → ClientResponse → Type 0
+RespondsBy ledger port old new request context None before after response =
+    ExecutesUnlessRejected ledger context.at.moment old new port.router port.room.left port.is_lost
+    request before after response
+RespondsBy ledger port old new request context (Some route) before after response =
     BeginsResponse ledger old new context route before after response
 
 -- The client gets the response of the route that its own request names. A request with a rejected
--- host has a route whose response is an error. `Executed` says what the program did if no route of
--- `sunreg run` matches.
-pub record RespondsTo {B : Type 0} (ledger : B → Ledger) (old new : Office B)
-    (request : List ℕ) (context : RunContext) (Executed : Type 0)
-    (before after : Option RemainingRows) (response : ClientResponse)
-    : Type 0 where
+-- host has a route whose response is an error.
+pub record RespondsTo {B : Type 0} (ledger : B → Ledger) (port : HttpPort) (old new : Office B)
+    (request : List ℕ) (context : RunContext) (before after : Option RemainingRows)
+    (response : ClientResponse) : Type 0 where
   pub route : Option RunRoute
   pub finds : IsFor (texts context.names.now) request route
-  pub responds : RespondsBy ledger old new context Executed route before after response
+  pub responds : RespondsBy ledger port old new request context route before after response
 
--- The program executed exactly this request, or only queried its store. So nothing but the request
--- of this client can change the store.
-abbrev pub ExecutesOnly : {B : Type 0} → (B → Ledger) → (at : ℕ) → (old new : Office B)
-    → (request : List ℕ) → Type 0
-ExecutesOnly ledger at old new request =
-    OnlyQueries ledger old new
-    ⊎ ((response : ClientResponse) × Executes ledger at old new request response)
+-- The client gets the stored response of the port, whose request is equal to this one.
+abbrev pub IsStored : Option stored.Replied → (request : List ℕ) → ClientResponse → Type 0
+IsStored stored request Open = ⊥
+IsStored stored request (Replied text) = WasReplied stored request text.items
+IsStored stored request Failed = ⊥
+
+-- The client gets the stored response to an equal request, without a query to the store, or the
+-- response that the program makes for this request.
+abbrev pub RespondsAgain : {B : Type 0} → (B → Ledger) → HttpPort → (old new : Office B)
+    → (request : List ℕ) → RunContext → (before after : Option RemainingRows) → ClientResponse
+    → Type 0
+RespondsAgain ledger port old new request context before after response =
+    ((new ≡ old) × (after ≡ before) × IsStored port.repeats.latest request response)
+    ⊎ RespondsTo ledger port old new request context before after response
+
+-- The program made the response to this request, and did nothing else to its store. So nothing but
+-- the request of this client can change the store, and a request that is accepted is executed.
+pub record Answers {B : Type 0} (ledger : B → Ledger) (port : HttpPort) (old new : Office B)
+    (request : List ℕ) (context : RunContext) : Type 0 where
+  pub after : Option RemainingRows
+  pub response : ClientResponse
+  pub is : RespondsAgain ledger port old new request context None after response

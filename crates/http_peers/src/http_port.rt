@@ -2,7 +2,8 @@
 ghost use Rattle.std.specs.Prelude.{◌≡◌, ◌⊎◌, false, true};
 ghost use Rattle.http_request.specs.Hosts.{texts};
 ghost use Rattle.http_peers.specs.Clients.{OnlyQueries, ServesClients};
-ghost use Rattle.http_peers.specs.Responses.{ExecutesOnly, ExecutesUnlessRejected, RespondsTo};
+ghost use Rattle.http_peers.specs.Responses.{Answers, ExecutesUnlessRejected};
+ghost use Rattle.http_peers.specs.Responses.{RespondsAgain, RespondsTo};
 
 use crate::clients::Client;
 use crate::interval_answers::{append_piece, begin_all};
@@ -289,12 +290,8 @@ impl HttpPort {
     ) -> ClientResponse
         ensures serves { ServesClients (texts context.now.names.now) context.now.at.moment
             B.ledger office.old office.new }
-        ensures executes { ExecutesOnly B.ledger context.now.at.moment office.old office.new request.now }
-        ensures responds { RespondsTo B.ledger office.old office.new
-            request.now context.now
-            (ExecutesUnlessRejected B.ledger context.now.at.moment office.old office.new
-            self.now.router self.now.room.left self.now.is_lost request.now
-            rows.old rows.new result) rows.old rows.new result }
+        ensures responds { RespondsTo B.ledger self.now office.old office.new
+            request.now context.now rows.old rows.new result }
     {
         match run_route(context.names, request) {
             Some(route) => { begin_response(self.alloc, office, &route, context, rows) }
@@ -304,7 +301,7 @@ impl HttpPort {
 
     // Returns the stored response if the request is equal to the stored request and nothing was
     // recorded since. Otherwise makes a new response.
-    #[tactic(auto, using(crate::proofs::ServingClients::nobody_asks, crate::proofs::ServingClients::executes_nothing))]
+    #[tactic(auto, using(crate::proofs::ServingClients::nobody_asks))]
     fn reply_again<B: Books>(
         &mut self,
         request: &[u8],
@@ -314,7 +311,8 @@ impl HttpPort {
     ) -> ClientResponse
         ensures serves { ServesClients (texts context.now.names.now) context.now.at.moment
             B.ledger office.old office.new }
-        ensures executes { ExecutesOnly B.ledger context.now.at.moment office.old office.new request.now }
+        ensures responds { RespondsAgain B.ledger self.old office.old office.new
+            request.now context.now rows.old rows.new result }
     {
         if let Some(reply) = self.repeats.again(self.alloc, request) {
             return ClientResponse::Replied(reply);
@@ -450,8 +448,8 @@ impl HttpPort {
     )
         ensures serves { ServesClients (texts context.now.names.now) context.now.at.moment
             B.ledger office.old office.new }
-        ensures executes { ExecutesOnly B.ledger context.now.at.moment office.old office.new
-            client.old.request.items }
+        ensures answers { Answers B.ledger self.old office.old office.new
+            client.old.request.items context.now }
     {
         let begun = even_milliseconds(rt);
         let mut rows = None;
