@@ -63,7 +63,7 @@ kind_in row_kind.Closing = Some kind.Closing
 kind_in row_kind.Reset = Some kind.Reset
 kind_in row_kind.Rescale = Some kind.Rescale
 
--- Entries of this kind set the counter to another count, which resets and rescales do.
+-- Whether entries of this kind (resets and rescales) set the counter to another count.
 abbrev pub is_change : EntryKind → Bool
 is_change kind.Reset = true
 is_change kind.Rescale = true

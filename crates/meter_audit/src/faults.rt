@@ -11,11 +11,10 @@ pub enum RowFault {
     OpenedAgain,
     /// The row follows the closing of the meter, which must be the last row.
     AfterClosing,
+    /// The row is voided but is not a reading. Only readings can be voided.
+    CannotBeVoided,
     /// A column that the row's kind does not use is not 0: `rolls` in a reset or a rescale, or
     /// `after` in any other kind.
-    CannotBeVoided,
-    /// A column that the row's kind does not use is not 0: `after` in a step, or `rolls` in a
-    /// change.
     Unused,
     /// The row changes the scale factor but is not a rescale. The expected scale factor is
     /// `wanted`.

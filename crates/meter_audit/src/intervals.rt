@@ -5,13 +5,15 @@ ghost use Rattle.meter_audit.specs.Comparing.{fault_between, difference_after, I
 
 use interval_core::Share;
 
-/// The difference between an interval row of a table and the row computed from the meter's entries.
-/// Energies are in mWh.
+/// The difference between an interval row (the energy of a quarter hour) in a table and the row
+/// computed from the meter's entries. Energies are in mWh.
 #[derive(Clone, Copy, Debug, PartialEq, Eq)]
 pub enum IntervalFault {
-    /// The table lacks an interval row that was computed from the entries.
+    /// The table lacks an interval row (the energy of a quarter hour) that was computed from the
+    /// entries.
     Missing { start: u64, wanted: u64 },
-    /// The table has an interval row that was not computed from the entries.
+    /// The table has an interval row (the energy of a quarter hour) that was not computed from the
+    /// entries.
     Unwanted { start: u64, has: u64 },
     /// The interval row in the table has an energy other than the computed energy.
     Differs { start: u64, has: u64, wanted: u64 },
@@ -55,8 +57,8 @@ fn between(wanted: &Share, found: &Share) -> Option<IntervalFault>
     })
 }
 
-/// Returns the first difference between two lists of interval rows, given the number of equal rows
-/// before it.
+/// Returns the first difference between two lists of interval rows (energies of quarter hours),
+/// given the number of equal rows before it.
 fn difference_at(same: usize, fault: IntervalFault) -> IntervalDifference
     requires { same < 2 ^ 63 }
     ensures { result ≡ difference_after same fault }
@@ -74,9 +76,9 @@ fn difference_at(same: usize, fault: IntervalFault) -> IntervalDifference
     }
 }
 
-/// Returns the first difference between computed and stored interval rows, or `None` if the lists
-/// are equal. Both lists must be in order of their starts. To continue, skip `wanted_done` computed
-/// rows and `found_done` stored rows.
+/// Returns the first difference between computed and stored interval rows (energies of quarter
+/// hours), or `None` if the lists are equal. Both lists must be in order of their starts. To
+/// continue, skip `wanted_done` computed rows and `found_done` stored rows.
 pub fn first_difference(wanted: &[Share], found: &[Share]) -> Option<IntervalDifference>
     ensures none { IsNone result ↔ (found.now ≡ wanted.now) }
     ensures first { IfSome result (IsFirst wanted.now found.now) }

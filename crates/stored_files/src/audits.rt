@@ -32,10 +32,10 @@ pub enum AuditFault {
     Earlier,
     /// The tables can't be sealed: a row has an invalid value, or a name that is not a word.
     Unsealable,
+    /// A name or the time zone is not valid text.
+    NoText,
     /// The file that was named as a seal does not have the text of a seal, which has digests of a
     /// database's records.
-    NoText,
-    /// The file that was named as a seal does not have the text of a seal.
     NoSeal,
     /// The file with the seal can't be read.
     Unread,

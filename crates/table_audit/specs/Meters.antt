@@ -70,7 +70,8 @@ abbrev pub and_entries : Option MeterRows → ℕ → ℕ
 and_entries None n = n
 and_entries (Some rows) n = up_to_most (n + length rows.entries.items)
 
--- Adds the number of a meter's interval rows to the count `n`, up to 2^64 - 1.
+-- Adds the number of a meter's interval rows (energies of quarter hours) to the count `n`, up to
+-- 2^64 - 1.
 abbrev pub and_intervals : Option MeterRows → ℕ → ℕ
 and_intervals None n = n
 and_intervals (Some rows) n = up_to_most (n + length rows.intervals.items)

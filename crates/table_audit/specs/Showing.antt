@@ -81,7 +81,8 @@ abbrev pub ShowsVoids : (meter : List ℕ) → Content → List Row → Type 0
 ShowsVoids meter content rows =
     Shows (is_of meter) InOrder void_shown (content entry_tree.voids) rows
 
--- The query returns the interval rows of a meter, in order of their starts.
+-- The query returns the interval rows (energies of quarter hours) of a meter, in order of their
+-- starts.
 abbrev pub ShowsIntervals : (meter : List ℕ) → Content → List Row → Type 0
 ShowsIntervals meter content rows =
     Shows (is_of meter) InOrder share_shown (content intervals_tree) rows

@@ -38,16 +38,15 @@ pub enum Difference {
     OutOfRange(Table),
     /// The row of `installations` at the index `place` names no meter.
     Unnamed { place: u64 },
+    /// A row of `installations` has the index `has`, but `wanted` is the next index.
+    Installation { has: u64, wanted: u64 },
     /// The meter has no entry, or its first entry is not a valid opening, the entry that installs a
     /// meter.
-    Installation { has: u64, wanted: u64 },
-    /// The meter has no entry, or its first entry is not a lawful opening.
     NotOpened,
+    /// The rules for meter entries reject the entry at index `place`, given the earlier entries.
+    Entry { place: u64, fault: RowFault },
     /// A void record, which cancels a false reading, names no entry after the opening, or names an
     /// entry that already has a void record.
-    Entry { place: u64, fault: RowFault },
-    /// A void record names no entry after the opening, or names an entry that already has a void
-    /// record.
     Void { place: u64 },
     /// The stored energy of a quarter hour differs from the energy that the meter's entries give.
     Interval(IntervalFault),

@@ -122,7 +122,7 @@ impl Findings {
         Ok(())
     }
 
-    /// Adds a meter, its entries and its interval rows to the counts.
+    /// Adds a meter, its entries and its interval rows (energies of quarter hours) to the counts.
     pub(crate) fn count(&mut self, rows: &MeterRows)
         ensures counts { self.new.counts ≡ counted (Some rows.now) self.old.counts }
         ensures first { self.new.first ≡ self.old.first }

@@ -107,8 +107,8 @@ fn append_voids(last: u64, voids: &[u64], found: &mut Differences) -> Result<boo
     }
 }
 
-/// Reports each difference between the expected interval rows `wanted` and the stored rows `has`,
-/// in order.
+/// Reports each difference between the expected interval rows `wanted` (energies of quarter hours)
+/// and the stored rows `has`, in order.
 fn append_each(wanted: &[Share], has: &[Share], found: &mut Differences) -> Result<(), AllocError>
     requires reported { 0 < length found.old.first.items }
     requires few { length found.old.first.items ≤ MOST }
@@ -130,8 +130,8 @@ fn append_each(wanted: &[Share], has: &[Share], found: &mut Differences) -> Resu
     Ok(())
 }
 
-/// Reports each difference between the stored interval rows and those that follow from the meter's
-/// entries. Returns whether no difference exists.
+/// Reports each difference between the stored interval rows (energies of quarter hours) and those
+/// that follow from the meter's entries. Returns whether no difference exists.
 fn print_intervals(
     wanted: &[Share],
     has: &[Share],

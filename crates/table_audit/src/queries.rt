@@ -127,7 +127,8 @@ fn intervals<S: Alter>(conn: &mut Connection<S>, meter: &str) -> Result<Vec<Row>
     Ok(rows)
 }
 
-/// Queries a meter's rows: its counter range, entries, void records and interval rows.
+/// Queries a meter's rows: its counter range, entries, void records (which cancel readings) and
+/// interval rows (energies of quarter hours).
 pub fn meter_rows<S: Alter>(conn: &mut Connection<S>, meter: &str) -> Result<MeterRows, RowFault>
     requires { conn.old.in_transaction ≡ false }
     ensures { Finds S.Store conn.old conn.new result (showing.AreRowsOf meter.now) }

@@ -15,7 +15,8 @@ use Rattle.table_seals.specs.Sealed.{Sealed, SealedTables}
 use Rattle.table_seals.specs.Tables.{HasTerms, HasRead}
 use Rattle.table_seals.specs.Texts.{entries_text}
 
--- A row of `installations` has the sealed meter, with the sealed accounting register and ceiling.
+-- A row of `installations` has the meter, the accounting register and the ceiling (maximum power)
+-- that a seal names.
 abbrev pub IsInstalled : List Row → Sealed → Type 0
 IsInstalled installed seal =
     Any (λ row. HasTerms row seal.meter seal.register seal.ceiling) installed
@@ -30,20 +31,21 @@ pub record HasSealed (rows : MeterRows) (seal : Sealed) : Type 0 where
   pub same : sha256 (entries_text (take seal.entries all_entries)) ≡ seal.digest
   pub still : list_all (λ place. is_named voids place) seal.voids ≡ true
 
--- The tables still match a meter's seal. They have the sealed register, ceiling and range, the
--- sealed first entries, and the sealed void records.
+-- The tables still match a meter's seal, a digest of earlier entries. They have the sealed
+-- register, ceiling and range, the sealed first entries, and the sealed void records.
 abbrev pub Keeps : List Row → MeterRows → Sealed → Type 0
 Keeps installed rows seal = IsInstalled installed seal × HasSealed rows seal
 
--- `kept` is true if and only if the tables still match the meter's seal.
+-- `kept` is true if and only if the tables still match the meter's seal, a digest of its earlier
+-- entries.
 pub record ReportsKept (installed : List Row) (seal : Sealed) (content : Content) (kept : Bool) :
     Type 0 where
   pub rows : MeterRows
   pub theirs : AreRowsOf seal.meter content rows
   pub reported : IsTrue kept ↔ Keeps installed rows seal
 
--- Each Boolean in the second list is true if and only if the tables match the seal at this index in
--- the first list.
+-- Each Boolean in the second list is true if and only if the tables match the seal (a digest of
+-- earlier entries) at this index in the first list.
 abbrev pub AreReported : List Row → Content → List Sealed → List Bool → Type 0
 AreReported installed content [] [] = ⊤
 AreReported installed content (seal ∷ seals) (kept ∷ others) =
@@ -51,34 +53,37 @@ AreReported installed content (seal ∷ seals) (kept ∷ others) =
 AreReported installed content [] (kept ∷ others) = ⊥
 AreReported installed content (seal ∷ seals) [] = ⊥
 
--- A list with the name of a meter, or an empty list if the tables match the meter's seal.
+-- A list with the name of a meter, or an empty list if the tables match the meter's seal (a digest
+-- of its earlier entries).
 abbrev pub unless_kept : (kept : Bool) → (meter : List ℕ) → List (List ℕ)
 unless_kept true meter = []
 unless_kept false meter = meter ∷ []
 
--- Checking a meter's seal appends the meter's name if and only if the tables don't match the seal.
+-- Checking a meter against its seal (a digest of its earlier entries) appends the meter's name if
+-- and only if the tables don't match the seal.
 pub record ReportsMeter (installed : List Row) (seal : Sealed) (content : Content)
     (old new : List (List ℕ)) : Type 0 where
   pub kept : Bool
   pub reported : ReportsKept installed seal content kept
   pub names : new ≡ old ++ unless_kept kept seal.meter
 
--- The names of the meters that don't match their seals, in the order of the seals.
+-- The names of the meters that don't match their seals (digests of earlier entries), in the order
+-- of the seals.
 abbrev pub differing : List Sealed → List Bool → List (List ℕ)
 differing [] kept = []
 differing (seal ∷ seals) [] = []
 differing (seal ∷ seals) (kept ∷ others) = unless_kept kept seal.meter ++ differing seals others
 
--- `names` has the names of the meters that don't match their seals, given these rows of
--- `installations`.
+-- `names` has the names of the meters that don't match their seals (digests of earlier entries),
+-- given these rows of `installations`.
 pub record ReportsNames (installed : List Row) (seals : List Sealed) (content : Content)
     (names : List (List ℕ)) : Type 0 where
   pub kept : List Bool
   pub reported : AreReported installed content seals kept
   pub names_are : names ≡ differing seals kept
 
--- `names` has the names of the meters that don't match their seals in the tables, in the order of
--- the seals.
+-- `names` has the names of the meters whose entries in the tables don't match their seals (digests
+-- of earlier entries), in the order of the seals.
 pub record ReportsMeters (seals : List Sealed) (content : Content) (names : List (List ℕ)) : Type 0
   where
     pub installed : List Row
@@ -92,6 +97,7 @@ pub record ReportsTables (seal : SealedTables) (content : Content) (checked : Ch
   pub polls : ReportsPolls seal.polls content checked.polls_differ
   pub count : checked.meters ≡ length seal.meters
 
--- The check of a seal found that all meters and polls match the seal.
+-- The check of a file against its seal (digests of earlier records) found that all meters and polls
+-- match the seal.
 abbrev pub IsAsSealed : Checked → Type 0
 IsAsSealed checked = (checked.differing.items ≡ []) × (checked.polls_differ ≡ false)

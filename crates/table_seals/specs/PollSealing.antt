@@ -50,14 +50,16 @@ pub record IsSealOfPolls (polls : List ReadPoll) (sealed : SealedPolls) : Type 0
   pub digest_is : sealed.digest ≡ sha256 (polls_text polls)
   pub pending_are : sealed.pending ≡ pending_among polls
 
--- The result is the seal of these polls. None means that the polls can't be read.
+-- The result is the seal of these polls, which has a digest of their text. None means that the
+-- polls can't be read.
 abbrev pub ArePollsSealed : Option (List ReadPoll) → Option PollSeal → Type 0
 ArePollsSealed None None = ⊤
 ArePollsSealed (Some polls) (Some seal) = IsSealOfPolls polls (sealed_polls_of seal)
 ArePollsSealed None (Some seal) = ⊥
 ArePollsSealed (Some polls) None = ⊥
 
--- The result is the seal of all polls in the tables. None means that the polls can't be read.
+-- The result is the seal of all polls in the tables, which has a digest of their text. None means
+-- that the polls can't be read.
 pub record SealsPolls (content : Content) (found : Option PollSeal) : Type 0 where
   pub polls : Option (List ReadPoll)
   pub reads : ReadsPolls content polls
@@ -71,12 +73,13 @@ pub record HasSealedPolls (polls : List ReadPoll) (sealed : SealedPolls) : Type 
   pub enough : sealed.count ≤ length polls
   pub same : sha256 (polls_text_then sealed.count sealed.pending polls) ≡ sealed.digest
 
--- The polls can be read and match their seal.
+-- The polls can be read and match their seal, which has a digest of their earlier text.
 abbrev pub KeepsPolls : Option (List ReadPoll) → SealedPolls → Type 0
 KeepsPolls None sealed = ⊥
 KeepsPolls (Some polls) sealed = HasSealedPolls polls sealed
 
--- `differ` is false if and only if the polls in the tables match their seal.
+-- `differ` is false if and only if the polls in the tables match their seal, which has a digest of
+-- their earlier text.
 pub record ReportsPolls (sealed : SealedPolls) (content : Content) (differ : Bool) : Type 0 where
   pub polls : Option (List ReadPoll)
   pub reads : ReadsPolls content polls

@@ -1,4 +1,4 @@
--- Defines the seals that can be parsed from their text.
+-- Defines which seals can be parsed from their text. A seal has digests of a database's records.
 use Rattle.std.specs.Prelude.{◌≡◌, ◌<◌, ◌^◌, true, List, length}
 use Rattle.std.specs.List.{AllByRecursion}
 use Rattle.hex.specs.Hex.{IsBytes}

@@ -59,9 +59,9 @@ fn has_sealed(alloc: Global, rows: &MeterRows, seal: &MeterSeal) -> Result<bool,
     Ok(digest.as_slice() == seal.digest.as_slice())
 }
 
-/// Returns whether a meter matches its seal. The meter matches if `known` has its sealed terms, and
-/// its rows have the sealed range, entries and voids. `known` has the terms (name, register,
-/// ceiling) of each meter.
+/// Returns whether a meter matches its seal, a digest of its earlier entries. The meter matches if
+/// `known` has its sealed terms, and its rows have the sealed range, entries and void records.
+/// `known` has the terms (name, register, ceiling) of each meter.
 fn keeps(
     alloc: Global,
     known: &BTreeSet<Terms>,
@@ -75,8 +75,8 @@ fn keeps(
     Ok(there && has)
 }
 
-/// Queries a meter's rows and returns whether the meter matches its seal. `known` has the terms
-/// (name, register, ceiling) of all meters.
+/// Queries a meter's rows and returns whether the meter matches its seal, a digest of its earlier
+/// entries. `known` has the terms (name, register, ceiling) of all meters.
 fn check_meter<S: Alter>(
     alloc: Global,
     conn: &mut Connection<S>,
@@ -94,7 +94,8 @@ fn check_meter<S: Alter>(
     }
 }
 
-/// Appends the name of a meter to the list of differing meters, unless the meter matches its seal.
+/// Appends the name of a meter to the list of differing meters, unless the meter matches its seal
+/// (a digest of its earlier entries).
 fn append_differing(
     alloc: Global,
     kept: bool,
@@ -112,7 +113,8 @@ fn append_differing(
     Ok(())
 }
 
-/// Checks a meter, and appends its name if the meter does not match its seal.
+/// Checks a meter against its seal (a digest of its earlier entries), and appends its name if the
+/// meter does not match.
 fn check_and_report<S: Alter>(
     alloc: Global,
     conn: &mut Connection<S>,
@@ -132,8 +134,8 @@ fn check_and_report<S: Alter>(
     }
 }
 
-/// Returns the names of the meters that don't match their seals. `known` has the terms (name,
-/// register, ceiling) of all meters.
+/// Returns the names of the meters that don't match their seals (digests of earlier entries).
+/// `known` has the terms (name, register, ceiling) of all meters.
 fn check_each<S: Alter>(
     alloc: Global,
     conn: &mut Connection<S>,

@@ -6,8 +6,9 @@ ghost use Rattle.table_seals.specs.Texts as say;
 use crate::texts::{append_bytes, write_number, write_word};
 use std::alloc::AllocError;
 
-/// The result of checking a seal. It has the names of the meters that don't match the seal, the
-/// number of sealed meters, and whether the polls differ from the seal.
+/// The result of checking a file against its seal, which has digests of earlier records. It has the
+/// names of the meters that don't match the seal, the number of sealed meters, and whether the
+/// polls differ from the seal.
 #[derive(Debug, Drop)]
 pub struct Checked {
     pub differing: Vec<String>,
@@ -76,8 +77,9 @@ fn write_total(
     append_bytes(text, b" meters differ\n")
 }
 
-/// Appends the printed text of a check. It has a line for each meter that differs from its seal, a
-/// line if the polls differ, and a last line. If memory runs out, the text is incomplete.
+/// Appends the printed result of checking a file against its seal: a line for each meter that
+/// differs, a line if the polls differ, and a last line. If memory runs out, the text is
+/// incomplete.
 pub fn append_checked(text: &mut Vec<u8>, checked: &Checked) -> Result<(), AllocError>
     ensures { OnOk result (text.new.items ≡ text.old.items ++ say.checked_text checked.now) }
 {

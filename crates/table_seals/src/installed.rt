@@ -44,8 +44,8 @@ pub(crate) fn terms_in(alloc: Global, installed: &[Row]) -> Result<BTreeSet<Term
     Ok(known)
 }
 
-/// Returns whether the set `known` contains the terms in a meter's seal. `known` has the terms of
-/// all installed meters.
+/// Returns whether the set `known` contains the terms (name, register, ceiling) in a meter's seal.
+/// `known` has the terms of all installed meters.
 pub(crate) fn is_installed(known: &BTreeSet<Terms>, seal: &MeterSeal) -> Result<bool, AllocError>
     ensures { IfOk result (ReportsInstalled known.now (sealed_of seal.now)) }
 {

@@ -1,4 +1,4 @@
-//! Parses the text of a seal.
+//! Parses the text of a seal, which has digests of a database's records.
 ghost use Rattle.std.specs.Prelude.{◌≡◌, ◌≤◌, ◌<◌, ◌^◌, ◌++◌, ◌∷◌, ℕ, List, true, map, codes};
 ghost use Rattle.std.specs.Prelude.{length, decimal, IfSome, IfOk, IsSomeAnd, IsUtf8, MatchResult};
 ghost use Rattle.hex.specs.Hex.{encode_lower, IsBytes};

@@ -52,8 +52,8 @@ fn seal_of(alloc: Global, row: &Row, rows: &MeterRows) -> Result<Option<MeterSea
     }))
 }
 
-/// Queries the rows of the meter in an `installations` row, and computes the meter's seal. Returns
-/// None if the meter can't be sealed.
+/// Queries the rows of the meter in an `installations` row, and computes the meter's seal (a digest
+/// of its entries). Returns None if the meter can't be sealed.
 fn seal_row<S: Alter>(
     alloc: Global,
     conn: &mut Connection<S>,
@@ -75,7 +75,8 @@ fn seal_row<S: Alter>(
     }
 }
 
-/// Appends the seal of a meter to a list of seals. If memory runs out, returns a `RowFault`.
+/// Appends the seal of a meter (a digest of its entries) to a list of seals. If memory runs out,
+/// returns a `RowFault`.
 fn keep(seals: &mut Vec<MeterSeal>, seal: MeterSeal) -> Result<(), RowFault>
     ensures kept { OnOk result (seals.new.items ≡ seals.old.items ++ seal ∷ []) }
     ensures fault { IfErr result (λ fault. fault ≡ RowFault.Sql want_of_memory) }
@@ -86,8 +87,8 @@ fn keep(seals: &mut Vec<MeterSeal>, seal: MeterSeal) -> Result<(), RowFault>
     }
 }
 
-/// Computes the seal of the meter in each of these rows of `installations`. Returns None if one of
-/// the meters can't be sealed.
+/// Computes the seal (a digest of the entries) of the meter in each of these rows of
+/// `installations`. Returns None if one of the meters can't be sealed.
 fn seal_rows<S: Alter>(
     alloc: Global,
     conn: &mut Connection<S>,
@@ -107,8 +108,8 @@ fn seal_rows<S: Alter>(
     Ok(Some(seals))
 }
 
-/// Computes the seals of all meters in the tables. Returns None if one of the meters can't be
-/// sealed.
+/// Computes the seals (digests of the entries) of all meters in the tables. Returns None if one of
+/// the meters can't be sealed.
 fn seal_meters<S: Alter>(
     alloc: Global,
     conn: &mut Connection<S>,

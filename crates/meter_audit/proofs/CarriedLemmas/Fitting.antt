@@ -42,7 +42,8 @@ use Rattle.meter_audit.proofs.CarriedLemmas.Over.{left_by, last_over, total_over
 abbrev pub terms_of : Installed → (total : ℕ) → Terms
 terms_of meter total = record { ceiling = meter.ceiling; total = total }
 
--- The energy of the joined journal with one more entry stays within the limit of one meter.
+-- The energy of the joined journal of both files, with one more entry, stays within the limit of
+-- one meter.
 abbrev pub HasRoom : Installed → (es old : List Entry) → Entry → Type 0
 HasRoom meter es old e = total_after meter (es ++ old) + energy_of meter.range (last_after (left_by meter old) es) e ≤ 4 * 10 ^ 18
 

@@ -76,8 +76,8 @@ same_tree a b is = grind (arith, nat_tests)
 other_tree : (a b : ℕ) → (a == b) ≡ false → a ≢ b
 other_tree a b off is = grind (arith, nat_tests)
 
--- If the computed test `==` finds the number of B-tree `t` in a list of tables, the list has a
--- table with this B-tree.
+-- If a search by number finds B-tree `t` in a list of tables, then the list has a table with this
+-- B-tree.
 has_tree : (tables : List Table) (t : ℕ) → list_any (λ (x : Table). x.tree == t) tables ≡ true → HasTree tables t
 has_tree [] t is = absurd (cc)
 has_tree (x ∷ tables) t is = elim (either (x.tree == t) (list_any (λ (y : Table). y.tree == t) tables) is) [

@@ -20,9 +20,9 @@ pub enum CopyFault {
     Unwritable,
     /// At each attempt, another process merged the log into the original file during the copying.
     Changing,
-    /// The copy does not have the tables of `sunreg`.
+    /// The copy is not a database, or its database is damaged.
     Torn,
-    /// The copy does not have the tables of an office.
+    /// The copy does not have the tables of `sunreg`.
     NotOurs,
     Memory,
 }

@@ -21,10 +21,10 @@ pub enum Ending<'a> {
     NoZone(&'a str),
     /// The value `word` of the option `option` is not a calendar date.
     NoDay { option: &'a str, word: &'a str },
+    /// The requested range of days ends before it begins.
+    Backward,
     /// The file in the option `--against` does not have the text of a seal, which has digests of a
     /// database's records.
-    Backward,
-    /// The file in the option `--against` does not have the text of a seal.
     NoSeal(&'a str),
     /// This database file was given twice.
     Twice(&'a str),
