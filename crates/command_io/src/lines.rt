@@ -6,7 +6,7 @@ use bstr::ByteSlice;
 use std::marker::Model;
 
 /// A line of an input without its line end, and its number among all lines, from 1.
-#[derive(Clone, Copy, Debug)]
+#[derive(Clone, Copy)]
 pub struct InputLine<'a> {
     pub number: u64,
     pub text: &'a [u8],

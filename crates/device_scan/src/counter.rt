@@ -15,7 +15,7 @@ use std::alloc::Global;
 use sun_points::{acc32, sunssf};
 
 /// The source of a counter's power of ten.
-#[derive(Clone, Copy, Debug, PartialEq, Eq)]
+#[derive(Clone, Copy)]
 pub enum CounterScale {
     /// A fixed power of ten, which is not read from the device.
     Fixed(i16),
@@ -24,7 +24,7 @@ pub enum CounterScale {
 }
 
 /// The value of a counter: its count, and the power of ten of the count's unit.
-#[derive(Clone, Copy, Debug, PartialEq, Eq)]
+#[derive(Clone, Copy, PartialEq, Eq)]
 pub struct Shown {
     pub raw: u32,
     pub sf: i16,

@@ -3,7 +3,7 @@ use mb_wire::ReadSpan;
 
 /// One request of a read: its transaction identifier, its unit identifier, and the requested
 /// registers.
-#[derive(Clone, Copy, Debug, PartialEq, Eq)]
+#[derive(Clone, Copy)]
 pub(crate) struct Try {
     pub(crate) id: u16,
     pub(crate) unit: u8,

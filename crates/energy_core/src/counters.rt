@@ -46,7 +46,7 @@ impl Counter for Acc32 {
 }
 
 /// A counter whose range may be less than 2^32 counts. Many meters roll over at a power of ten.
-#[derive(Clone, Copy, Debug, PartialEq, Eq)]
+#[derive(Clone, Copy)]
 pub struct Ranged {
     range: u64,
     ghost at_least: { MIN_RANGE ≤ range },

@@ -14,7 +14,7 @@ use crate::measures::{is_long_span, unit};
 
 /// The limits by which a reading or an entry is judged: the ceiling (the greatest power, in W), and
 /// the total energy so far, in mWh.
-#[derive(Clone, Copy, Debug, PartialEq, Eq)]
+#[derive(Clone, Copy)]
 pub struct Terms {
     pub ceiling: u64,
     pub total: u64,
@@ -69,7 +69,7 @@ impl Cause {
 }
 
 /// The verdict on a reading.
-#[derive(Clone, Copy, Debug, PartialEq, Eq)]
+#[derive(Clone, Copy, PartialEq, Eq)]
 pub enum Verdict {
     /// The reading becomes an entry. `rolls` is how often the counter rolled over since the last
     /// entry, 0 or 1. `step` is the energy since the last entry, in mWh.

@@ -36,7 +36,7 @@ pub enum Format {
 }
 
 /// The form of a report, which is its range of days, its period, its unit and its format.
-#[derive(Clone, Copy, Debug, PartialEq, Eq)]
+#[derive(Clone, Copy)]
 pub struct ReportForm {
     pub range: DayRange,
     pub period: Period,
@@ -45,7 +45,7 @@ pub struct ReportForm {
 }
 
 /// The form of a statement, which is its range of days, its unit and its format.
-#[derive(Clone, Copy, Debug, PartialEq, Eq)]
+#[derive(Clone, Copy)]
 pub struct StatementForm {
     pub range: DayRange,
     pub unit: EnergyUnit,

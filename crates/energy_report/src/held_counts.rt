@@ -8,7 +8,7 @@ use crate::tallies::{both, tallied};
 use energy_core::Cause;
 
 /// The number of rejected readings for each cause. Each count saturates at 2^64 - 1.
-#[derive(Clone, Copy, Debug, PartialEq, Eq)]
+#[derive(Clone, Copy)]
 pub struct RejectedCounts {
     /// The counter showed 0, which SunSpec defines as an accumulator that does not count.
     pub not_accumulated: u64,
@@ -29,7 +29,7 @@ pub struct RejectedCounts {
 }
 
 /// The number of rejected readings for one cause.
-#[derive(Clone, Copy, Debug, PartialEq, Eq)]
+#[derive(Clone, Copy)]
 pub struct HeldCount {
     pub cause: Cause,
     pub count: u64,

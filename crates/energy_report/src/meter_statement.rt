@@ -9,7 +9,7 @@ use office_events::{Installation, Name};
 
 /// The statement of a meter for a range of days. It has the tally of the meter's entries, the
 /// energy in mWh, and the rejected readings by cause.
-#[derive(Clone, Copy, Debug, PartialEq, Eq)]
+#[derive(Clone, Copy)]
 pub struct MeterStatement {
     pub meter: Name,
     pub entries: EntryTally,

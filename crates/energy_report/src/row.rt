@@ -8,7 +8,7 @@ use interval_core::{Day, DayTotal};
 ///
 /// `first` is the first of these days, `count` the number of their intervals, and `mwh` their
 /// energy in mWh.
-#[derive(Clone, Copy, Debug, PartialEq, Eq)]
+#[derive(Clone, Copy)]
 pub struct Row {
     pub first: Day,
     pub count: u64,

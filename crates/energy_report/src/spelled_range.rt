@@ -6,7 +6,7 @@ use crate::spelled_day::read_day;
 use interval_core::{Day, DayRange};
 
 /// The reason why two arguments do not select a range of days.
-#[derive(Clone, Copy, Debug, PartialEq, Eq)]
+#[derive(Clone, Copy)]
 pub enum RangeFault {
     /// The argument for the first day of the range is not a day.
     From,

@@ -15,7 +15,7 @@ use office_books::MeterEntry;
 /// entry, and the number of corrections.
 ///
 /// Each number of corrections saturates at 2^64 - 1.
-#[derive(Clone, Copy, Debug, PartialEq, Eq)]
+#[derive(Clone, Copy)]
 pub struct EntryTally {
     /// The counter's state after the first and after the last valid entry in the range. `None`
     /// without a valid entry.

@@ -10,7 +10,7 @@ use std::io::{ErrorKind, Write};
 pub(crate) const MOST_CALLS: u32 = 16;
 
 /// The outcome of a read from a socket or a write to it.
-#[derive(Clone, Copy, Debug, PartialEq, Eq)]
+#[derive(Clone, Copy)]
 pub enum Went {
     /// Some bytes were read or written, or the call was interrupted.
     On,

@@ -14,7 +14,7 @@ use std::fmt;
 use std::fmt::{Display, Formatter};
 
 /// The reason why a timestamp has no civil day.
-#[derive(Clone, Copy, Debug, PartialEq, Eq)]
+#[derive(Clone, Copy, Debug)]
 pub enum DayFault {
     /// The calendar has no such instant. A timestamp up to `LAST_MOMENT` never causes this fault.
     Zone,

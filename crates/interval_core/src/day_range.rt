@@ -9,7 +9,7 @@ use jiff::civil::Date;
 
 /// A range of civil days that begins with `from` and ends before `till`. `None` as a bound means no
 /// bound on that side.
-#[derive(Clone, Copy, Debug, PartialEq, Eq)]
+#[derive(Clone, Copy)]
 pub struct DayRange {
     pub from: Option<Date>,
     pub till: Option<Date>,

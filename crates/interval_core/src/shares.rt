@@ -18,7 +18,7 @@ pub struct Share {
 
 /// An iterator over the shares of a step, one for each interval that the step touches, in order.
 /// The iterator allocates nothing.
-#[derive(Debug, Drop)]
+#[derive(Drop)]
 pub struct Shares {
     spread: Spread,
     interval: u64,

@@ -8,7 +8,7 @@ use energy_core::{MAX_TOTAL, Step};
 
 /// The energy of a step by seconds. Every second has `each` mWh, and `left_over` mWh are spread
 /// over all seconds.
-#[derive(Clone, Copy, Debug)]
+#[derive(Clone, Copy)]
 pub struct Spread {
     pub step: Step,
     seconds: u64,

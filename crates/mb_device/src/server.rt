@@ -47,7 +47,7 @@ impl ServeFault {
 }
 
 /// The result of a successful turn of a server.
-#[derive(Clone, Copy, Debug, PartialEq, Eq)]
+#[derive(Clone, Copy, PartialEq, Eq)]
 pub struct Turned {
     /// The number of frames executed, including frames whose response an injected fault dropped,
     /// delayed or cut off.

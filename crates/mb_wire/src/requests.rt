@@ -14,7 +14,7 @@ use crate::bytes::{append, append_coils, append_words, head};
 use crate::limits::MAX_PDU;
 
 /// A request to a device (Modbus Application Protocol V1.1b3, section 6). Addresses count from 0.
-#[derive(Clone, Copy, Debug)]
+#[derive(Clone, Copy)]
 pub enum Request<'a> {
     /// Function 1: reads coils.
     ReadCoils {
@@ -62,7 +62,7 @@ pub enum Request<'a> {
 
 /// A reason why a PDU is not a valid request. If several faults apply, the fault with the lowest
 /// number is reported.
-#[derive(Clone, Copy, Debug, PartialEq, Eq)]
+#[derive(Clone, Copy, Debug)]
 pub enum RequestFault {
     /// The first byte is none of the eight function codes.
     UnknownFunction,
@@ -77,7 +77,7 @@ pub enum RequestFault {
 }
 
 // The kind of content after the function code of a successful response.
-#[derive(Clone, Copy, Debug, PartialEq, Eq)]
+#[derive(Clone, Copy)]
 pub(crate) enum Wanted {
     // A byte count and this number of coils.
     Coils(u16),

@@ -12,7 +12,7 @@ use meter_journal::{EntryKind, Installed};
 
 /// The state of a check after an entry row: its sequence number, the last valid entry, the energy
 /// in mWh, whether the meter was closed, and whether the row is valid.
-#[derive(Clone, Copy, Debug, PartialEq, Eq)]
+#[derive(Clone, Copy, PartialEq, Eq)]
 pub struct Check {
     pub place: u64,
     pub last: Last,

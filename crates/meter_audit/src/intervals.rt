@@ -7,7 +7,7 @@ use interval_core::Share;
 
 /// The difference between an interval row (the energy of a quarter hour) in a table and the row
 /// computed from the meter's entries. Energies are in mWh.
-#[derive(Clone, Copy, Debug, PartialEq, Eq)]
+#[derive(Clone, Copy, PartialEq, Eq)]
 pub enum IntervalFault {
     /// The table lacks an interval row (the energy of a quarter hour) that was computed from the
     /// entries.
@@ -22,7 +22,7 @@ pub enum IntervalFault {
 /// The first difference between computed and stored interval rows, after `same` equal rows.
 /// `wanted_done` and `found_done` count the computed and the stored rows up to and including the
 /// difference.
-#[derive(Clone, Copy, Debug, PartialEq, Eq)]
+#[derive(Clone, Copy, PartialEq, Eq)]
 pub struct IntervalDifference {
     pub same: usize,
     pub fault: IntervalFault,

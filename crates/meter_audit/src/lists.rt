@@ -11,7 +11,7 @@ use crate::rows::TableRow;
 use meter_journal::Installed;
 
 /// The index of the first row that may not follow the rows before it, and the reason.
-#[derive(Clone, Copy, Debug, PartialEq, Eq)]
+#[derive(Clone, Copy, PartialEq, Eq)]
 pub struct RefusedRow {
     pub index: usize,
     pub fault: RowFault,

@@ -17,7 +17,7 @@ use std::alloc::{AllocError, Global};
 /// The state of the check after an entry row, and the pending interval rows. These rows were
 /// computed from the entries and have not been compared with the table yet. The next entry may add
 /// energy only to the last pending row.
-#[derive(Debug, Drop)]
+#[derive(Drop)]
 pub struct Progress {
     pub check: Check,
     pub wanted: Vec<Share>,

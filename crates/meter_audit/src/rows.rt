@@ -6,7 +6,7 @@ use energy_core::Entry;
 use meter_journal::EntryKind;
 
 /// The kind of an entry, as the table of entries states it.
-#[derive(Clone, Copy, Debug, PartialEq, Eq)]
+#[derive(Clone, Copy)]
 pub enum RowKind {
     /// The opening of the meter: its first count, recorded when the meter was installed.
     Opening,
@@ -24,7 +24,7 @@ pub enum RowKind {
 
 /// A row of the table of entries, without the column of its meter. `moment` is in seconds since
 /// 1970-01-01 UTC, and `sf` is the scale factor after the entry.
-#[derive(Clone, Copy, Debug, PartialEq, Eq)]
+#[derive(Clone, Copy)]
 pub struct TableRow {
     pub place: u64,
     pub kind: RowKind,

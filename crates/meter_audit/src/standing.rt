@@ -16,7 +16,7 @@ pub struct Standing {
 
 /// The computed values that differ from those in a meter's row of `installations`. A field is
 /// `None` if the row has the computed value.
-#[derive(Clone, Copy, Debug, PartialEq, Eq)]
+#[derive(Clone, Copy)]
 pub struct StandingFaults {
     pub last: Option<Last>,
     pub total: Option<u64>,

@@ -16,7 +16,7 @@ use interval_core::{Share, shares_add_up};
 use std::alloc::{AllocError, Global};
 
 /// The state of a meter's counter after the last valid entry, and the meter's energy so far in mWh.
-#[derive(Clone, Copy, Debug, PartialEq, Eq)]
+#[derive(Clone, Copy)]
 pub struct Tally {
     pub last: Last,
     pub total: u64,

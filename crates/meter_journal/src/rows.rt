@@ -155,7 +155,7 @@ pub fn strike(opening: &Last, rows: &mut [EntryRow], place: u64)
 }
 
 /// A row of a list, the row's index, and the next valid row after it.
-#[derive(Clone, Copy, Debug, PartialEq, Eq)]
+#[derive(Clone, Copy)]
 pub struct FoundRow {
     pub index: usize,
     pub row: EntryRow,

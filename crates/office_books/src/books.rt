@@ -22,7 +22,7 @@ pub trait RowSink<T> {
 }
 
 /// The result of comparing a request with the stored request of the same idempotency key.
-#[derive(Clone, Copy, Debug, PartialEq, Eq)]
+#[derive(Clone, Copy, PartialEq, Eq)]
 pub enum Repeat {
     /// The stored request has the same bytes, so the request is a retry. The office has executed a
     /// command of this kind for it.

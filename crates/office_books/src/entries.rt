@@ -13,7 +13,7 @@ use std::alloc::{AllocError, Global};
 
 /// An entry of a meter. A later void (cancellation) can only mark the entry as invalid, or change
 /// its number of rollovers if the entry before it is voided.
-#[derive(Clone, Copy, Debug, PartialEq, Eq)]
+#[derive(Clone, Copy, PartialEq, Eq)]
 pub enum MeterEntry {
     /// The opening: the state of the counter when the meter was installed. The opening has sequence
     /// number 1, and cannot be voided.

@@ -6,7 +6,7 @@ use crate::faults::BooksFault;
 
 /// The number of failures of a store, and its last failure. The last failure may be a lack of
 /// memory, which is not counted.
-#[derive(Clone, Copy, Debug, PartialEq, Eq)]
+#[derive(Clone, Copy, PartialEq, Eq)]
 pub struct Failures {
     /// The number of failures of the store, at most 2^64 - 1.
     pub count: u64,

@@ -11,7 +11,7 @@ use office_events::{Device, Installation, Refusal, Register};
 use std::alloc::Global;
 
 /// An accounting register, with the latest meter that was installed at it, open or closed, if any.
-#[derive(Clone, Copy, Debug, PartialEq, Eq)]
+#[derive(Clone, Copy)]
 pub struct SiteRow {
     pub register: Register,
     pub meter: Option<Installation>,

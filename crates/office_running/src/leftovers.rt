@@ -12,7 +12,7 @@ use socket_link::Clock;
 use std::io::Write;
 
 /// The timestamp of a store's latest record, and the number of the store's pending polls.
-#[derive(Clone, Copy, Debug, PartialEq, Eq)]
+#[derive(Clone, Copy)]
 pub(crate) struct Left {
     /// The timestamp of the latest record, in seconds since 1970-01-01 UTC.
     pub(crate) latest: u64,

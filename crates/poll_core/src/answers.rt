@@ -3,7 +3,7 @@ use crate::outcome::Outcome;
 use mb_wire::Reply;
 
 /// A completed poll, with the poll number that the caller passed to `start`.
-#[derive(Clone, Copy, Debug)]
+#[derive(Clone, Copy)]
 pub struct Settled<'a> {
     pub poll: u64,
     pub outcome: Outcome,

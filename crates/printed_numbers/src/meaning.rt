@@ -9,7 +9,7 @@ use crate::tables::{
 
 /// The meaning of a printed number, its usual cause, and its remedy. Each text is a sentence that
 /// begins with a small letter and has no full stop.
-#[derive(Clone, Copy, Debug, PartialEq, Eq)]
+#[derive(Clone, Copy)]
 pub struct Meaning {
     pub kind: Kind,
     pub number: u32,

@@ -19,7 +19,7 @@ use std::alloc::{AllocError, Global};
 use web_page::{PagePart, part_of};
 
 /// A route whose response needs no query of the store.
-#[derive(Clone, Copy, Debug, PartialEq, Eq)]
+#[derive(Clone, Copy)]
 pub enum StatusRoute {
     /// The counts, the device states, and what the devices lack, as JSON (`/status`).
     Status,
@@ -31,7 +31,7 @@ pub enum StatusRoute {
 }
 
 /// A route that `sunreg run` adds to the routes of the crate `office_http`.
-#[derive(Clone, Copy, Debug, PartialEq, Eq)]
+#[derive(Clone, Copy)]
 pub enum RunRoute {
     /// A route whose response needs no query of the store.
     Own(StatusRoute),

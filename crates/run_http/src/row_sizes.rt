@@ -5,7 +5,7 @@ use office_books::RowSink;
 use std::alloc::{AllocError, Global};
 
 /// The number of some interval rows, and the size of their lines in bytes.
-#[derive(Clone, Copy, Debug, PartialEq, Eq)]
+#[derive(Clone, Copy)]
 pub struct Sizes {
     pub bytes: usize,
     pub count: usize,

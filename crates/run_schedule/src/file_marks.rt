@@ -5,7 +5,7 @@ ghost use Rattle.run_schedule.specs.FileMarks.{IsStill};
 
 /// The identity and size of a file, as the operating system reports them. The number of hard links
 /// is left out, because another link does not change the file.
-#[derive(Clone, Copy, Debug, PartialEq, Eq)]
+#[derive(Clone, Copy)]
 pub struct FileMark {
     pub device: u64,
     pub inode: u64,
@@ -14,7 +14,7 @@ pub struct FileMark {
 }
 
 /// The difference between the open file and the file that its path leads to now.
-#[derive(Clone, Copy, Debug, PartialEq, Eq)]
+#[derive(Clone, Copy)]
 pub enum FileLoss {
     /// The path leads to no file.
     Missing,

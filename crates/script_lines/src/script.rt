@@ -6,7 +6,7 @@ use office_events::{Event, Name, Piece};
 
 /// The script line that starts a Modbus read. Its numbers are as written in the line, and may be
 /// out of range.
-#[derive(Clone, Copy, Debug, PartialEq, Eq)]
+#[derive(Clone, Copy)]
 pub struct GivenStart {
     /// The name of the device, or `None` if the word is not a valid name.
     pub device: Option<Name>,

@@ -8,7 +8,7 @@ use sqlite_schema::schema::{Schema, Table};
 
 /// The layout of a database file: which tables it has. Version 1 lacks `ranges` and `voids`,
 /// version 2 lacks `voids`, and version 3 has all tables.
-#[derive(Clone, Copy, Debug, PartialEq, Eq)]
+#[derive(Clone, Copy)]
 pub enum Layout {
     First,
     Second,

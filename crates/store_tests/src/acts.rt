@@ -12,7 +12,7 @@ use std::alloc::Global;
 use std::process::Abort;
 
 /// A task that a test runs over a database.
-#[derive(Clone, Copy, Debug)]
+#[derive(Clone, Copy)]
 pub(crate) enum Act {
     /// Creates a file of version 1 for a test.
     Prepare,

@@ -10,7 +10,7 @@ use sun_points::{Point, PointType, Text, TextLength, read_point};
 
 /// The fields of a device's first common model. A text that is absent, outside the model or unread
 /// is empty.
-#[derive(Clone, Copy, Debug, PartialEq, Eq)]
+#[derive(Clone, Copy)]
 pub struct Common<'a> {
     pub manufacturer: Text<'a>,
     pub model: Text<'a>,

@@ -18,7 +18,7 @@ pub enum PointScale {
 }
 
 /// A point of a SunSpec model in a memory image. A text value borrows the image.
-#[derive(Clone, Copy, Debug)]
+#[derive(Clone, Copy)]
 pub struct NamedPoint<'a> {
     pub(crate) name: &'a str,
     pub(crate) address: u16,

@@ -9,7 +9,7 @@ use crate::point_type::PointType;
 use crate::text::Text;
 
 /// The value of a SunSpec point. A text borrows the registers.
-#[derive(Clone, Copy, Debug, PartialEq, Eq)]
+#[derive(Clone, Copy, PartialEq, Eq)]
 pub enum Point<'a> {
     /// The registers have the type's value for "not implemented".
     Absent,

@@ -17,7 +17,7 @@ pub enum Table {
 }
 
 /// How a poll in the tables differs from the polls that the program records.
-#[derive(Clone, Copy, Debug, PartialEq, Eq)]
+#[derive(Clone, Copy)]
 pub enum PollFault {
     /// The row of the poll has a value out of its range.
     OutOfRange,
@@ -32,7 +32,7 @@ pub enum PollFault {
 
 /// A difference that an audit reports. A meter's rows differ from those of a lawful journal (a
 /// history that the rules accept), or a poll differs from the polls that the program records.
-#[derive(Clone, Copy, Debug, PartialEq, Eq)]
+#[derive(Clone, Copy)]
 pub enum Difference {
     /// A row of the meter in the given table has a value out of its range.
     OutOfRange(Table),
@@ -69,7 +69,7 @@ pub enum Difference {
 pub const MOST: usize = 100;
 
 /// The first differences of an audit, and the number of further differences.
-#[derive(Debug, Drop)]
+#[derive(Drop)]
 pub struct Differences {
     pub first: Vec<Difference>,
     pub more: u64,

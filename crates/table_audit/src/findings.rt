@@ -9,7 +9,7 @@ use crate::rows::MeterRows;
 use std::alloc::{AllocError, Global};
 
 /// A difference that an audit found, with the name of its meter.
-#[derive(Debug, Drop)]
+#[derive(Drop)]
 pub struct Finding {
     /// The name of the meter. It is None if the finding is about a poll, or about a row of
     /// `installations` without a name.
@@ -27,7 +27,7 @@ pub struct Counts {
 }
 
 /// The first findings of an audit, the number of further findings, and the numbers of rows read.
-#[derive(Debug, Drop)]
+#[derive(Drop)]
 pub struct Findings {
     pub first: Vec<Finding>,
     pub more: u64,

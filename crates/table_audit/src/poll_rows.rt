@@ -23,7 +23,7 @@ pub struct PollRow {
 }
 
 /// The poll number and the timestamp of an outcome, which ends a poll.
-#[derive(Clone, Copy, Debug, PartialEq, Eq)]
+#[derive(Clone, Copy)]
 pub struct OutcomeRow {
     /// The number of the poll that ended with this outcome.
     pub poll: u64,

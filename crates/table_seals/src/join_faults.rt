@@ -1,7 +1,7 @@
 //! The reasons why a meter of an earlier database file does not continue in the next file.
 
 /// A reason why a meter does not continue the meter of the same name in the earlier file.
-#[derive(Clone, Copy, Debug, PartialEq, Eq)]
+#[derive(Clone, Copy)]
 pub enum JoinFault {
     /// The meter was already closed in the earlier file.
     Closed,

@@ -3,7 +3,7 @@
 
 /// The seal of a meter: its name, accounting register, range and ceiling, its entries' number and
 /// digest, and the indices of its voided entries.
-#[derive(Debug, Drop)]
+#[derive(Drop)]
 pub struct MeterSeal {
     pub meter: String,
     pub register: String,
@@ -16,7 +16,7 @@ pub struct MeterSeal {
 
 /// The seal of the polls in a file. It has the number of polls, the digest of the polls and their
 /// outcomes, and the numbers of the polls without an outcome.
-#[derive(Debug, Drop)]
+#[derive(Drop)]
 pub struct PollSeal {
     pub count: u64,
     pub digest: [u8; 32],
@@ -24,7 +24,7 @@ pub struct PollSeal {
 }
 
 /// The seal of a file: the seals of its meters in order of index, and the seal of its polls.
-#[derive(Debug, Drop)]
+#[derive(Drop)]
 pub struct Seal {
     pub meters: Vec<MeterSeal>,
     pub polls: PollSeal,

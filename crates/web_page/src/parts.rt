@@ -5,7 +5,7 @@ ghost use Rattle.web_page.specs.Parts.{body_of, content_type_of, part_of};
 use crate::files::{ICON, PAGE, SCRIPT, STYLE};
 
 /// A part of the web page. The bytes of each part are those of a file in `web/`.
-#[derive(Clone, Copy, Debug, PartialEq, Eq)]
+#[derive(Clone, Copy)]
 pub enum PagePart {
     /// The web page itself, in HTML.
     Page,

@@ -2,7 +2,7 @@
 use office_events::{Name, Refusal};
 
 /// The reason why an office could not continue in a new database file.
-#[derive(Clone, Copy, Debug, PartialEq, Eq)]
+#[derive(Clone, Copy)]
 pub enum CarryFault {
     /// The old office's store failed, or memory ran out. The refusal says which.
     Old(Refusal),

@@ -19,7 +19,7 @@ use office_events::{Installation, Name};
 use std::alloc::Global;
 
 /// The reason why a file does not continue the earlier files of its office.
-#[derive(Clone, Copy, Debug, PartialEq, Eq)]
+#[derive(Clone, Copy)]
 pub enum Unjoined {
     /// The file does not record the accounting register, though an earlier file does.
     NotRecorded,

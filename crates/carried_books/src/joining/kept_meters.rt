@@ -18,7 +18,7 @@ use office_core::span_around;
 use office_events::{Installation, Name};
 
 /// A meter over several files: its state, and its statement on a range of days.
-#[derive(Clone, Copy, Debug, PartialEq, Eq)]
+#[derive(Clone, Copy)]
 pub struct KeptMeter {
     pub stands: Installation,
     pub reported: MeterStatement,

@@ -12,7 +12,7 @@ use std::alloc::AllocError;
 
 /// Two meters at a register, an earlier one and a later one. The later meter neither continues the
 /// earlier meter nor begins after the earlier meter was closed.
-#[derive(Clone, Copy, Debug, PartialEq, Eq)]
+#[derive(Clone, Copy)]
 pub struct Apart {
     pub stands: Installation,
     pub begins: Installation,

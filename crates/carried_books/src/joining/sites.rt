@@ -8,7 +8,7 @@ use office_events::{Installation, Name};
 
 /// A meter over all files. `earlier` is its energy in the earlier files, in mWh, if these files
 /// have the meter.
-#[derive(Clone, Copy, Debug, PartialEq, Eq)]
+#[derive(Clone, Copy)]
 pub struct LatestMeter {
     pub meter: Installation,
     pub earlier: Option<u64>,

@@ -6,7 +6,7 @@ use std::fmt;
 use std::fmt::{Display, Formatter};
 
 /// A reason why a part of a device list is invalid.
-#[derive(Clone, Copy, Debug, PartialEq, Eq, Drop)]
+#[derive(Clone, Copy, Debug, Drop)]
 pub enum DeviceFault {
     /// The part is not `NAME=HOST:PORT`, or its port is out of range.
     Malformed,
@@ -17,7 +17,7 @@ pub enum DeviceFault {
 }
 
 /// A reason why a text is no valid list of devices.
-#[derive(Clone, Copy, Debug, PartialEq, Eq, Drop)]
+#[derive(Clone, Copy, Debug, Drop)]
 pub enum ListFault<'a> {
     /// The part `part` of the list is not a valid device.
     Part { part: &'a str, fault: DeviceFault },

@@ -6,7 +6,7 @@ ghost use Rattle.http_request.specs.Head.Headers.{same_name, values_of, Gives};
 use httparse::spans::HeaderSpan;
 
 /// How often a request has a header: never, once with its value, or more than once.
-#[derive(Clone, Copy, Debug, PartialEq, Eq)]
+#[derive(Clone, Copy)]
 pub enum Given<'b> {
     Never,
     Once(&'b [u8]),

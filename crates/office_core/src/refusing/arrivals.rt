@@ -10,7 +10,7 @@ use poll_core::LAST_MOMENT;
 /// `moment` is in seconds since 1970-01-01 UTC. `is_back` is true if `moment` is before the latest
 /// accepted event. `is_beyond` is true if `moment` exceeds the limit, or if the idempotency key is
 /// invalid.
-#[derive(Clone, Copy, Debug, PartialEq, Eq)]
+#[derive(Clone, Copy)]
 pub struct Arrival {
     pub moment: u64,
     pub is_back: bool,

@@ -8,7 +8,7 @@ use office_events::{Manual, Rescale};
 
 /// An entry with the numbers of a command. The numbers are unchecked, so the counter may be unable
 /// to show them.
-#[derive(Clone, Copy, Debug, PartialEq, Eq)]
+#[derive(Clone, Copy)]
 pub enum GivenEntry {
     /// An entry of the kind `Step`. The counter advanced to `raw`, with `rolls` rollovers.
     Step {

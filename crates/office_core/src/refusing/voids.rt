@@ -16,7 +16,7 @@ use office_books::{Books, BooksFault, verdict_at};
 use office_events::{EntryContext, Installation, Name, Refusal, VoidEntry};
 
 /// The opening or the entry that a meter's journal has at a sequence number, if any.
-#[derive(Clone, Copy, Debug, PartialEq, Eq)]
+#[derive(Clone, Copy)]
 enum Spot {
     Nothing,
     /// The opening of the meter, which has sequence number 1.

@@ -23,7 +23,7 @@ use std::io::{self, Write};
 use sun_points::Sink;
 
 /// The result of looking up a request's idempotency key (caller and number) in the store.
-#[derive(Clone, Copy, Debug, PartialEq, Eq)]
+#[derive(Clone, Copy)]
 pub(crate) enum Known {
     /// The store has no request with this key.
     New,

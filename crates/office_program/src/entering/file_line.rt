@@ -8,7 +8,7 @@ use script_lines::{Words, end_of_words, next_name, next_number};
 
 /// An input line of the form `NUMBER list DEVICE @NAME`: the point list of a device is in the named
 /// file.
-#[derive(Clone, Copy, Debug)]
+#[derive(Clone, Copy)]
 pub(crate) struct FileLine<'a> {
     pub(crate) number: u64,
     /// The device's name, or `None` if the word in the line is no valid name.

@@ -8,7 +8,7 @@ use std::alloc::{AllocError, Global};
 pub const MOST_FILE: usize = 65_536;
 
 /// The reading of a meter's counter: the count, and the scale factor of its unit as a power of ten.
-#[derive(Clone, Copy, Debug, PartialEq, Eq)]
+#[derive(Clone, Copy, PartialEq, Eq)]
 pub struct Shown {
     pub raw: u32,
     pub sf: i16,

@@ -6,7 +6,7 @@ use command_io::ExitStatus;
 
 /// The progress of entering an input: the latest timestamp of its lines, and whether any line was
 /// refused.
-#[derive(Clone, Copy, Debug, PartialEq, Eq)]
+#[derive(Clone, Copy)]
 pub(crate) struct Progress {
     /// The timestamp of the latest input line that needed a timestamp, in seconds since 1970-01-01
     /// UTC.

@@ -19,7 +19,7 @@ use store_tables::{EntryKind, EntryRow, GREATEST_PLACE, LATEST_MOMENT, LastRow, 
 
 /// The number of rollovers of a counter between the meter entry at index `place` and the entry
 /// before it.
-#[derive(Clone, Copy, Debug, PartialEq, Eq)]
+#[derive(Clone, Copy)]
 pub struct Rollover {
     pub place: u64,
     pub rolls: u8,
@@ -27,7 +27,7 @@ pub struct Rollover {
 
 /// The changes at the next valid entry after a voided entry. The next entry now follows the entry
 /// before the voided entry: it gets new rollovers, and the energy `put` replaces the energy `out`.
-#[derive(Clone, Copy, Debug, PartialEq, Eq)]
+#[derive(Clone, Copy)]
 pub struct Rejoined {
     pub rollover: Rollover,
     pub out: Step,
@@ -37,7 +37,7 @@ pub struct Rejoined {
 /// The changes that voiding an entry makes to its meter. The energy `out`, up to the voided entry,
 /// is removed. `next` has the changes at the next valid entry. The meter's last entry becomes
 /// `last`, and rows of `intervals` that start at `from` or later are deleted.
-#[derive(Clone, Copy, Debug, PartialEq, Eq)]
+#[derive(Clone, Copy)]
 pub struct Correction {
     pub out: Step,
     pub next: Option<Rejoined>,

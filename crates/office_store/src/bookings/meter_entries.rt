@@ -27,7 +27,7 @@ use store_tables::{
 
 /// The last entry of a meter and the meter's total energy, after one more entry was added. `step`
 /// is the energy since the previous entry.
-#[derive(Clone, Copy, Debug, PartialEq, Eq)]
+#[derive(Clone, Copy)]
 pub struct Advance {
     pub last: LastRow,
     pub step: Step,

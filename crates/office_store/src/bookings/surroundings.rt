@@ -15,7 +15,7 @@ use store_facts::{entry_at, place_after, place_before};
 use store_tables::{EntryRow, RowFault};
 
 /// An entry of a meter and the nearest entries that are not voided. `before` may be the opening.
-#[derive(Clone, Copy, Debug, PartialEq, Eq)]
+#[derive(Clone, Copy)]
 pub struct Neighbours {
     pub entry: EntryRow,
     pub before: EntryRow,
@@ -24,7 +24,7 @@ pub struct Neighbours {
 
 /// An entry of a meter and its neighbours, with the meter's state and the time of the meter's
 /// opening (the first entry).
-#[derive(Clone, Copy, Debug, PartialEq, Eq)]
+#[derive(Clone, Copy)]
 pub struct Surroundings {
     pub standing: Standing,
     pub opened: u64,

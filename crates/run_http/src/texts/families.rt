@@ -6,7 +6,7 @@ use run_status::{append_bytes, write_word};
 use std::alloc::AllocError;
 
 /// The type of a Prometheus metric.
-#[derive(Clone, Copy, Debug, PartialEq, Eq)]
+#[derive(Clone, Copy)]
 pub(crate) enum MetricKind {
     /// A metric whose values only increase while the program runs.
     Counter,

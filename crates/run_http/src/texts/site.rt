@@ -10,7 +10,7 @@ use std::alloc::AllocError;
 
 /// An accounting register with its latest meter. `earlier` is the part of the meter's energy in mWh
 /// that is in earlier database files of the store, or `None` if they lack the meter.
-#[derive(Clone, Copy, Debug, PartialEq, Eq)]
+#[derive(Clone, Copy)]
 pub struct SiteLine {
     pub row: SiteRow,
     pub earlier: Option<u64>,

@@ -3,7 +3,7 @@
 /// A clock's time that does not go back between successive runs of the polling loop in one process.
 /// No run of that loop begins before a timestamp of its previous run, even if the clock was set
 /// back in between.
-#[derive(Clone, Copy, Debug, PartialEq, Eq)]
+#[derive(Clone, Copy)]
 pub struct OnwardTime {
     /// The earliest time that the clock reports, in seconds.
     pub least: u64,

@@ -4,7 +4,7 @@ ghost use Rattle.run_schedule.specs.Timing.RunTimes.{time_by};
 
 /// The program's own time in milliseconds. It begins at a timestamp and advances with the monotonic
 /// clock, so setting the system's clock changes no timeout.
-#[derive(Clone, Copy, Debug, PartialEq, Eq)]
+#[derive(Clone, Copy)]
 pub struct RunTime {
     /// The time at the start, in milliseconds since 1970-01-01 UTC.
     pub base: u64,

@@ -6,7 +6,7 @@ ghost use Rattle.run_schedule.specs.Timing.SteadyClocks.{ahead_by, read_by, cloc
 const MOST_AHEAD: u64 = 60;
 
 /// A timestamp that never goes back, and what to report about the clock that it comes from.
-#[derive(Clone, Copy, Debug, PartialEq, Eq)]
+#[derive(Clone, Copy)]
 pub struct ClockReading {
     /// The timestamp of an event that arrives now: the clock's time or the latest timestamp,
     /// whichever is later.
@@ -30,7 +30,7 @@ fn ahead_from(latest: u64, now: u64) -> Option<u64>
 }
 
 /// The state of a clock that may be set back.
-#[derive(Clone, Copy, Debug, PartialEq, Eq)]
+#[derive(Clone, Copy)]
 pub struct SteadyClock {
     /// The latest timestamp, in seconds since 1970-01-01 UTC.
     pub latest: u64,

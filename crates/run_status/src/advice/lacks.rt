@@ -14,7 +14,7 @@ use std::alloc::AllocError;
 
 /// Something that a device lacks in the store. Without it, the program records no energy of the
 /// device, or of one accounting register (`NotInList`, `NoMeter`).
-#[derive(Clone, Copy, Debug, PartialEq, Eq)]
+#[derive(Clone, Copy)]
 pub enum Lack {
     /// The store has no device with the name on the command line.
     NoDevice,
@@ -30,7 +30,7 @@ pub enum Lack {
 }
 
 /// A device named on the command line, and one thing that the device lacks in the store.
-#[derive(Clone, Copy, Debug, PartialEq, Eq)]
+#[derive(Clone, Copy)]
 pub struct DeviceLack {
     pub device: Option<Name>,
     pub lack: Lack,

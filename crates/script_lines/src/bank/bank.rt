@@ -3,7 +3,7 @@
 use mb_device::{Kind, Trick};
 
 /// A range of the simulator's register map: `count` addresses of one kind, from `start` on.
-#[derive(Clone, Copy, Debug, PartialEq, Eq)]
+#[derive(Clone, Copy)]
 pub struct GivenArea {
     pub kind: Kind,
     pub start: u64,
@@ -11,7 +11,7 @@ pub struct GivenArea {
 }
 
 /// The value at a Modbus address of a simulated device.
-#[derive(Clone, Copy, Debug, PartialEq, Eq)]
+#[derive(Clone, Copy)]
 pub struct GivenCell {
     pub kind: Kind,
     pub address: u64,
@@ -19,7 +19,7 @@ pub struct GivenCell {
 }
 
 /// A line that sets up a simulated device.
-#[derive(Clone, Copy, Debug, PartialEq, Eq)]
+#[derive(Clone, Copy)]
 pub enum BankLine {
     Area(GivenArea),
     Set(GivenCell),

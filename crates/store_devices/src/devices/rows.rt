@@ -25,7 +25,7 @@ pub struct Device {
 }
 
 /// A SunSpec point that a device is polled for, without its name, its type and its scale.
-#[derive(Clone, Copy, Debug, PartialEq, Eq)]
+#[derive(Clone, Copy, PartialEq, Eq)]
 pub struct PointRow {
     /// The index of the point in its point list, from 1.
     pub place: u64,
@@ -37,7 +37,7 @@ pub struct PointRow {
 
 /// A point of a device's point list. The point's type and scale are texts, as in the CSV file of a
 /// point list.
-#[derive(Debug, Drop)]
+#[derive(Drop)]
 pub struct Point {
     pub name: String,
     pub kind: String,

@@ -32,7 +32,7 @@ pub struct Poll {
 }
 
 /// The outcome of a poll: how the poll ended.
-#[derive(Clone, Copy, Debug, PartialEq, Eq)]
+#[derive(Clone, Copy)]
 pub struct OutcomeRow {
     /// The number of the poll that ended.
     pub poll: u64,
@@ -42,7 +42,7 @@ pub struct OutcomeRow {
 }
 
 /// A rejected reading of a meter, without the name of the meter.
-#[derive(Clone, Copy, Debug, PartialEq, Eq)]
+#[derive(Clone, Copy)]
 pub struct RejectedRow {
     /// The index of the rejected reading, from 1.
     pub place: u64,
@@ -58,7 +58,7 @@ pub struct RejectedRow {
 }
 
 /// How a request compares with the request that is stored under its idempotency key.
-#[derive(Clone, Copy, Debug, PartialEq, Eq)]
+#[derive(Clone, Copy, PartialEq, Eq)]
 pub enum Repeat {
     /// The request has the bytes of the stored request, so it is a retry. The variant has the kind
     /// of the request's command.

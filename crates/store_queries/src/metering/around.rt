@@ -26,7 +26,7 @@ use store_tables::{EntryRow, GREATEST_PLACE, RowFault, check_open, entry_at};
 
 /// The indices of the nearest meter entries before and after an entry that are not voided, and
 /// whether the entry itself is not voided.
-#[derive(Clone, Copy, Debug, PartialEq, Eq)]
+#[derive(Clone, Copy)]
 pub(crate) struct Sides {
     pub before: u64,
     pub after: u64,
@@ -35,7 +35,7 @@ pub(crate) struct Sides {
 
 /// The row of a meter entry, and the rows of the nearest entries before and after it that are not
 /// voided. `before` may be the meter's first entry, made at its installation.
-#[derive(Clone, Copy, Debug, PartialEq, Eq)]
+#[derive(Clone, Copy)]
 pub(crate) struct Around {
     pub entry: EntryRow,
     pub before: EntryRow,

@@ -6,7 +6,7 @@ use std::alloc::Global;
 use std::process::Abort;
 
 /// The file during one of whose calls the machine crashes.
-#[derive(Clone, Copy, Debug)]
+#[derive(Clone, Copy)]
 pub(crate) enum Stopping {
     Log,
     Database,
@@ -14,7 +14,7 @@ pub(crate) enum Stopping {
 
 /// A crash after `calls` calls of one file. If `is_lost` is true, data that was not synced is then
 /// lost. Otherwise it is in the file.
-#[derive(Clone, Copy, Debug)]
+#[derive(Clone, Copy)]
 pub(crate) struct Stop {
     pub(crate) file: Stopping,
     pub(crate) calls: u64,

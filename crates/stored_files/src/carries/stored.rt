@@ -19,7 +19,7 @@ use sqlite::{Alter, Connection};
 use std::alloc::Global;
 
 /// A reason why a file rollover, which begins a new database, was not completed.
-#[derive(Clone, Copy, Debug, PartialEq, Eq)]
+#[derive(Clone, Copy)]
 pub enum CarryEnd {
     /// The store in the old database could not be opened.
     Unopened(OpenFault),

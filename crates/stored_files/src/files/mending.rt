@@ -7,7 +7,7 @@ use std::fs::OpenOptions;
 use std::io::{self, Write};
 
 /// The result of repairing the header of a write-ahead log.
-#[derive(Clone, Copy, Debug, PartialEq, Eq)]
+#[derive(Clone, Copy)]
 pub enum LogHeader {
     /// The header of the log was not damaged, or there is nothing to repair.
     Sound,

@@ -20,7 +20,7 @@ use sqlite::{Alter, Connection};
 use std::alloc::Global;
 
 /// A reason why a database file could not be added to a merged report.
-#[derive(Clone, Copy, Debug, PartialEq, Eq)]
+#[derive(Clone, Copy)]
 pub enum JoinFault {
     /// The store in the database could not be opened.
     Unopened(OpenFault),

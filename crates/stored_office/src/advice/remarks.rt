@@ -13,7 +13,7 @@ use script_lines::{Words, end_of_words, next_name, next_number};
 use std::alloc::AllocError;
 
 /// The content of a line that a round of polls printed and that needs an explanation.
-#[derive(Clone, Copy, Debug, PartialEq, Eq)]
+#[derive(Clone, Copy)]
 pub(crate) enum Remark {
     /// The line `refused N`: an event was refused for the reason with the number N.
     Refused(u32),

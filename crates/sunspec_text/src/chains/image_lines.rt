@@ -13,7 +13,7 @@ use std::alloc::{AllocError, Global};
 use sun_chain::{Image, ImageFault};
 
 /// The reason why lines `ADDRESS HEX` give no image of Modbus registers.
-#[derive(Clone, Copy, Debug, PartialEq, Eq)]
+#[derive(Clone, Copy)]
 pub(crate) enum LoadFault {
     /// The line with this number is malformed, or extends past address 65,535.
     BadLine(u64),

@@ -20,7 +20,7 @@ use std::io::Write;
 use sun_chain::{Chain, Image, walk};
 
 /// The form in which the result of a scan is printed.
-#[derive(Clone, Copy, Debug, PartialEq, Eq)]
+#[derive(Clone, Copy)]
 pub enum ScanForm<'a> {
     /// The chain of SunSpec models, in the format of `chain_text`.
     Chain,

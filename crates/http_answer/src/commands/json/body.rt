@@ -13,7 +13,7 @@ use std::fmt::{Display, Formatter};
 pub type Body = Value;
 
 /// The reason why a JSON body contains no valid command.
-#[derive(Clone, Copy, Debug, PartialEq, Eq)]
+#[derive(Clone, Copy, Debug)]
 pub enum BodyFault {
     /// The body is not JSON, or a required member is missing or has the wrong type.
     Malformed,

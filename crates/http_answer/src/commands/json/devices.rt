@@ -8,7 +8,7 @@ use crate::commands::json::body::{Body, BodyFault};
 use crate::commands::json::members::{has_member, natural, text, whole};
 
 /// The values in the JSON body that adds a device.
-#[derive(Clone, Copy, Debug, PartialEq, Eq)]
+#[derive(Clone, Copy)]
 pub struct DeviceBody<'b> {
     pub name: &'b str,
     pub unit: u64,
@@ -26,7 +26,7 @@ pub enum Scale {
 }
 
 /// The values in the JSON body that adds an accounting register.
-#[derive(Clone, Copy, Debug, PartialEq, Eq)]
+#[derive(Clone, Copy)]
 pub struct RegisterBody<'b> {
     pub name: &'b str,
     pub device: &'b str,

@@ -9,7 +9,7 @@ use crate::commands::json::body::{Body, BodyFault};
 use crate::commands::json::members::{natural, natural_or_none, optional, text, whole};
 
 /// The values in the JSON body that installs a meter, with the meter's first reading.
-#[derive(Clone, Copy, Debug, PartialEq, Eq)]
+#[derive(Clone, Copy)]
 pub struct InstallBody<'b> {
     pub meter: &'b str,
     pub raw: u64,
@@ -20,7 +20,7 @@ pub struct InstallBody<'b> {
 
 /// The values in the JSON body that exchanges a meter. They are the old meter's last reading, the
 /// rollovers of its counter since the reading before, and the new meter.
-#[derive(Clone, Copy, Debug, PartialEq, Eq)]
+#[derive(Clone, Copy)]
 pub struct ExchangeBody<'b> {
     pub last: u64,
     pub rolls: u64,
@@ -28,14 +28,14 @@ pub struct ExchangeBody<'b> {
 }
 
 /// The counter of a meter before and after a reset, in counter units.
-#[derive(Clone, Copy, Debug, PartialEq, Eq)]
+#[derive(Clone, Copy)]
 pub struct ResetBody {
     pub before: u64,
     pub after: u64,
 }
 
 /// The counter of a meter before and after a change of scale, and the new scale exponent.
-#[derive(Clone, Copy, Debug, PartialEq, Eq)]
+#[derive(Clone, Copy)]
 pub struct RescaleBody {
     pub before: u64,
     pub after: u64,

@@ -10,7 +10,7 @@ use crate::commands::json::members::{natural, natural_or_none, optional, whole};
 
 /// A reading that is entered by hand. Without a timestamp in the body, the reading gets the
 /// timestamp of the command.
-#[derive(Clone, Copy, Debug, PartialEq, Eq)]
+#[derive(Clone, Copy)]
 pub struct ManualBody {
     pub raw: u64,
     pub rolls: u64,
@@ -19,14 +19,14 @@ pub struct ManualBody {
 
 /// The last reading of a meter that is closed, and the rollovers of its counter since the reading
 /// before.
-#[derive(Clone, Copy, Debug, PartialEq, Eq)]
+#[derive(Clone, Copy)]
 pub struct CloseBody {
     pub raw: u64,
     pub rolls: u64,
 }
 
 /// The sequence number of the meter entry that a command voids (withdraws as false).
-#[derive(Clone, Copy, Debug, PartialEq, Eq)]
+#[derive(Clone, Copy)]
 pub struct VoidBody {
     pub place: u64,
 }
