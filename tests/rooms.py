@@ -10,7 +10,7 @@ import sys
 
 TOP = os.path.dirname(os.path.dirname(os.path.realpath(__file__)))
 PROGRAMS = {"sunreg", "golden_cases"}
-OF_TESTS = {"golden_cases", "failing_books"}
+OF_TESTS = {"golden_cases"}
 
 
 def lists():

@@ -6,7 +6,7 @@ use memory_books::ListBooks;
 use office_core::Office;
 use office_events::{Command, Event, PlannedList, PutList, StartPoll};
 use point_list::read_list;
-use script_lines::{GivenList, GivenStart, ScriptLine};
+use script_text::{GivenList, GivenStart, ScriptLine};
 use std::alloc::{AllocError, Global};
 
 type MemoryOffice = Office<ListBooks>;

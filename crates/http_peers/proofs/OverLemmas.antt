@@ -12,9 +12,9 @@ use Rattle.interval_core.specs.declared.totals.DayTotal.{DayTotal}
 use Rattle.interval_core.specs.declared.zone.Zone.{Zone}
 use Rattle.office_events.specs.declared.facts.Fact.{Fact}
 use Rattle.office_events.specs.declared.refusals.Refusal.{Refusal}
-use Rattle.office_rules.specs.Facts.{register_of}
-use Rattle.office_rules.specs.History.{facts_of}
-use Rattle.office_rules.specs.Intervals.{rows_of_register}
+use Rattle.office_books.specs.Facts.{register_of}
+use Rattle.office_books.specs.History.{facts_of}
+use Rattle.office_books.specs.Intervals.{rows_of_register}
 use Rattle.office_books.specs.Ledgers.{Ledger}
 use Rattle.office_books.specs.declared.failures.Failures.{Failures}
 use Rattle.office_books.specs.declared.spans.Span.{Span}

@@ -6,9 +6,9 @@ use Rattle.std.specs.declared.alloc.Global.{Global}
 use Rattle.std.specs.declared.vec.Vec.{Vec}
 use Rattle.carried_books.specs.declared.joining.earlier.EarlierRegister.{EarlierRegister}
 use Rattle.energy_report.specs.declared.form.ReportForm.{ReportForm}
-use Rattle.http_request.specs.Hosts.{may_ask_in}
-use Rattle.http_request.specs.Routing.Routes.{Table}
-use Rattle.http_request.specs.declared.head.head.HeadState.{HeadState}
+use Rattle.http_messages.specs.Hosts.{may_ask_in}
+use Rattle.http_messages.specs.Routing.Routes.{Table}
+use Rattle.http_messages.specs.declared.head.head.HeadState.{HeadState}
 use Rattle.interval_core.specs.declared.shares.Share.{Share}
 use Rattle.interval_core.specs.declared.zone.Zone.{Zone}
 use Rattle.office_books.specs.Ledgers.{Ledger}
@@ -22,8 +22,8 @@ use Rattle.office_http.proofs.ConnectionsLemmas.Served.{handled}
 use Rattle.office_http.specs.Connections.Connections.{Connection, ServesOne, history_with}
 use Rattle.office_http.specs.Connections.Named.{MayAsk}
 use Rattle.office_http.specs.Serving.{Lasts, with_asked}
-use Rattle.office_rules.specs.Meters.{meter_of}
-use Rattle.office_rules.specs.History.{History}
+use Rattle.office_books.specs.Meters.{meter_of}
+use Rattle.office_books.specs.History.{History}
 use Rattle.run_http.specs.Answer.{Asks}
 use Rattle.http_peers.specs.Clients.{AreAt, OnlyQueries, ServesClients}
 use Rattle.run_http.specs.OfficeRequests.{AsksAllRows}

@@ -4,7 +4,7 @@ use Rattle.office_books.specs.Ledgers.{Ledger}
 use Rattle.office_core.specs.Standing.{After, Stands, books_in}
 use Rattle.office_core.specs.declared.office.Office.{Office}
 use Rattle.office_http.specs.Connections.Connections.{Connection, history_with}
-use Rattle.office_rules.specs.History.{History}
+use Rattle.office_books.specs.History.{History}
 
 -- The requests of all connections in the list arrived at the time `at`.
 abbrev pub AreAt : {names : List (List ℕ)} → (at : ℕ) → List (Connection names) → Type 0

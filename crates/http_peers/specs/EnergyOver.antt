@@ -7,8 +7,8 @@ use Rattle.office_events.specs.declared.facts.Fact.{Fact}
 use Rattle.office_events.specs.declared.refusals.Refusal.{Refusal}
 use Rattle.office_events.specs.declared.refusals.Refusal.TheVariants as refusal
 use Rattle.office_events.specs.declared.refusals.StoreCause.TheVariants as store
-use Rattle.office_rules.specs.Facts.{register_of}
-use Rattle.office_rules.specs.History.{facts_of}
+use Rattle.office_books.specs.Facts.{register_of}
+use Rattle.office_books.specs.History.{facts_of}
 use Rattle.office_books.specs.Ledgers.{Ledger}
 use Rattle.office_books.specs.declared.failures.Failures.{Failures}
 use Rattle.office_core.specs.Asking.{IsFound, OnlyAsks, is_there}

@@ -4,9 +4,9 @@ use Rattle.std.specs.Prelude.{◌≡◌, ◌==◌, ◌&&◌, ◌||◌, ◌-◌, 
 use Rattle.std.specs.List.{starts_with}
 use Rattle.std.specs.Str.{bytes_eq}
 use Rattle.httparse.specs.Spans.{span_bytes}
-use Rattle.http_request.specs.Head.Heads.{Looks}
-use Rattle.http_request.specs.declared.head.head.HeadState.{HeadState}
-use Rattle.http_request.specs.declared.head.head.HeadState.TheVariants.{Open, TooLarge, NoHead, Whole}
+use Rattle.http_messages.specs.Head.Heads.{Looks}
+use Rattle.http_messages.specs.declared.head.head.HeadState.{HeadState}
+use Rattle.http_messages.specs.declared.head.head.HeadState.TheVariants.{Open, TooLarge, NoHead, Whole}
 use Rattle.run_http.specs.declared.answer.ClientResponse.{ClientResponse}
 use Rattle.run_http.specs.declared.answer.ClientResponse.TheVariants as reply
 

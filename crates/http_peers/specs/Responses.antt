@@ -7,10 +7,10 @@ use Rattle.std.specs.declared.alloc.Global.{Global}
 use Rattle.std.specs.declared.vec.Vec.{Vec}
 use Rattle.carried_books.specs.declared.joining.earlier.EarlierRegister.{EarlierRegister}
 use Rattle.energy_report.specs.declared.form.ReportForm.{ReportForm}
-use Rattle.http_answer.specs.Sending.Bodies.{fault_text}
-use Rattle.http_request.specs.Hosts.{texts}
-use Rattle.http_request.specs.Routing.Routes.{Table}
-use Rattle.http_request.specs.declared.status.Status.TheVariants.{Unavailable}
+use Rattle.http_messages.specs.Sending.Bodies.{fault_text}
+use Rattle.http_messages.specs.Hosts.{texts}
+use Rattle.http_messages.specs.Routing.Routes.{Table}
+use Rattle.http_messages.specs.declared.status.Status.TheVariants.{Unavailable}
 use Rattle.interval_core.specs.Lines.{intervals_text}
 use Rattle.interval_core.specs.declared.shares.Share.{Share}
 use Rattle.interval_core.specs.declared.zone.Zone.{Zone}
@@ -22,8 +22,8 @@ use Rattle.office_core.specs.declared.office.Office.{Office}
 use Rattle.office_events.specs.declared.questions.Installation.{Installation}
 use Rattle.office_events.specs.declared.refusals.Refusal.{Refusal}
 use Rattle.office_http.specs.Serving.{Lasts}
-use Rattle.office_rules.specs.Facts.{is_named}
-use Rattle.office_rules.specs.Meters.{meter_of}
+use Rattle.office_books.specs.Facts.{is_named}
+use Rattle.office_books.specs.Meters.{meter_of}
 use Rattle.run_http.specs.Answer.{Asks}
 use Rattle.http_peers.specs.Clients.{OnlyQueries}
 use Rattle.http_peers.specs.EnergyOver.{RepliesEnergyOver}

@@ -3,7 +3,7 @@
 use Rattle.std.specs.Prelude.{◌≡◌, ℕ, List, [], map, Option, Some, None, Result, Ok, Err, codes}
 use Rattle.std.specs.declared.alloc.Global.{Global}
 use Rattle.std.specs.declared.vec.Vec.{Vec}
-use Rattle.http_request.specs.declared.status.Status.TheVariants.{Fine}
+use Rattle.http_messages.specs.declared.status.Status.TheVariants.{Fine}
 use Rattle.office_core.specs.declared.site.SiteRow.{SiteRow}
 use Rattle.office_events.specs.declared.facts.Register.{Register}
 use Rattle.office_events.specs.declared.questions.Installation.{Installation}

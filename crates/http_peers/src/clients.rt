@@ -1,6 +1,6 @@
 //! The connection of an HTTP client: the bytes of its request so far, and its response.
 use crate::outbox::{MOST_CALLS, Outbox, Went, went_by};
-use http_request::{MOST_ROOM, Route, is_whole};
+use http_messages::{MOST_ROOM, Route, is_whole};
 use matchit::Router;
 use mio::net::TcpStream;
 use run_http::{ClientResponse, RemainingRows};

@@ -4,7 +4,7 @@ ghost use Rattle.std.specs.Prelude.{◌≡◌, ◌++◌, OnOk};
 ghost use Rattle.std.specs.List.{find};
 ghost use Rattle.std.specs.Option.{option_copied};
 ghost use Rattle.energy_report.specs.Texts.{report_text};
-ghost use Rattle.office_rules.specs.Facts.{is_named};
+ghost use Rattle.office_books.specs.Facts.{is_named};
 ghost use Rattle.http_peers.specs.EnergyOver.{AsksEnergyOver, RepliesEnergyOver};
 
 use carried_books::{EarlierDays, EarlierRegister, days_over, report_days};

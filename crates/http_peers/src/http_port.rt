@@ -1,6 +1,6 @@
 //! The HTTP port of `sunreg run`, and its connections.
 ghost use Rattle.std.specs.Prelude.{◌≡◌, ◌⊎◌, false, true};
-ghost use Rattle.http_request.specs.Hosts.{texts};
+ghost use Rattle.http_messages.specs.Hosts.{texts};
 ghost use Rattle.http_peers.specs.Clients.{OnlyQueries, ServesClients};
 ghost use Rattle.http_peers.specs.Responses.{Answers, ExecutesUnlessRejected};
 ghost use Rattle.http_peers.specs.Responses.{RespondsAgain, RespondsTo};
@@ -16,7 +16,7 @@ use crate::slots::{
     empty_slots, has_rows_left, held_bytes, is_attended, is_done, is_ready, open_slots,
     record_state,
 };
-use http_request::{Route, router};
+use http_messages::{Route, router};
 use matchit::Router;
 use mio::net::{TcpListener, TcpStream};
 use mio::{Interest, Registry, Token};

@@ -4,7 +4,7 @@ ghost use Rattle.http_peers.specs.Clients.{OnlyQueries};
 ghost use Rattle.run_http.specs.Pieces.{with_rows};
 ghost use Rattle.http_peers.specs.Responses.{IsBegunWith, MayBeginAll, MayBeginRoute, MayBeginRows};
 
-use http_request::Route;
+use http_messages::Route;
 use matchit::Router;
 use office_books::{Books, Span};
 use office_core::Office;

@@ -4,7 +4,7 @@ ghost use Rattle.std.specs.Prelude.{◌≡◌};
 ghost use Rattle.http_peers.specs.KeptRoom as kept;
 ghost use Rattle.http_peers.specs.KeptRoom.{Acknowledges, Counts, IsCommand, Lacks, Rejects};
 
-use http_request::{HeadState, parse_head};
+use http_messages::{HeadState, parse_head};
 use run_http::ClientResponse;
 
 /// The number of bytes of commands that may still be stored. The store records each executed

@@ -1,6 +1,6 @@
 //! Makes the response of each route of `sunreg run`.
 ghost use Rattle.std.specs.List.{find};
-ghost use Rattle.office_rules.specs.Facts.{is_named};
+ghost use Rattle.office_books.specs.Facts.{is_named};
 ghost use Rattle.http_peers.specs.Responses.{BeginsResponse, IsUnavailable, RepliesDays};
 ghost use Rattle.http_peers.specs.Responses.{RepliesRoute, RespondsByRoute};
 
@@ -9,7 +9,7 @@ use crate::interval_answers::begin_route;
 use crate::run_context::RunContext;
 use crate::site_over::reply_site_over;
 use energy_report::ReportForm;
-use http_request::Status;
+use http_messages::Status;
 use office_books::Books;
 use office_core::Office;
 use office_events::Name;

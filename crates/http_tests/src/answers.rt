@@ -1,7 +1,6 @@
 //! Tests of the HTTP statuses and bodies of those responses that no other test produces.
 use energy_core::Cause;
-use http_answer::{done_body, fault_body, kind_answered, refused_body, status_of};
-use http_request::Status;
+use http_messages::{Status, done_body, fault_body, kind_answered, refused_body, status_of};
 use office_events::{Answer, CommandKind, Refusal, StoreCause};
 
 static STATUSES: [(Refusal, u16); 19] = [

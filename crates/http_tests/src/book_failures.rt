@@ -2,7 +2,7 @@
 use crate::cases::{Case, Served, assert_reply, serve};
 use crate::office::polled_store;
 use crate::tables::{COMMANDS, QUESTIONS};
-use failing_books::FailingBooks;
+use memory_books::FailingBooks;
 use office_books::Books;
 use office_core::Office;
 use std::alloc::{AllocError, Global};

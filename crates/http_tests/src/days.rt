@@ -1,6 +1,6 @@
 //! Tests of report lines with the greatest numbers, and of dates as text.
 use energy_report::read_day;
-use http_answer::{ResponseWriter, append_day, append_end, write_share};
+use http_messages::{ResponseWriter, append_day, append_end, write_share};
 use interval_core::{Day, DayRange, DayTotal, Share};
 use jiff::civil::date;
 use mb_wire::MemoryLink;

@@ -2,11 +2,10 @@
 //! rounds.
 use crate::office::metered;
 use command_io::ExitStatus;
-use failing_books::FailingBooks;
+use memory_books::FailingBooks;
 use office_books::Books;
 use office_events::{Device, Register};
-use office_program::{NamedFiles, Shown, enter_books, round_status};
-use office_rounds::RoundFault;
+use office_program::{NamedFiles, RoundFault, Shown, enter_books, round_status};
 use socket_link::FixedClock;
 use std::alloc::{AllocError, Global};
 

@@ -1,6 +1,5 @@
 //! Tests of the error texts of HTTP requests.
-use http_answer::{BodyFault, CommandFault};
-use http_request::TakeFault;
+use http_messages::{BodyFault, CommandFault, TakeFault};
 use point_list::{FaultyRow, FaultyRows, RowFault};
 use std::alloc::Global;
 use std::fmt::Display;

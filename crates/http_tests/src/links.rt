@@ -1,6 +1,7 @@
 //! Tests of requests that are cut off, and of responses over links that fail.
-use http_answer::{ResponseWriter, write_json};
-use http_request::{Inbox, Route, Status, TakeFault, is_whole, read_request, router};
+use http_messages::{
+    Inbox, ResponseWriter, Route, Status, TakeFault, is_whole, read_request, router, write_json,
+};
 use matchit::Router;
 use mb_wire::{Link, MemoryLink};
 use office_http::{HandleFault, write_misdirected};

@@ -1,7 +1,7 @@
 //! Tests of long responses, whose quarter hours are sent in chunks, and of the requests for them.
 use crate::cases::{serve, sized_reply};
 use crate::office::polled;
-use http_request::router;
+use http_messages::router;
 use office_books::{Books, Span};
 use office_core::Office;
 use office_events::{Installation, Name};

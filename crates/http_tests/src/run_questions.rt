@@ -2,7 +2,7 @@
 //! the greatest index on.
 use crate::cases::sized_reply;
 use crate::office::{polled, polled_store, responded, response_of};
-use failing_books::FailingBooks;
+use memory_books::FailingBooks;
 use office_books::Books;
 use office_core::Office;
 use office_events::Name;

@@ -3,7 +3,7 @@
 use crate::cases::{Case, assert_served, serve};
 use crate::office::{poll, polled_store};
 use crate::tables::{COMMANDS, QUESTIONS};
-use failing_books::FailingBooks;
+use memory_books::FailingBooks;
 use office_books::Books;
 use office_core::Office;
 use office_events::Refusal;

@@ -11,12 +11,12 @@ use Rattle.office_events.specs.declared.facts.VoidedEntry.{VoidedEntry}
 use Rattle.office_events.specs.declared.facts.Fact.{Fact}
 use Rattle.office_events.specs.declared.facts.Fact.TheVariants as fact
 use Rattle.office_events.specs.declared.questions.Installation.{Installation}
-use Rattle.office_rules.specs.Facts.{same, if_some, lists_in, list_of, registers_in, registers_of}
-use Rattle.office_rules.specs.Lawful.{AreLawful}
-use Rattle.office_rules.specs.Ranges.{InstallationsAreInRange}
-use Rattle.office_rules.specs.Steps.{OtherMetersStay, HoldsChangeNothing, EntriesMoveOn}
-use Rattle.office_rules.proofs.Journals.{by_name}
-use Rattle.office_rules.proofs.Lists.{reverse_more}
+use Rattle.office_books.specs.Facts.{same, if_some, lists_in, list_of, registers_in, registers_of}
+use Rattle.office_books.specs.Lawful.{AreLawful}
+use Rattle.office_books.specs.Ranges.{InstallationsAreInRange}
+use Rattle.office_books.specs.Steps.{OtherMetersStay, HoldsChangeNothing, EntriesMoveOn}
+use Rattle.office_books.proofs.Journals.{by_name}
+use Rattle.office_books.proofs.Lists.{reverse_more}
 use Rattle.office_books.specs.Ledgers.{with_facts}
 use Rattle.kept_books.specs.declared.answers.Answers.{Answers}
 use Rattle.kept_books.specs.declared.known.Known.{Known}

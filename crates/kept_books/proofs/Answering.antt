@@ -5,8 +5,8 @@ use Rattle.std.specs.Map.{lookup}
 use Rattle.std.specs.Ordering.{is_eq}
 use Rattle.std.proofs.lemmas.Bool.{cases_Bool, cond-true}
 use Rattle.std.proofs.lemmas.Map.Text.{is_eq-slice_cmp}
-use Rattle.office_rules.specs.Facts.{same}
-use Rattle.office_rules.proofs.Lookups.{same_text}
+use Rattle.office_books.specs.Facts.{same}
+use Rattle.office_books.proofs.Lookups.{same_text}
 use Rattle.kept_books.specs.declared.keys.Key.{Key}
 use Rattle.kept_books.specs.declared.answers.Answers.{Answers}
 use Rattle.kept_books.specs.Answers.{key_cmp, answer_to, EachIs, MayAnswer, Forgets}

@@ -1,7 +1,7 @@
 -- Lemmas about adding records to a store with a cache.
 use Rattle.std.proofs.Common.{◌≡◌, true, false, List, [], refl, sym, subst, Result, Ok, Err}
 use Rattle.office_events.specs.declared.facts.Fact.{Fact}
-use Rattle.office_rules.specs.Lawful.{AreLawful}
+use Rattle.office_books.specs.Lawful.{AreLawful}
 use Rattle.office_books.specs.declared.faults.BooksFault.{BooksFault}
 use Rattle.office_books.specs.Ledgers.{Ledger, KeepsFacts, Books, with_facts}
 use Rattle.kept_books.specs.declared.known.Known.{Known}

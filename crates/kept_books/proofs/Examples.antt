@@ -3,8 +3,8 @@ use Rattle.std.proofs.Common.{◌≡◌, ◌≢◌, ℕ, List, Some, None, sym, 
 use Rattle.office_events.specs.declared.facts.Fact.{Fact}
 use Rattle.office_events.specs.declared.questions.Installation.{Installation}
 use Rattle.read_plan.specs.PlannedLists.{Planned}
-use Rattle.office_rules.specs.Facts.{list_of}
-use Rattle.office_rules.specs.Meters.{installation_of}
+use Rattle.office_books.specs.Facts.{list_of}
+use Rattle.office_books.specs.Meters.{installation_of}
 use Rattle.kept_books.specs.declared.known.Known.{Known}
 use Rattle.kept_books.specs.Answers.{answer_to}
 use Rattle.kept_books.specs.Known.{AreTrue}

@@ -10,13 +10,13 @@ use Rattle.office_events.specs.declared.facts.Opening.{Opening}
 use Rattle.office_events.specs.declared.facts.Fact.{Fact}
 use Rattle.office_events.specs.declared.facts.Fact.TheVariants as fact
 use Rattle.office_events.specs.declared.questions.Installation.{Installation}
-use Rattle.office_rules.specs.Facts.{same, openings_in, opening_of, installed_at}
-use Rattle.office_rules.specs.Lawful.{AreLawful}
-use Rattle.office_rules.specs.Meters.{line_of, installation_of, installation_at}
-use Rattle.office_rules.specs.Ranges.{IsSound, InstallationsAreInRange}
-use Rattle.office_rules.specs.Steps.{OtherMetersStay, EntriesMoveOn, moved_by}
-use Rattle.office_rules.proofs.Lookups.{same_text, find_passes}
-use Rattle.office_rules.proofs.Openings.{found_installed}
+use Rattle.office_books.specs.Facts.{same, openings_in, opening_of, installed_at}
+use Rattle.office_books.specs.Lawful.{AreLawful}
+use Rattle.office_books.specs.Meters.{line_of, installation_of, installation_at}
+use Rattle.office_books.specs.Ranges.{IsSound, InstallationsAreInRange}
+use Rattle.office_books.specs.Steps.{OtherMetersStay, EntriesMoveOn, moved_by}
+use Rattle.office_books.proofs.Lookups.{same_text, find_passes}
+use Rattle.office_books.proofs.FoundOpenings.{found_installed}
 use Rattle.office_books.specs.Sound.{MayEnter}
 use Rattle.kept_books.specs.declared.answers.Answers.{Answers}
 use Rattle.kept_books.specs.Answers.{answer_to, EachIs}

@@ -13,10 +13,10 @@ use Rattle.office_events.specs.declared.facts.EndedPoll.{EndedPoll}
 use Rattle.office_events.specs.declared.facts.Fact.{Fact}
 use Rattle.office_events.specs.declared.facts.Fact.TheVariants as fact
 use Rattle.office_events.specs.declared.questions.PollRow.{PollRow}
-use Rattle.office_rules.specs.Facts.{polls_in, poll_of, end_of}
-use Rattle.office_rules.specs.PollEndings.{AreNumbered}
-use Rattle.office_rules.specs.Lawful.{AreLawful, PollFits, EndFits}
-use Rattle.office_rules.specs.Readings.{poll_row, poll_row_of}
+use Rattle.office_books.specs.Facts.{polls_in, poll_of, end_of}
+use Rattle.office_books.specs.PollEndings.{AreNumbered}
+use Rattle.office_books.specs.Lawful.{AreLawful, PollFits, EndFits}
+use Rattle.office_books.specs.Readings.{poll_row, poll_row_of}
 use Rattle.kept_books.specs.declared.polls.Polls.{Polls}
 use Rattle.kept_books.specs.Polls.{waiting_at, waits, PollsAreTrue, PollsChange}
 use Rattle.kept_books.proofs.Answering.{none_and_some, some_one}

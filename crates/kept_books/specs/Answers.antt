@@ -4,7 +4,7 @@ use Rattle.std.specs.BTreeMap.{get}
 use Rattle.std.specs.Cmp.Lexicographic.{slice_cmp}
 use Rattle.std.specs.Ordering.{nat_cmp, on}
 use Rattle.std.specs.declared.cmp.Ordering.{Ordering}
-use Rattle.office_rules.specs.Facts.{same}
+use Rattle.office_books.specs.Facts.{same}
 use Rattle.kept_books.specs.declared.keys.Key.{Key}
 use Rattle.kept_books.specs.declared.answers.Answers.{Answers}
 

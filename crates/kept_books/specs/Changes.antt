@@ -4,9 +4,9 @@ use Rattle.office_events.specs.declared.facts.BookedEntry.{BookedEntry}
 use Rattle.office_events.specs.declared.facts.Fact.{Fact}
 use Rattle.office_events.specs.declared.facts.Fact.TheVariants as fact
 use Rattle.office_events.specs.declared.questions.Installation.{Installation}
-use Rattle.office_rules.specs.Facts.{same}
-use Rattle.office_rules.specs.Ranges.{IsSound}
-use Rattle.office_rules.specs.Steps.{moved_by}
+use Rattle.office_books.specs.Facts.{same}
+use Rattle.office_books.specs.Ranges.{IsSound}
+use Rattle.office_books.specs.Steps.{moved_by}
 use Rattle.office_books.specs.Sound.{MayEnter}
 use Rattle.kept_books.specs.declared.answers.Answers.{Answers}
 use Rattle.kept_books.specs.declared.known.Known.{Known}

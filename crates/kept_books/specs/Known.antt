@@ -2,8 +2,8 @@
 use Rattle.std.specs.Prelude.{◌≡◌, ℕ, List, Some}
 use Rattle.office_events.specs.declared.facts.Fact.{Fact}
 use Rattle.office_events.specs.declared.questions.Installation.{Installation}
-use Rattle.office_rules.specs.Facts.{list_of, registers_of, installed_at}
-use Rattle.office_rules.specs.Meters.{installation_of}
+use Rattle.office_books.specs.Facts.{list_of, registers_of, installed_at}
+use Rattle.office_books.specs.Meters.{installation_of}
 use Rattle.kept_books.specs.Answers.{EachIs}
 use Rattle.kept_books.specs.Polls.{PollsAreTrue}
 use Rattle.kept_books.specs.declared.known.Known.{Known}

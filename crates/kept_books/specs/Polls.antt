@@ -7,8 +7,8 @@ use Rattle.office_events.specs.declared.facts.Poll.{Poll}
 use Rattle.office_events.specs.declared.facts.Fact.{Fact}
 use Rattle.office_events.specs.declared.facts.Fact.TheVariants as fact
 use Rattle.office_events.specs.declared.questions.PollRow.{PollRow}
-use Rattle.office_rules.specs.Facts.{polls_in}
-use Rattle.office_rules.specs.Readings.{poll_row_of}
+use Rattle.office_books.specs.Facts.{polls_in}
+use Rattle.office_books.specs.Readings.{poll_row_of}
 use Rattle.kept_books.specs.declared.polls.Polls.{Polls}
 
 -- The cached pending poll with this number, or `None` if no such poll is cached.

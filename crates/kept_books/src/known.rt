@@ -2,11 +2,11 @@
 ghost use Rattle.std.specs.Prelude.{◌≡◌, ◌∷◌, List, length, IfSome, Some};
 ghost use Rattle.std.specs.List.{filter};
 ghost use Rattle.office_events.specs.declared.facts.Fact.{Fact};
-ghost use Rattle.office_rules.specs.Facts.{list_of, polls_in, registers_of};
-ghost use Rattle.office_rules.specs.Lawful.{AreLawful};
-ghost use Rattle.office_rules.specs.Meters.{installation_at};
-ghost use Rattle.office_rules.specs.Ranges.{IsSound};
-ghost use Rattle.office_rules.specs.Readings.{is_read_by, poll_row_of};
+ghost use Rattle.office_books.specs.Facts.{list_of, polls_in, registers_of};
+ghost use Rattle.office_books.specs.Lawful.{AreLawful};
+ghost use Rattle.office_books.specs.Meters.{installation_at};
+ghost use Rattle.office_books.specs.Ranges.{IsSound};
+ghost use Rattle.office_books.specs.Readings.{is_read_by, poll_row_of};
 ghost use Rattle.office_books.specs.Ledgers.{with_facts};
 ghost use Rattle.office_books.specs.Plans.{read_count_of, reads_from};
 
@@ -14,13 +14,13 @@ use crate::answers::Answers;
 use crate::polls::Polls;
 use crate::standing::advance_installation;
 use mb_wire::ReadSpan;
-use office_books::{is_sound, read_count, reads_from, registers_read};
+use office_books::{
+    entries_move_on, holds_change_nothing, installations_are_in_range, is_sound, other_meters_stay,
+    read_count, reads_from, registers_read,
+};
 use office_events::{
     Fact, Installation, MAX_DEVICES, MAX_INSTALLATIONS, MAX_REGISTERS, Name, PlannedList, PollRow,
     Register,
-};
-use office_rules::{
-    entries_move_on, holds_change_nothing, installations_are_in_range, other_meters_stay,
 };
 use std::alloc::Global;
 

@@ -36,7 +36,7 @@ fn assert_name(rt: &impl Abort, alloc: Global, text: &str, is_name: bool) {
 
 // A point name has 1 to 32 letters, digits, `_` and `.`, with a letter first.
 #[test]
-fn names_are_valid_up_to_16_bytes(rt: HostRuntime) {
+fn names_are_valid_up_to_32_bytes(rt: HostRuntime) {
     for (text, is_name) in &TEXTS {
         assert_name(&rt, rt.alloc(), text, *is_name);
     }

@@ -3,7 +3,7 @@ use Rattle.std.proofs.Common.{◌≡◌, true, false, List, [], ◌∷◌, ◌++
 use Rattle.std.proofs.lemmas.List.{append-nil, reverse-append, reverse-reverse}
 use Rattle.std.specs.declared.alloc.AllocError.{AllocError}
 use Rattle.office_events.specs.declared.facts.Fact.{Fact}
-use Rattle.office_rules.specs.Lawful.{AreLawful}
+use Rattle.office_books.specs.Lawful.{AreLawful}
 use Rattle.memory_books.specs.declared.tables.tables.Tables.{Tables}
 use Rattle.memory_books.specs.Tables.Whole.{HaveCome}
 use Rattle.memory_books.proofs.TablesLemmas.Wholes.{have_come_with}

@@ -6,7 +6,7 @@ use Rattle.office_books.specs.Ledgers.{with_facts}
 use Rattle.office_events.specs.declared.facts.Fact.{Fact}
 use Rattle.memory_books.specs.declared.figures.Figures.{Figures}
 use Rattle.memory_books.specs.Figures.{AreFigures}
-use Rattle.office_rules.specs.Facts.{as_opening, openings_in, moment_in}
+use Rattle.office_books.specs.Facts.{as_opening, openings_in, moment_in}
 
 one_more : {X : Type 0} (o : Option X) (xs : List X) → length (cons_option o xs) ≡ length xs + length (cons_option o [])
 one_more None xs = omega arith

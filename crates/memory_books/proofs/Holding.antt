@@ -11,8 +11,8 @@ use Rattle.office_books.specs.Spans.{is_within}
 use Rattle.office_books.proofs.Handing.{takes_both}
 use Rattle.office_events.specs.declared.facts.Fact.{Fact}
 use Rattle.office_events.specs.declared.facts.HeldReading.{HeldReading}
-use Rattle.office_rules.specs.Facts.{as_hold, holds_in, same}
-use Rattle.office_rules.proofs.Lists.{reverse_more}
+use Rattle.office_books.specs.Facts.{as_hold, holds_in, same}
+use Rattle.office_books.proofs.Lists.{reverse_more}
 
 one_passes : {X : Type 0} (own : Bool) (q : X → Bool) (x : X) → (own && q x) ≡ true → filter q (reverse (cond own (x ∷ []) [])) ≡ x ∷ []
 one_passes true q x is = cond-true _ _ _ is

@@ -1,3 +1,5 @@
+pub mod Booking
+pub mod FailingReads
 pub mod TablesLemmas
 pub mod Adding
 pub mod Counting

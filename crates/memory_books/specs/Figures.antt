@@ -4,7 +4,7 @@ use Rattle.std.specs.Prelude.{◌≡◌, ◌≤◌, ◌+◌, ℕ, List, length}
 use Rattle.office_books.specs.Ledgers.{with_facts}
 use Rattle.office_events.specs.declared.facts.Fact.{Fact}
 use Rattle.memory_books.specs.declared.figures.Figures.{Figures}
-use Rattle.office_rules.specs.Facts.{openings_in, latest_in}
+use Rattle.office_books.specs.Facts.{openings_in, latest_in}
 
 -- True if the number of installed meters and the greatest timestamp in `figures` agree with these
 -- records.

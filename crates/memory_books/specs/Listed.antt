@@ -6,7 +6,7 @@ use Rattle.office_events.specs.declared.facts.Fact.{Fact}
 use Rattle.memory_books.specs.Figures.{AreFigures}
 use Rattle.memory_books.specs.Looking.{failures_in}
 use Rattle.memory_books.specs.declared.list_books.ListBooks.{ListBooks}
-use Rattle.office_rules.specs.Lawful.{AreLawful}
+use Rattle.office_books.specs.Lawful.{AreLawful}
 
 -- True if the store has exactly these records, and the rules accept each record after the earlier
 -- records. The figures agree with all records, and each table agrees with the records that were

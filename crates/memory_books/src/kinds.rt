@@ -1,6 +1,6 @@
 //! Selects records by kind.
 ghost use Rattle.std.specs.Prelude.{◌≡◌, ◌∷◌, [], length};
-ghost use Rattle.office_rules.specs.Facts.{as_device, as_hold, openings_in, moment_in};
+ghost use Rattle.office_books.specs.Facts.{as_device, as_hold, openings_in, moment_in};
 
 use energy_core::Entry;
 use office_events::{Device, Fact, HeldReading};

@@ -1,7 +1,7 @@
 //! Lookups that read the complete list of records, the earliest first.
 ghost use Rattle.std.specs.Prelude.{◌≡◌, ◌∷◌, ◌&&◌, [], reverse, IfOk};
 ghost use Rattle.std.specs.List.{filter_map};
-ghost use Rattle.office_rules.specs.Facts.{as_device, devices_in, same};
+ghost use Rattle.office_books.specs.Facts.{as_device, devices_in, same};
 ghost use Rattle.office_books.specs.Holds.{holds_of, holds_within};
 ghost use Rattle.office_books.specs.Rows.{TakesAll};
 ghost use Rattle.office_books.specs.Spans.{is_within};

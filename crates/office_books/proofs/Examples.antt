@@ -9,7 +9,7 @@ use Rattle.meter_journal.specs.declared.lines.EntryRow.{EntryRow}
 use Rattle.office_events.specs.declared.facts.Opening.{Opening}
 use Rattle.office_events.specs.declared.facts.Fact.{Fact}
 use Rattle.office_events.specs.declared.facts.Fact.TheVariants as fact
-use Rattle.office_rules.specs.Intervals.{rows_of_meter, rows_of_register}
+use Rattle.office_books.specs.Intervals.{rows_of_meter, rows_of_register}
 use Rattle.office_books.specs.declared.entries.MeterEntry.TheVariants as listed
 use Rattle.office_books.specs.declared.spans.Span.TheVariants.{All, Between}
 use Rattle.office_books.specs.Entries.{entries_from, installations_of}

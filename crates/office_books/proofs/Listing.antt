@@ -7,7 +7,7 @@ use Rattle.std.proofs.lemmas.List.Elements.{filter-append}
 use Rattle.meter_journal.specs.declared.lines.EntryRow.{EntryRow}
 use Rattle.meter_journal.specs.Lists.{latest_first}
 use Rattle.office_events.specs.declared.facts.Opening.{Opening}
-use Rattle.office_rules.proofs.Lists.{reverse_cons}
+use Rattle.office_books.proofs.Lists.{reverse_cons}
 use Rattle.office_books.specs.declared.entries.MeterEntry.{MeterEntry}
 use Rattle.office_books.specs.declared.entries.MeterEntry.TheVariants as entry
 use Rattle.office_books.specs.Entries.{place_of, scale_after, listed_rows, first_from}

@@ -10,8 +10,8 @@ use Rattle.meter_journal.specs.Journal as journal
 use Rattle.meter_journal.specs.Lists.{AreNumbered}
 use Rattle.office_events.specs.declared.facts.Fact.{Fact}
 use Rattle.office_events.specs.declared.facts.Opening.{Opening}
-use Rattle.office_rules.specs.Meters.{journal_of, opened, rows_of}
-use Rattle.office_rules.proofs.Lists.{reverse_cons}
+use Rattle.office_books.specs.Meters.{journal_of, opened, rows_of}
+use Rattle.office_books.proofs.Lists.{reverse_cons}
 use Rattle.office_books.specs.declared.entries.MeterEntry.{MeterEntry}
 use Rattle.office_books.specs.declared.entries.MeterEntry.TheVariants as entry
 use Rattle.office_books.specs.Entries.{entries_at, first_from, listed_rows, place_of, scale_after}

@@ -18,11 +18,11 @@ use Rattle.office_events.specs.declared.facts.Opening.{Opening}
 use Rattle.office_events.specs.declared.facts.Fact.{Fact}
 use Rattle.office_events.specs.declared.questions.Installation.{Installation}
 use Rattle.office_events.specs.declared.questions.EntryContext.{EntryContext}
-use Rattle.office_rules.specs.Facts.{opening_of}
-use Rattle.office_rules.specs.Lawful.{AreLawful}
-use Rattle.office_rules.specs.Meters.{opened, installed, journal_of, rows_of, installation_of, meter_of, place_in, entry_at}
-use Rattle.office_rules.proofs.Journals.{IsInstalled, well, installed_fits}
-use Rattle.office_rules.proofs.Stepping.{installed_so}
+use Rattle.office_books.specs.Facts.{opening_of}
+use Rattle.office_books.specs.Lawful.{AreLawful}
+use Rattle.office_books.specs.Meters.{opened, installed, journal_of, rows_of, installation_of, meter_of, place_in, entry_at}
+use Rattle.office_books.proofs.Journals.{IsInstalled, well, installed_fits}
+use Rattle.office_books.proofs.Stepping.{installed_so}
 use Rattle.office_books.specs.Near.{with_energy, IsWithinWhole, ReportsNear}
 
 module _ (range : ℕ) (opening : Last) where

@@ -7,9 +7,9 @@ use Rattle.meter_journal.specs.Journal.{entries_in}
 use Rattle.office_events.specs.declared.facts.Opening.{Opening}
 use Rattle.office_events.specs.declared.facts.Fact.{Fact}
 use Rattle.office_events.specs.declared.questions.Installation.{Installation}
-use Rattle.office_rules.specs.Facts.{opening_of}
-use Rattle.office_rules.specs.Intervals.{installations_at}
-use Rattle.office_rules.specs.Meters.{opened, rows_of, installation_of}
+use Rattle.office_books.specs.Facts.{opening_of}
+use Rattle.office_books.specs.Intervals.{installations_at}
+use Rattle.office_books.specs.Meters.{opened, rows_of, installation_of}
 use Rattle.office_books.specs.declared.entries.MeterEntry.{MeterEntry}
 use Rattle.office_books.specs.declared.entries.MeterEntry.TheVariants as entry
 

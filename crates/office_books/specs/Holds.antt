@@ -3,7 +3,7 @@ use Rattle.std.specs.Prelude.{ℕ, List, reverse}
 use Rattle.std.specs.List.{filter}
 use Rattle.office_events.specs.declared.facts.Fact.{Fact}
 use Rattle.office_events.specs.declared.facts.HeldReading.{HeldReading}
-use Rattle.office_rules.specs.Facts.{holds_in, same}
+use Rattle.office_books.specs.Facts.{holds_in, same}
 use Rattle.office_books.specs.declared.spans.Span.{Span}
 use Rattle.office_books.specs.Spans.{is_within}
 

@@ -5,7 +5,7 @@ use Rattle.std.specs.Option.{option_map, option_and_then}
 use Rattle.office_events.specs.declared.facts.Fact.{Fact}
 use Rattle.office_events.specs.declared.questions.Installation.{Installation}
 use Rattle.office_events.specs.declared.questions.EntryContext.{EntryContext}
-use Rattle.office_rules.specs.Meters.{meter_of, entry_at}
+use Rattle.office_books.specs.Meters.{meter_of, entry_at}
 
 -- The entry and its neighbors, with the energy of the meter before the entry replaced by `mwh`, in
 -- mWh.

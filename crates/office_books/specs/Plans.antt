@@ -3,7 +3,7 @@ use Rattle.std.specs.Prelude.{ℕ, List, length, take, Option}
 use Rattle.std.specs.Option.{option_map}
 use Rattle.mb_wire.specs.declared.span.ReadSpan.{ReadSpan}
 use Rattle.read_plan.specs.PlannedLists.{Planned}
-use Rattle.office_rules.specs.History.{round_spans}
+use Rattle.office_books.specs.History.{round_spans}
 
 -- The number of reads in the plan of a point list, or `None` without a point list.
 abbrev pub read_count_of : Option Planned → Option ℕ

@@ -3,8 +3,8 @@ use Rattle.std.specs.Prelude.{◌≡◌, ℕ, List, Contains}
 use Rattle.std.specs.List.Sorted.{IsPermutation}
 use Rattle.office_events.specs.declared.facts.Opening.{Opening}
 use Rattle.office_events.specs.declared.facts.Fact.{Fact}
-use Rattle.office_rules.specs.Facts.{devices_in, registers_in, openings_in, holds_in, voids_in, polls_in, ended_in, replies_in, list_of}
-use Rattle.office_rules.specs.Meters.{rows_of}
+use Rattle.office_books.specs.Facts.{devices_in, registers_in, openings_in, holds_in, voids_in, polls_in, ended_in, replies_in, list_of}
+use Rattle.office_books.specs.Meters.{rows_of}
 use Rattle.office_books.specs.Ledgers.{Ledger}
 
 -- True if two lists of records have the same rows in each table, where some tables ignore the order

@@ -15,8 +15,8 @@ use Rattle.meter_journal.specs.Lists.{latest_first}
 use Rattle.office_events.specs.declared.facts.Opening.{Opening}
 use Rattle.office_events.specs.declared.questions.Installation.{Installation}
 use Rattle.office_events.specs.declared.questions.EntryContext.{EntryContext}
-use Rattle.office_rules.specs.Meters.{opened, installed}
-use Rattle.office_rules.specs.Ranges.{IsSound}
+use Rattle.office_books.specs.Meters.{opened, installed}
+use Rattle.office_books.specs.Ranges.{IsSound}
 use Rattle.office_books.specs.declared.faults.BooksFault.{BooksFault}
 use Rattle.office_books.specs.Ledgers.{Ledger, OnlyReads}
 

@@ -2,8 +2,8 @@
 ghost use Rattle.std.specs.Prelude.{◌≡◌, None, IfSome};
 ghost use Rattle.meter_journal.specs.Journal.{entries_in};
 ghost use Rattle.meter_journal.specs.Lists.{latest_first};
-ghost use Rattle.office_rules.specs.Meters.{standing};
-ghost use Rattle.office_rules.specs.Ranges.{IsSound};
+ghost use Rattle.office_books.specs.Meters.{standing};
+ghost use Rattle.office_books.specs.Ranges.{IsSound};
 ghost use Rattle.office_books.specs.Sound.{HasNumbers, HaveAccount};
 
 use crate::openings::{has_numbers, installed};

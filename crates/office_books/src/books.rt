@@ -44,11 +44,11 @@ pub trait Books: Drop {
     ghost use Rattle.std.specs.Prelude.{◌≡◌, List, reverse, length};
     ghost use Rattle.std.specs.List.{filter};
     ghost use Rattle.office_events.specs.declared.facts.Fact.{Fact};
-    ghost use Rattle.office_rules.specs.Facts.{devices_in, register_of, registers_of, list_of};
-    ghost use Rattle.office_rules.specs.Facts.{openings_in, polls_in, pending_in, latest_in};
-    ghost use Rattle.office_rules.specs.Meters.{meter_of, installation_at, entry_at};
-    ghost use Rattle.office_rules.specs.Readings.{is_read_by, poll_row_of};
-    ghost use Rattle.office_rules.specs.Intervals.{rows_of_meter, rows_of_register};
+    ghost use Rattle.office_books.specs.Facts.{devices_in, register_of, registers_of, list_of};
+    ghost use Rattle.office_books.specs.Facts.{openings_in, polls_in, pending_in, latest_in};
+    ghost use Rattle.office_books.specs.Meters.{meter_of, installation_at, entry_at};
+    ghost use Rattle.office_books.specs.Readings.{is_read_by, poll_row_of};
+    ghost use Rattle.office_books.specs.Intervals.{rows_of_meter, rows_of_register};
     ghost use Rattle.office_books.specs.Entries.{entries_from, installations_of};
     ghost use Rattle.office_books.specs.Holds.{holds_of, holds_within};
     ghost use Rattle.office_books.specs.Near.{ReportsNear};

@@ -1,8 +1,8 @@
 //! Lookups by a name that is `None` if the caller's text was not a valid name.
 ghost use Rattle.std.specs.Prelude.{◌≡◌};
 ghost use Rattle.std.specs.Option.{option_and_then};
-ghost use Rattle.office_rules.specs.Facts.{list_of};
-ghost use Rattle.office_rules.specs.Meters.{installation_at};
+ghost use Rattle.office_books.specs.Facts.{list_of};
+ghost use Rattle.office_books.specs.Meters.{installation_at};
 ghost use Rattle.office_books.specs.Ledgers.{Finds, OnlyReads};
 ghost use Rattle.office_books.specs.Sound.{ReadsInstallation};
 ghost use Rattle.office_books.specs.Plans.{read_count_of, reads_from};

@@ -1,7 +1,7 @@
 //! Replaces the energy before an entry by the total energy of the entry's meter.
 ghost use Rattle.std.specs.Prelude.{◌≡◌};
 ghost use Rattle.office_books.specs.Near.{with_energy};
-ghost use Rattle.office_rules.specs.Ranges.{IsSound};
+ghost use Rattle.office_books.specs.Ranges.{IsSound};
 
 use office_events::{EntryContext, Installation};
 

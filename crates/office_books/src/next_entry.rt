@@ -1,8 +1,8 @@
 //! Judges and adds the next entry of an installed meter.
 ghost use Rattle.std.specs.Prelude.{◌≡◌};
-ghost use Rattle.office_rules.specs.Readings.{judgement};
-ghost use Rattle.office_rules.specs.Ranges.{IsSound};
-ghost use Rattle.office_rules.specs.Steps.{moved_by};
+ghost use Rattle.office_books.specs.Readings.{judgement};
+ghost use Rattle.office_books.specs.Ranges.{IsSound};
+ghost use Rattle.office_books.specs.Steps.{moved_by};
 ghost use Rattle.office_books.specs.Sound.{MayEnter, MovesBy, StaysAt};
 
 use crate::soundness::is_sound;

@@ -1,6 +1,6 @@
 //! The state of a meter at its opening.
 ghost use Rattle.std.specs.Prelude.{◌≡◌, IsTrue};
-ghost use Rattle.office_rules.specs.Meters as meters;
+ghost use Rattle.office_books.specs.Meters as meters;
 ghost use Rattle.office_books.specs.Sound.{HasNumbers, as_begun};
 
 use crate::soundness::is_sound;

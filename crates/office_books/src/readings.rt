@@ -1,7 +1,7 @@
 //! Selects the accounting registers that a Modbus read covers.
 ghost use Rattle.std.specs.Prelude.{◌≡◌, ◌≤◌, IfOk};
 ghost use Rattle.std.specs.List.{filter};
-ghost use Rattle.office_rules.specs.Readings as readings;
+ghost use Rattle.office_books.specs.Readings as readings;
 
 use mb_wire::ReadSpan;
 use office_events::{Register, ScaleSource};

@@ -1,6 +1,6 @@
 //! Checks whether all numbers of a meter's state are in range.
 ghost use Rattle.std.specs.Prelude.{◌≡◌, false, IsTrue};
-ghost use Rattle.office_rules.specs.Ranges.{IsSound};
+ghost use Rattle.office_books.specs.Ranges.{IsSound};
 
 use energy_core::{MAX_CEILING, MAX_RANGE, MAX_SCALE, MAX_TOTAL, MIN_RANGE, MIN_SCALE};
 use office_events::Installation;

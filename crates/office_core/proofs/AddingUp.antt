@@ -12,12 +12,12 @@ use Rattle.energy_core.specs.Account.{last_of, recorded, set_anew}
 use Rattle.interval_core.specs.Account.{energy_of}
 use Rattle.office_events.specs.declared.facts.Opening.{Opening}
 use Rattle.office_events.specs.declared.facts.Fact.{Fact}
-use Rattle.office_rules.specs.Facts.{openings_in}
-use Rattle.office_rules.specs.Intervals.{rows_of_opening}
-use Rattle.office_rules.specs.Meters.{opened, entries_of, installation_of}
-use Rattle.office_rules.specs.History.{History, facts_of}
-use Rattle.office_rules.specs.Laws.{IsKept}
-use Rattle.office_rules.specs.Lawfulness.{AreTrue}
+use Rattle.office_books.specs.Facts.{openings_in}
+use Rattle.office_books.specs.Intervals.{rows_of_opening}
+use Rattle.office_books.specs.Meters.{opened, entries_of, installation_of}
+use Rattle.office_books.specs.History.{History, facts_of}
+use Rattle.office_books.specs.Laws.{IsKept}
+use Rattle.office_books.specs.Lawfulness.{AreTrue}
 use Rattle.office_core.specs.Headline.{full_ranges, differences, AddsUp, HeadlineHolds}
 
 rolled : (x r s f : ℕ) (d : ℤ) → pos r -ℤ pos s ≡ pos f +ℤ d → pos (x + r) -ℤ pos s ≡ pos (x + f) +ℤ d

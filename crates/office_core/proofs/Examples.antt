@@ -9,7 +9,7 @@ use Rattle.meter_journal.specs.declared.lines.EntryKind.TheVariants.{Reading, Ma
 use Rattle.office_events.specs.declared.facts.Opening.{Opening}
 use Rattle.office_events.specs.declared.facts.Fact.{Fact}
 use Rattle.office_events.specs.declared.facts.Fact.TheVariants as fact
-use Rattle.office_rules.specs.Meters.{entries_of}
+use Rattle.office_books.specs.Meters.{entries_of}
 use Rattle.office_core.specs.Headline.{energy_booked, first_reading, last_reading, value, full_ranges, differences, AddsUp}
 
 abbrev m1 : List ℕ

@@ -4,8 +4,8 @@ use Rattle.std.proofs.Common.{◌≡◌, ◌⊎◌, zero, suc, List, [], ◌∷�
 use Rattle.std.specs.Prelude.{All}
 use Rattle.std.proofs.lemmas.List.Elements.{All-append}
 use Rattle.office_events.specs.declared.facts.Fact.{Fact}
-use Rattle.office_rules.specs.History.{History, Accepted, facts_of}
-use Rattle.office_rules.specs.Lawfulness.{IsPast}
+use Rattle.office_books.specs.History.{History, Accepted, facts_of}
+use Rattle.office_books.specs.Lawfulness.{IsPast}
 use Rattle.office_books.specs.declared.faults.BooksFault.{BooksFault}
 use Rattle.office_books.specs.Ledgers.{Ledger, OnlyReads, Moves}
 use Rattle.office_core.specs.Leaving.{MayBeLeft, StopLeaves, BooksStand, Leaves, LeftOnceDone, LeftOnceFailed}

@@ -1,3 +1,9 @@
+pub mod Consulting
+pub mod SessionsLemmas
+pub mod StartingLemmas
+pub mod SettlingLemmas
+pub mod CommandsLemmas
+pub mod OpeningLemmas
 pub mod Left
 pub mod Taken
 pub mod SeveralAsked

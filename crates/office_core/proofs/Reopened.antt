@@ -5,15 +5,15 @@ use Rattle.std.specs.declared.vec.Vec.{Vec}
 use Rattle.office_events.specs.declared.facts.Fact.{Fact}
 use Rattle.office_events.specs.declared.refusals.Refusal.{Refusal}
 use Rattle.office_events.specs.declared.refusals.Refusal.TheVariants as refusal
-use Rattle.office_rules.specs.History.{History, Opened, facts_of}
-use Rattle.office_rules.specs.Refusals.{opening_refusal_of}
-use Rattle.office_rules.specs.Lawfulness.{IsPast}
-use Rattle.office_booking.specs.declared.sessions.slots.Slot.{Slot}
+use Rattle.office_books.specs.History.{History, Opened, facts_of}
+use Rattle.office_books.specs.Refusals.{opening_refusal_of}
+use Rattle.office_books.specs.Lawfulness.{IsPast}
+use Rattle.office_core.specs.declared.sessions.slots.Slot.{Slot}
 use Rattle.office_books.specs.declared.faults.BooksFault.{BooksFault}
 use Rattle.office_books.specs.declared.faults.BooksFault.TheVariants.{Store, Memory}
 use Rattle.office_books.specs.Faults.{FailuresAfterCalls, as_refusal}
 use Rattle.office_books.specs.Ledgers.{Ledger, OnlyReads}
-use Rattle.office_booking.specs.Opening.OpenedOffice.{MayOpen, Opens}
+use Rattle.office_core.specs.Opening.OpenedOffice.{MayOpen, Opens}
 use Rattle.office_core.specs.Leaving.{BooksStand, Leaves, LeftByOpening, LeftOnceDone, LeftOnceFailed}
 use Rattle.office_core.specs.Reopening.{IsNotOpened, IsReopened}
 use Rattle.office_core.proofs.Left.{read_stand, moved_on, moved_not, done_left, failed_left, read_first}

@@ -15,7 +15,7 @@ use Rattle.office_events.specs.declared.facts.Fact.{Fact}
 use Rattle.office_events.specs.declared.facts.Fact.TheVariants as fact
 use Rattle.office_events.specs.declared.refusals.Refusal.TheVariants as refusal
 use Rattle.office_events.specs.declared.refusals.StoreCause.TheVariants as store
-use Rattle.office_rules.specs.History.{History, Opened, Fed, facts_of}
+use Rattle.office_books.specs.History.{History, Opened, Fed, facts_of}
 use Rattle.office_core.specs.Leaving.{LeftOnceDone, LeftOnceFailed}
 use Rattle.office_core.specs.EventRun.{Answered, LeftInTurn}
 

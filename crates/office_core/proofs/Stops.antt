@@ -8,9 +8,9 @@ use Rattle.office_events.specs.declared.events.Event.{Event}
 use Rattle.office_events.specs.declared.facts.Fact.{Fact}
 use Rattle.office_events.specs.declared.refusals.Refusal.{Refusal}
 use Rattle.office_events.specs.declared.refusals.Refusal.TheVariants as refusal
-use Rattle.office_rules.specs.History.{History, Accepted, Opened, Fed, facts_of}
-use Rattle.office_rules.specs.Refusals.{with_answer}
-use Rattle.office_rules.specs.Lawfulness.{IsPast}
+use Rattle.office_books.specs.History.{History, Accepted, Opened, Fed, facts_of}
+use Rattle.office_books.specs.Refusals.{with_answer}
+use Rattle.office_books.specs.Lawfulness.{IsPast}
 use Rattle.office_core.specs.Failing.{is_failure}
 use Rattle.office_core.specs.Leaving.{LeftOnceDone, LeftOnceFailed, LeftByEvent}
 use Rattle.office_core.specs.EventRun.{Answered, LeftInTurn, history_after}

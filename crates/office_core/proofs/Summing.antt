@@ -19,9 +19,9 @@ use Rattle.interval_core.specs.declared.shares.Share.{Share}
 use Rattle.interval_core.specs.declared.zone.Zone.{Zone}
 use Rattle.interval_core.specs.declared.totals.DayTotal.{DayTotal}
 use Rattle.office_events.specs.declared.refusals.Refusal.{Refusal}
-use Rattle.office_rules.specs.Facts.{moment_limit}
-use Rattle.office_rules.specs.Intervals.{rows_of_register}
-use Rattle.office_rules.specs.Registers.{CanBeFolded, RegistersAreInTurn}
+use Rattle.office_books.specs.Facts.{moment_limit}
+use Rattle.office_books.specs.Intervals.{rows_of_register}
+use Rattle.office_books.specs.Registers.{CanBeFolded, RegistersAreInTurn}
 use Rattle.office_books.specs.declared.spans.Span.{Span}
 use Rattle.office_books.specs.declared.spans.Span.TheVariants.{All, Between}
 use Rattle.office_books.specs.Ledgers.{Ledger, OnlyReads}

@@ -8,20 +8,20 @@ use Rattle.office_events.specs.declared.events.Event.TheVariants as event
 use Rattle.office_events.specs.declared.facts.Fact.{Fact}
 use Rattle.office_events.specs.declared.refusals.Refusal.{Refusal}
 use Rattle.office_events.specs.declared.refusals.Refusal.TheVariants as refusal
-use Rattle.office_rules.specs.Sessions.{Slot, command_in}
-use Rattle.office_rules.specs.History.{History, Fed, facts_of, slots_of, next_poll, settled_on}
-use Rattle.office_rules.specs.Refusals.{IsAccepted, refusal_of, unless_kept, unless_refused, decision_of, answer_of, is_start}
-use Rattle.office_rules.specs.Lawfulness.{IsPast, PutsPlanned}
+use Rattle.office_books.specs.Sessions.{Slot, command_in}
+use Rattle.office_books.specs.History.{History, Fed, facts_of, slots_of, next_poll, settled_on}
+use Rattle.office_books.specs.Refusals.{IsAccepted, refusal_of, unless_kept, unless_refused, decision_of, answer_of, is_start}
+use Rattle.office_books.specs.Lawfulness.{IsPast, PutsPlanned}
 use Rattle.office_books.specs.declared.faults.BooksFault.{BooksFault}
 use Rattle.office_books.specs.declared.faults.BooksFault.TheVariants.{Store, Memory}
 use Rattle.office_books.specs.declared.faults.StoreFault.TheVariants.{Refused, Damaged}
 use Rattle.office_books.specs.declared.failures.Failures.{Failures}
 use Rattle.office_books.specs.Faults.{FailuresAfterCalls, as_refusal, faults_after}
-use Rattle.office_rules.specs.Refusals.{with_answer}
-use Rattle.office_rules.specs.Notes.{notes_of, outgoing_of, notes_after, outgoing_after}
-use Rattle.office_booking.specs.Sessions.Keeping.{KeepsSlots}
+use Rattle.office_books.specs.Refusals.{with_answer}
+use Rattle.office_books.specs.Notes.{notes_of, outgoing_of, notes_after, outgoing_after}
+use Rattle.office_core.specs.Sessions.Keeping.{KeepsSlots}
 use Rattle.office_books.specs.Ledgers.{Ledger, KeepsFacts, Moves}
-use Rattle.office_booking.specs.Settling.Settling.{SettleNothing}
+use Rattle.office_core.specs.Settling.Settling.{SettleNothing}
 use Rattle.poll_core.specs.Settling as session
 use Rattle.office_events.specs.declared.facts.Device.{Device}
 use Rattle.office_core.specs.declared.office.Office.{Office}

@@ -12,7 +12,7 @@ use Rattle.interval_core.specs.declared.totals.DayTotal.{DayTotal}
 use Rattle.office_events.specs.declared.refusals.Refusal.{Refusal}
 use Rattle.office_events.specs.declared.refusals.Refusal.TheVariants as refusal
 use Rattle.office_events.specs.declared.refusals.StoreCause.TheVariants as store
-use Rattle.office_rules.specs.Facts.{moment_limit}
+use Rattle.office_books.specs.Facts.{moment_limit}
 use Rattle.office_core.specs.declared.day_sink.DaySink.{DaySink}
 
 -- True if the interval row may be added after the given rows. It starts no earlier than any of the

@@ -15,11 +15,11 @@ use Rattle.energy_core.specs.Value.{unit_of, value_of}
 use Rattle.energy_core.specs.Account.{last_of}
 use Rattle.office_events.specs.declared.facts.Opening.{Opening}
 use Rattle.office_events.specs.declared.facts.Fact.{Fact}
-use Rattle.office_rules.specs.Facts.{polls_in, openings_in}
-use Rattle.office_rules.specs.Meters.{opened, entries_of}
-use Rattle.office_rules.specs.Intervals.{rows_of_opening}
-use Rattle.office_rules.specs.History.{History, facts_of}
-use Rattle.office_rules.specs.Endings.{EndsOnce}
+use Rattle.office_books.specs.Facts.{polls_in, openings_in}
+use Rattle.office_books.specs.Meters.{opened, entries_of}
+use Rattle.office_books.specs.Intervals.{rows_of_opening}
+use Rattle.office_books.specs.History.{History, facts_of}
+use Rattle.office_books.specs.Endings.{EndsOnce}
 
 -- The meter's "booked energy over all intervals": the sum over all quarter hours, in mWh.
 abbrev pub energy_booked : List Fact → Opening → ℕ

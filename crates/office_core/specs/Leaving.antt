@@ -6,8 +6,8 @@ use Rattle.office_events.specs.declared.events.Event.{Event}
 use Rattle.office_events.specs.declared.facts.Fact.{Fact}
 use Rattle.office_events.specs.declared.refusals.Refusal.{Refusal}
 use Rattle.office_events.specs.declared.refusals.Refusal.TheVariants as refusal
-use Rattle.office_rules.specs.History.{History, Accepted, Opened, Fed, facts_of}
-use Rattle.office_rules.specs.Lawfulness.{IsPast}
+use Rattle.office_books.specs.History.{History, Accepted, Opened, Fed, facts_of}
+use Rattle.office_books.specs.Lawfulness.{IsPast}
 use Rattle.office_books.specs.Ledgers.{Ledger}
 
 -- True if `facts` are the records of `past` and of one more event or opening. That event may follow

@@ -1,3 +1,8 @@
+pub mod Sessions
+pub mod Starting
+pub mod Settling
+pub mod Commands
+pub mod Opening
 pub mod Events
 pub mod Failing
 pub mod Leaving

@@ -1,7 +1,7 @@
 -- The effect of several queries in a row on the office.
 use Rattle.std.specs.Prelude.{◌≡◌, Result, Ok, Err}
 use Rattle.office_events.specs.declared.refusals.Refusal.{Refusal}
-use Rattle.office_rules.specs.History.{History}
+use Rattle.office_books.specs.History.{History}
 use Rattle.office_books.specs.Ledgers.{KeepsFacts, Ledger}
 use Rattle.office_core.specs.Asking.{OnlyAsks}
 use Rattle.office_core.specs.Standing.{Stands, books_in, is_stopped, notes_in, outgoing_in}

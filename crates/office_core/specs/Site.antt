@@ -7,9 +7,9 @@ use Rattle.office_events.specs.declared.facts.Device.{Device}
 use Rattle.office_events.specs.declared.facts.Fact.{Fact}
 use Rattle.office_events.specs.declared.facts.Register.{Register}
 use Rattle.office_events.specs.declared.refusals.Refusal.{Refusal}
-use Rattle.office_rules.specs.Facts.{devices_in, registers_of}
-use Rattle.office_rules.specs.History.{facts_of}
-use Rattle.office_rules.specs.Meters.{installation_at}
+use Rattle.office_books.specs.Facts.{devices_in, registers_of}
+use Rattle.office_books.specs.History.{facts_of}
+use Rattle.office_books.specs.Meters.{installation_at}
 use Rattle.office_books.specs.declared.failures.Failures.{Failures}
 use Rattle.office_books.specs.Ledgers.{Ledger}
 use Rattle.office_core.specs.declared.office.Office.{Office}

@@ -1,8 +1,8 @@
 -- The state of the office after a history of accepted events.
 use Rattle.std.specs.Prelude.{◌≡◌, ℕ, Bool, false, List, []}
 use Rattle.office_events.specs.declared.answers.Note.{Note}
-use Rattle.office_rules.specs.History.{History, slots_of, latest_of}
-use Rattle.office_booking.specs.Sessions.Keeping.{KeepsSlots}
+use Rattle.office_books.specs.History.{History, slots_of, latest_of}
+use Rattle.office_core.specs.Sessions.Keeping.{KeepsSlots}
 use Rattle.office_books.specs.Ledgers.{Ledger}
 use Rattle.office_core.specs.declared.office.Office.{Office}
 use Rattle.office_core.specs.Leaving.{BooksStand}

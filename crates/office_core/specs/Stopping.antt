@@ -2,9 +2,9 @@
 -- acknowledged events, and possibly the complete records of one failed event.
 use Rattle.std.specs.Prelude.{◌≡◌, ◌⊎◌, ℕ, true, List, [], ◌∷◌, All, Contains}
 use Rattle.office_events.specs.declared.facts.Fact.{Fact}
-use Rattle.office_rules.specs.History.{History, Opened, Fed, facts_of}
-use Rattle.office_rules.specs.Refusals.{with_answer}
-use Rattle.office_rules.specs.Lawfulness.{IsPast}
+use Rattle.office_books.specs.History.{History, Opened, Fed, facts_of}
+use Rattle.office_books.specs.Refusals.{with_answer}
+use Rattle.office_books.specs.Lawfulness.{IsPast}
 use Rattle.office_core.specs.Failing.{is_failure}
 use Rattle.office_core.specs.EventRun.{Answered, LeftByRun, LeftInTurn, history_after}
 

@@ -4,14 +4,14 @@ use Rattle.office_events.specs.declared.answers.Answer.{Answer}
 use Rattle.office_events.specs.declared.events.Event.{Event}
 use Rattle.office_events.specs.declared.refusals.Refusal.{Refusal}
 use Rattle.office_events.specs.declared.refusals.Refusal.TheVariants as refusal
-use Rattle.office_rules.specs.History.{History, facts_of, slots_of, next_poll}
-use Rattle.office_rules.specs.Refusals.{IsAccepted, decision_of, refusal_of, with_answer}
-use Rattle.office_rules.specs.Notes.{notes_after, outgoing_after}
-use Rattle.office_rules.specs.Sessions.{command_in}
-use Rattle.office_rules.specs.Lawfulness.{PutsPlanned}
+use Rattle.office_books.specs.History.{History, facts_of, slots_of, next_poll}
+use Rattle.office_books.specs.Refusals.{IsAccepted, decision_of, refusal_of, with_answer}
+use Rattle.office_books.specs.Notes.{notes_after, outgoing_after}
+use Rattle.office_books.specs.Sessions.{command_in}
+use Rattle.office_books.specs.Lawfulness.{PutsPlanned}
 use Rattle.office_books.specs.declared.failures.Failures.{Failures}
 use Rattle.office_books.specs.Ledgers.{Ledger}
-use Rattle.office_booking.specs.Settling.Settling.{SettleNothing}
+use Rattle.office_core.specs.Settling.Settling.{SettleNothing}
 use Rattle.office_core.specs.declared.office.Office.{Office}
 use Rattle.office_core.specs.Events.{is_command}
 use Rattle.office_core.specs.Failing.{Counts, FailsOutside, IsNotStopped, IsNotForWantOfDay, is_failure, stops}

@@ -1,16 +1,16 @@
 //! Decides whether an event is accepted, before the office executes the event.
 ghost use Rattle.std.specs.Prelude.{◌≡◌, None, false, IfOk, IfSome};
-ghost use Rattle.office_rules.specs.Sessions.{command_in};
-ghost use Rattle.office_booking.specs.Sessions.Places.{AsksOnSlot};
-ghost use Rattle.office_booking.specs.Sessions.Ranges.{IsInRange};
-ghost use Rattle.office_rules.specs.Lawfulness.{PutsPlanned};
+ghost use Rattle.office_books.specs.Sessions.{command_in};
+ghost use Rattle.office_core.specs.Sessions.Places.{AsksOnSlot};
+ghost use Rattle.office_core.specs.Sessions.Ranges.{IsInRange};
+ghost use Rattle.office_books.specs.Lawfulness.{PutsPlanned};
 ghost use Rattle.office_books.specs.Ledgers.{OnlyReads};
 ghost use Rattle.office_core.specs.Events as events;
 ghost use Rattle.office_core.specs.Failing as failing;
 ghost use Rattle.office_core.specs.Decisions.{Decided, DecidesAlone, IsNoChange};
 
 use crate::refusing::{kept, refusal};
-use office_booking::{Slot, puts_planned};
+use crate::{Slot, puts_planned};
 use office_books::{Books, BooksFault};
 use office_events::{Answer, Event, Refusal};
 

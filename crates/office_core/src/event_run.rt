@@ -1,6 +1,6 @@
 //! Opens an office over a store and processes a list of events.
 ghost use Rattle.std.specs.Prelude.{◌∷◌, Err, IfOk, IfErr};
-ghost use Rattle.office_rules.specs.History.{History, Opened};
+ghost use Rattle.office_books.specs.History.{History, Opened};
 ghost use Rattle.office_core.specs.Leaving.{BooksStand};
 ghost use Rattle.office_core.specs.Reopening.{Passed};
 ghost use Rattle.office_core.specs.EventRun.{AnswersEach, EndsInTurn, HandsBack, LeavesInTurn, Ran};
@@ -8,9 +8,8 @@ ghost use Rattle.office_core.specs.EventRun.{RecordsAccepted, StandsAfter};
 
 use crate::office::Office;
 use crate::results::Run;
-use office_books::Books;
+use office_books::{Books, books_are_true};
 use office_events::{Event, Refusal};
-use office_rules::books_are_true;
 use std::alloc::Global;
 
 /// Opens an office over a store and processes these events, each at its timestamp.

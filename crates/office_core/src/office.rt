@@ -2,14 +2,14 @@
 ghost use Rattle.std.specs.Prelude.{◌≡◌, ◌≤◌, ◌∷◌, true, false, None, Ok, Err};
 ghost use Rattle.std.specs.Prelude.{IfOk, IfErr, MatchResult};
 ghost use Rattle.std.specs.Option.{option_and_then};
-ghost use Rattle.office_rules.specs.Facts.{device_of, register_of, moment_limit};
-ghost use Rattle.office_rules.specs.History.{History, Opened};
-ghost use Rattle.office_rules.specs.Meters.{meter_of, installation_at};
-ghost use Rattle.office_rules.specs.Readings.{poll_row_of};
-ghost use Rattle.office_rules.specs.Refusals.{refusal_of, with_answer};
-ghost use Rattle.office_rules.specs.Sessions.{command_in};
-ghost use Rattle.office_booking.specs.Sessions.Places.{AsksOnSlot};
-ghost use Rattle.office_booking.specs.Sessions.Ranges.{AsksInRange};
+ghost use Rattle.office_books.specs.Facts.{device_of, register_of, moment_limit};
+ghost use Rattle.office_books.specs.History.{History, Opened};
+ghost use Rattle.office_books.specs.Meters.{meter_of, installation_at};
+ghost use Rattle.office_books.specs.Readings.{poll_row_of};
+ghost use Rattle.office_books.specs.Refusals.{refusal_of, with_answer};
+ghost use Rattle.office_books.specs.Sessions.{command_in};
+ghost use Rattle.office_core.specs.Sessions.Places.{AsksOnSlot};
+ghost use Rattle.office_core.specs.Sessions.Ranges.{AsksInRange};
 ghost use Rattle.office_books.specs.Repeats.{repeat_of};
 ghost use Rattle.office_core.specs.Asking.{OnlyAsks, TakesRows, intervals_of};
 ghost use Rattle.office_core.specs.Asking.{ReportsRow, ReportsDays, ReportsRows};
@@ -31,14 +31,12 @@ ghost use Rattle.office_core.specs.Taking.{TakesAccepted, TakesAny};
 use crate::decisions::{decide, is_command, prove_list_is_planned, stops};
 use crate::reopened_office::reopen;
 use crate::site::SiteRow;
-use crate::{questions, site};
+use crate::{Outgoing, Slot, carry_out, questions, settle_event, site};
 use interval_core::{DayRange, DayTotal, Share};
-use office_booking::{Outgoing, Slot, carry_out, settle_event};
-use office_books::{Books, MeterEntry, Repeat, RowSink, Span};
+use office_books::{Books, MeterEntry, Repeat, RowSink, Span, facts_are_lawful};
 use office_events::{
     Answer, Device, Event, HeldReading, Installation, Name, Note, PollRow, Refusal, Register,
 };
-use office_rules::facts_are_lawful;
 use std::alloc::Global;
 
 /// An office, which accepts events, polls devices, and records the energy of their meters.

@@ -1,9 +1,9 @@
 //! Answers queries from the store.
 ghost use Rattle.std.specs.Prelude.{◌≡◌, ◌<◌, ◌^◌, length, find, reverse, IfErr};
 ghost use Rattle.std.specs.Option.{option_and_then};
-ghost use Rattle.office_rules.specs.Facts.{device_of, register_of, same};
-ghost use Rattle.office_rules.specs.Meters.{meter_of, installation_at};
-ghost use Rattle.office_rules.specs.Readings.{poll_row_of};
+ghost use Rattle.office_books.specs.Facts.{device_of, register_of, same};
+ghost use Rattle.office_books.specs.Meters.{meter_of, installation_at};
+ghost use Rattle.office_books.specs.Readings.{poll_row_of};
 ghost use Rattle.office_books.specs.Ledgers.{Finds, OnlyReads};
 ghost use Rattle.office_books.specs.Repeats.{repeat_of};
 ghost use Rattle.office_books.specs.Rows.{TakesAll};
@@ -17,9 +17,8 @@ ghost use Rattle.office_core.specs.Parts.{meters_named};
 use crate::day_range::{keep_within, span_around};
 use crate::day_sink::DaySink;
 use interval_core::{DayRange, DayTotal, Share, accounts_are_one};
-use office_books::{Books, BooksFault, MeterEntry, Repeat, RowSink, Span};
+use office_books::{Books, BooksFault, MeterEntry, Repeat, RowSink, Span, registers_are_in_turn};
 use office_events::{Device, HeldReading, Installation, Name, PollRow, Refusal, Register};
-use office_rules::registers_are_in_turn;
 use std::alloc::Global;
 
 /// Returns the office's answer for this result of a lookup: the row, `NotFound`, or the refusal
@@ -35,7 +34,7 @@ fn found<T: Drop>(answer: Result<Option<T>, BooksFault>) -> Result<T, Refusal>
 }
 
 /// Returns the last device with this name in a list, or `None` if no device has the name.
-#[tactic(auto, using(office_rules::proofs::Lists::find_more))]
+#[tactic(auto, using(office_books::proofs::Lists::find_more))]
 fn last_named(devices: &[Device], name: &Name) -> Option<Device>
     ensures { result ≡ find (λ device. same device.name name.now) (reverse devices.now) }
 {

@@ -1,9 +1,9 @@
 //! Opens an office over a store that may already have records.
-ghost use Rattle.office_rules.specs.History.{History};
+ghost use Rattle.office_books.specs.History.{History};
 ghost use Rattle.office_core.specs.Leaving.{BooksStand};
 ghost use Rattle.office_core.specs.Reopening.{Passed, Reopens};
 
-use office_booking::{Slot, book_opening, opening_refusal};
+use crate::{Slot, book_opening, opening_refusal};
 use office_books::Books;
 use office_events::Refusal;
 use std::alloc::Global;

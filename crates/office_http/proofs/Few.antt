@@ -9,13 +9,13 @@ use Rattle.meter_journal.specs.Laws.{IntervalRowsAreAccounts}
 use Rattle.meter_journal.specs.Changes.{LiesWithin, RowsLieWithin, VoidsGoNoFurther}
 use Rattle.office_events.specs.declared.facts.Opening.{Opening}
 use Rattle.office_events.specs.declared.facts.Fact.{Fact}
-use Rattle.office_rules.specs.Facts.{latest_in, moment_limit, opening_of, openings_in, same}
-use Rattle.office_rules.specs.Meters.{installed, journal_of}
-use Rattle.office_rules.specs.Intervals.{rows_of_opening}
-use Rattle.office_rules.specs.Lawful.{AreLawful}
-use Rattle.office_rules.proofs.InTurn.{last_at, last_is_recorded}
-use Rattle.office_rules.proofs.Journals.{IsInstalled, installed_fits, well}
-use Rattle.office_rules.proofs.Lookups.{find_passes, same_text}
+use Rattle.office_books.specs.Facts.{latest_in, moment_limit, opening_of, openings_in, same}
+use Rattle.office_books.specs.Meters.{installed, journal_of}
+use Rattle.office_books.specs.Intervals.{rows_of_opening}
+use Rattle.office_books.specs.Lawful.{AreLawful}
+use Rattle.office_books.proofs.InTurn.{last_at, last_is_recorded}
+use Rattle.office_books.proofs.Journals.{IsInstalled, installed_fits, well}
+use Rattle.office_books.proofs.Lookups.{find_passes, same_text}
 use Rattle.office_core.specs.Asking.{intervals_of, rows_in}
 
 -- Theorems on the journal of a meter, which is the history of its entries. They bound the number of

@@ -9,8 +9,8 @@ use Rattle.interval_core.specs.Report.{day_line}
 use Rattle.office_events.specs.declared.refusals.Refusal.{Refusal}
 use Rattle.office_events.specs.declared.refusals.Refusal.TheVariants as refusal
 use Rattle.office_events.specs.declared.facts.Register.{Register}
-use Rattle.office_rules.specs.Facts.{register_of}
-use Rattle.office_rules.specs.History.{History, facts_of}
+use Rattle.office_books.specs.Facts.{register_of}
+use Rattle.office_books.specs.History.{History, facts_of}
 use Rattle.office_books.specs.Ledgers.{Ledger}
 use Rattle.office_books.specs.Rows.{TakesAll}
 use Rattle.office_core.specs.Asking.{HandsDays, HandsRows, IsFound, is_there, or_not_found, rows_in}
@@ -19,14 +19,14 @@ use Rattle.office_core.specs.Standing.{books_in, is_stopped}
 use Rattle.office_core.specs.Taking.{failures_of}
 use Rattle.office_core.specs.declared.office.Office.{Office as Run}
 use Rattle.interval_core.specs.Lines.{days_text, end_line}
-use Rattle.http_answer.specs.Sending.Replies.{text_head}
-use Rattle.http_answer.specs.Sending.Sending as sending
-use Rattle.http_answer.specs.Sending.Sending.{OnlyGives, Outgoing}
-use Rattle.http_answer.proofs.SendingLemmas.Giving.{Puts-none, Puts-then}
-use Rattle.http_request.specs.Routing.Routes.{routes}
-use Rattle.http_answer.specs.Offices.{Office}
-use Rattle.http_answer.specs.Replies.{lines_reply, refused, reply_bytes}
-use Rattle.http_answer.specs.Whole.{IsReply}
+use Rattle.http_messages.specs.Sending.Replies.{text_head}
+use Rattle.http_messages.specs.Sending.Sending as sending
+use Rattle.http_messages.specs.Sending.Sending.{OnlyGives, Outgoing}
+use Rattle.http_messages.proofs.SendingLemmas.Giving.{Puts-none, Puts-then}
+use Rattle.http_messages.specs.Routing.Routes.{routes}
+use Rattle.http_messages.specs.Offices.{Office}
+use Rattle.http_messages.specs.Replies.{lines_reply, refused, reply_bytes}
+use Rattle.http_messages.specs.WholeResponses.{IsReply}
 use Rattle.office_http.specs.Rows.Reports.{EndsReport, PutsLine, Report, counted, head_before, rows_begun}
 use Rattle.office_http.proofs.RowsLemmas.Reports.{first_put}
 use Rattle.office_http.specs.Wants.Wanting.{AsksNothing}

@@ -6,20 +6,20 @@ use Rattle.office_events.specs.declared.events.Asked.{Asked}
 use Rattle.office_events.specs.declared.events.Event.TheVariants as event
 use Rattle.office_events.specs.declared.refusals.Refusal.{Refusal}
 use Rattle.office_events.specs.declared.refusals.Refusal.TheVariants as refusal
-use Rattle.office_rules.specs.History.{History}
-use Rattle.office_rules.specs.Refusals.{IsAccepted, with_answer}
+use Rattle.office_books.specs.History.{History}
+use Rattle.office_books.specs.Refusals.{IsAccepted, with_answer}
 use Rattle.office_books.specs.Ledgers.{Ledger, KeepsFacts}
 use Rattle.office_core.specs.Asking.{IsRowFound, OnlyAsks, or_not_found}
 use Rattle.office_core.specs.Standing.{Stands, books_in, is_stopped}
 use Rattle.office_core.specs.Taking.{Ends, IsAnswer, LeavesEvent, failures_of}
 use Rattle.office_core.specs.declared.office.Office.{Office as Run}
 use Rattle.office_core.proofs.Taken.{outside_more}
-use Rattle.http_answer.specs.declared.commands.fault.CommandFault.{CommandFault}
-use Rattle.http_request.specs.Routing.Routes.{routes}
-use Rattle.http_answer.specs.Kinds.{done_text}
-use Rattle.http_answer.specs.Offices.{Office}
-use Rattle.http_answer.specs.Replies.{fault_said, refused, reply_bytes, row_reply}
-use Rattle.http_answer.specs.Whole.{IsReply}
+use Rattle.http_messages.specs.declared.commands.fault.CommandFault.{CommandFault}
+use Rattle.http_messages.specs.Routing.Routes.{routes}
+use Rattle.http_messages.specs.Kinds.{done_text}
+use Rattle.http_messages.specs.Offices.{Office}
+use Rattle.http_messages.specs.Replies.{fault_said, refused, reply_bytes, row_reply}
+use Rattle.http_messages.specs.WholeResponses.{IsReply}
 use Rattle.office_http.specs.Wants.Wanting.{AsksNothing, IsAskedFor, IsNoCommand}
 use Rattle.office_http.specs.Answering.{AnswersAt, reported}
 use Rattle.office_http.specs.Serving.{Lasts, Serves}

@@ -12,14 +12,14 @@ use Rattle.office_events.specs.declared.facts.Fact.{Fact}
 use Rattle.office_events.specs.declared.refusals.Refusal.{Refusal}
 use Rattle.office_events.specs.declared.refusals.Refusal.TheVariants as refusal
 use Rattle.office_events.specs.declared.refusals.StoreCause.TheVariants as store
-use Rattle.office_rules.specs.Facts.{register_of}
-use Rattle.office_rules.specs.History.{History, facts_of}
-use Rattle.office_rules.specs.Meters.{meter_of}
-use Rattle.office_rules.specs.Readings.{poll_row_of}
-use Rattle.office_rules.specs.Refusals.{decision_of}
+use Rattle.office_books.specs.Facts.{register_of}
+use Rattle.office_books.specs.History.{History, facts_of}
+use Rattle.office_books.specs.Meters.{meter_of}
+use Rattle.office_books.specs.Readings.{poll_row_of}
+use Rattle.office_books.specs.Refusals.{decision_of}
 use Rattle.office_core.specs.Asking.{AreDaysNamed, intervals_of, or_not_found}
-use Rattle.http_answer.specs.Kinds.{kind_answered}
-use Rattle.http_answer.specs.Offices.{Office}
+use Rattle.http_messages.specs.Kinds.{kind_answered}
+use Rattle.http_messages.specs.Offices.{Office}
 
 -- The result of an executed command: its kind. A command's answer lacks the kind only if the store
 -- returned wrong data, so the result is then a damaged store.

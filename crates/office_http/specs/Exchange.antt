@@ -6,20 +6,20 @@ use Rattle.mb_wire.specs.declared.link.LastTake.{LastTake}
 use Rattle.mb_wire.specs.declared.link.LinkFailed.{LinkFailed}
 use Rattle.office_events.specs.declared.refusals.Refusal.{Refusal}
 use Rattle.office_events.specs.declared.refusals.Refusal.TheVariants as refusal
-use Rattle.office_rules.specs.History.{History}
+use Rattle.office_books.specs.History.{History}
 use Rattle.office_books.specs.Ledgers.{Ledger}
 use Rattle.office_core.specs.Standing.{After}
 use Rattle.office_core.specs.declared.office.Office.{Office}
-use Rattle.http_request.specs.Head.Heads.{Looks, is_open}
-use Rattle.http_request.specs.declared.head.head.HeadState.{HeadState}
-use Rattle.http_request.specs.Reading.HeadAndBody.{TakesWhatLacks}
-use Rattle.http_request.specs.declared.reading.inbox.TheConstants.{MOST_TAKES}
-use Rattle.http_request.specs.declared.reading.inbox.TakeFault.{TakeFault}
-use Rattle.http_request.specs.declared.reading.inbox.TakeFault.TheVariants as take
-use Rattle.http_answer.specs.Sending.Giving.{Gives}
-use Rattle.http_request.specs.Routing.Routes.{routes}
-use Rattle.http_request.specs.Whole.Whole.{IsUnfinished}
-use Rattle.http_answer.specs.Replies.{refused, reply_bytes}
+use Rattle.http_messages.specs.Head.Heads.{Looks, is_open}
+use Rattle.http_messages.specs.declared.head.head.HeadState.{HeadState}
+use Rattle.http_messages.specs.Reading.HeadAndBody.{TakesWhatLacks}
+use Rattle.http_messages.specs.declared.reading.inbox.TheConstants.{MOST_TAKES}
+use Rattle.http_messages.specs.declared.reading.inbox.TakeFault.{TakeFault}
+use Rattle.http_messages.specs.declared.reading.inbox.TakeFault.TheVariants as take
+use Rattle.http_messages.specs.Sending.Giving.{Gives}
+use Rattle.http_messages.specs.Routing.Routes.{routes}
+use Rattle.http_messages.specs.Whole.Whole.{IsUnfinished}
+use Rattle.http_messages.specs.Replies.{refused, reply_bytes}
 use Rattle.office_http.specs.Serving.{Serves}
 use Rattle.office_http.specs.declared.fault.HandleFault.{HandleFault}
 use Rattle.office_http.specs.declared.fault.HandleFault.TheVariants.{Read, Write, Short, TurnsUsed, Cut}

@@ -1,8 +1,8 @@
 -- States that a request has only one response.
 use Rattle.std.specs.Prelude.{◌≡◌, ℕ, List}
-use Rattle.http_request.specs.Routing.Routes.{routes}
-use Rattle.http_answer.specs.Offices.{Office}
-use Rattle.http_answer.specs.Whole.{IsReply}
+use Rattle.http_messages.specs.Routing.Routes.{routes}
+use Rattle.http_messages.specs.Offices.{Office}
+use Rattle.http_messages.specs.WholeResponses.{IsReply}
 
 -- If two requests are equal and the program's answers to them are equal, then their responses are
 -- equal.

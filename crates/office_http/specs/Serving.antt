@@ -6,8 +6,8 @@ use Rattle.office_events.specs.declared.events.Asked.{Asked}
 use Rattle.office_events.specs.declared.events.Event.TheVariants as event
 use Rattle.office_events.specs.declared.refusals.Refusal.{Refusal}
 use Rattle.office_events.specs.declared.refusals.Refusal.TheVariants as refusal
-use Rattle.office_rules.specs.History.{History}
-use Rattle.office_rules.specs.Refusals.{decision_of, with_answer}
+use Rattle.office_books.specs.History.{History}
+use Rattle.office_books.specs.Refusals.{decision_of, with_answer}
 use Rattle.office_books.specs.declared.failures.Failures.{Failures}
 use Rattle.office_books.specs.Ledgers.{Ledger, KeepsFacts}
 use Rattle.office_core.specs.Failing.{IsOutside}
@@ -16,12 +16,12 @@ use Rattle.office_core.specs.Standing.{After, Stands, books_in, is_stopped}
 use Rattle.office_core.specs.Taking.{failures_of}
 use Rattle.office_core.specs.declared.office.Office.{Office as Run}
 use Rattle.interval_core.specs.Lines.{days_text, end_line, intervals_text}
-use Rattle.http_answer.specs.Sending.Sending as sending
-use Rattle.http_answer.specs.Sending.Sending.{OnlyGives, Outgoing}
-use Rattle.http_request.specs.Routing.Routes.{routes}
-use Rattle.http_answer.specs.Offices.{Office}
-use Rattle.http_answer.specs.Replies.{lines_reply, poll_reply, refused, reply_bytes}
-use Rattle.http_answer.specs.Whole.{IsReply}
+use Rattle.http_messages.specs.Sending.Sending as sending
+use Rattle.http_messages.specs.Sending.Sending.{OnlyGives, Outgoing}
+use Rattle.http_messages.specs.Routing.Routes.{routes}
+use Rattle.http_messages.specs.Offices.{Office}
+use Rattle.http_messages.specs.Replies.{lines_reply, poll_reply, refused, reply_bytes}
+use Rattle.http_messages.specs.WholeResponses.{IsReply}
 use Rattle.office_http.specs.Wants.Wanting.{AsksNothing, AsksOffice}
 use Rattle.office_http.specs.Answering.{AnswersAt}
 

@@ -1,23 +1,21 @@
 //! Executes the query or command of a request, and writes the response.
 ghost use Rattle.std.specs.Prelude.{◌≡◌};
-ghost use Rattle.http_request.specs.Routing.Routes.{routes};
+ghost use Rattle.http_messages.specs.Routing.Routes.{routes};
 ghost use Rattle.office_http.specs.Wants.Wanting.{IsAskedFor, IsQuestion, Wants, HasFewFaults};
 ghost use Rattle.office_http.specs.Answering as answering;
 ghost use Rattle.office_http.specs.Serving.{AreDaysAsked, AreIntervalsAsked, IsPollAsked, PutsReply};
 
 use crate::rows::{Replied, RowLines};
 use crate::wants::Want;
-use http_answer::{
-    ResponseWriter, append_fault, append_meter, append_poll, append_refusal, kind_answered,
-    name_asked, number_asked, write_command_fault, write_done,
+use http_messages::{
+    Found, ResponseWriter, Route, append_fault, append_meter, append_poll, append_refusal,
+    kind_answered, name_asked, number_asked, write_command_fault, write_done,
 };
-use http_request::{Found, Route};
 use mb_wire::Link;
 use meter_journal::{interval_rows_are_accounts, rows_lie_within, voids_go_no_further};
-use office_books::Books;
+use office_books::{Books, facts_are_lawful};
 use office_core::Office;
 use office_events::{Answer, Asked, CommandKind, Event, Name, Refusal, StoreCause};
-use office_rules::facts_are_lawful;
 
 // Converts the program's answer to a command into the command's kind. The answer `Noted` belongs to
 // no command, so it is reported as a damaged store.

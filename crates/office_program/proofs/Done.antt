@@ -3,7 +3,7 @@
 use Rattle.std.proofs.Common.{◌≡◌, inr, ℕ, List, Option, ◌∷◌, subst}
 use Rattle.command_io.specs.declared.status.ExitStatus.{ExitStatus}
 use Rattle.office_events.specs.Names.{named}
-use Rattle.office_rules.specs.History.{History, Opened}
+use Rattle.office_books.specs.History.{History, Opened}
 use Rattle.office_books.specs.Ledgers.{Ledger}
 use Rattle.office_core.specs.Reopening.{asking_moment}
 use Rattle.office_core.specs.Standing.{After, books_in}

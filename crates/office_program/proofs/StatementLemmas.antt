@@ -22,12 +22,12 @@ use Rattle.office_events.specs.declared.facts.Opening.{Opening}
 use Rattle.office_events.specs.declared.questions.Installation.{Installation}
 use Rattle.office_events.specs.declared.refusals.Refusal.{Refusal}
 use Rattle.office_events.specs.declared.refusals.Refusal.TheVariants as refusal
-use Rattle.office_rules.specs.Facts.{opening_of, openings_in, register_of, same}
-use Rattle.office_rules.specs.History.{facts_of}
-use Rattle.office_rules.specs.Intervals.{installations_at, rows_of_opening}
-use Rattle.office_rules.specs.Meters.{installation_of}
-use Rattle.office_rules.proofs.Lists.{reverse_cons}
-use Rattle.office_rules.proofs.Lookups.{same_itself}
+use Rattle.office_books.specs.Facts.{opening_of, openings_in, register_of, same}
+use Rattle.office_books.specs.History.{facts_of}
+use Rattle.office_books.specs.Intervals.{installations_at, rows_of_opening}
+use Rattle.office_books.specs.Meters.{installation_of}
+use Rattle.office_books.proofs.Lists.{reverse_cons}
+use Rattle.office_books.proofs.Lookups.{same_itself}
 use Rattle.office_books.specs.declared.entries.MeterEntry.{MeterEntry}
 use Rattle.office_books.specs.declared.failures.Failures.{Failures}
 use Rattle.office_books.specs.declared.spans.Span.{Span}

@@ -1,7 +1,7 @@
 -- The result of a command that serves HTTP on a port. The command opens an office, the engine that
 -- records meters' energy, over a store of its records.
 use Rattle.std.specs.Prelude.{◌≡◌, ℕ, List, Option}
-use Rattle.office_rules.specs.History.{History}
+use Rattle.office_books.specs.History.{History}
 use Rattle.office_books.specs.Ledgers.{Ledger}
 use Rattle.office_core.specs.Leaving.{BooksStand}
 use Rattle.office_core.specs.declared.office.Office.{Office}

@@ -1,3 +1,14 @@
+pub mod Faults
+pub mod FedEvents
+pub mod Course
+pub mod Rounds
+pub mod Passing
+pub mod DeviceRounds
+pub mod Polling
+pub mod Taking
+pub mod Stepping
+pub mod Between
+pub mod Driver
 pub mod Opened
 pub mod Entering
 pub mod Report

@@ -1,7 +1,7 @@
 -- The result of a command that opens an office (the engine that records meters' energy) over a
 -- store, uses the office, and returns the store.
 use Rattle.std.specs.Prelude.{◌≡◌, ℕ, List, ◌∷◌, Option}
-use Rattle.office_rules.specs.History.{History, Opened}
+use Rattle.office_books.specs.History.{History, Opened}
 use Rattle.office_books.specs.Ledgers.{Ledger}
 use Rattle.office_core.specs.Leaving.{BooksStand}
 use Rattle.office_core.specs.Reopening.{asking_moment}

@@ -4,14 +4,14 @@ use Rattle.std.specs.Prelude.{◌≡◌, ℕ, List, Option, Result}
 use Rattle.std.specs.declared.io.Write as writers
 use Rattle.socket_link.specs.declared.clock.Clock as clocks
 use Rattle.office_events.specs.Names.{named}
-use Rattle.office_rules.specs.History.{History}
+use Rattle.office_books.specs.History.{History}
 use Rattle.office_books.specs.Ledgers.{Ledger}
 use Rattle.office_books.specs.declared.books.Books as stores
 use Rattle.office_core.specs.Standing.{After}
 use Rattle.office_core.specs.Taking.{failures_of}
 use Rattle.office_core.specs.declared.office.Office.{Office}
-use Rattle.office_rounds.specs.Rounds.{Wire, round_state, passage}
-use Rattle.office_rounds.specs.declared.fault.RoundFault.{RoundFault}
+use Rattle.office_program.specs.Rounds.{Wire, round_state, passage}
+use Rattle.office_program.specs.declared.fault.RoundFault.{RoundFault}
 use Rattle.office_program.specs.Texts.OpenedOffice.{ReportsUnopened}
 use Rattle.office_program.specs.Texts.Rounds.{PollsRound}
 use Rattle.office_program.specs.Opened.{OverStanding, WithOffice}

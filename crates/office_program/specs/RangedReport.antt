@@ -6,7 +6,7 @@ use Rattle.socket_link.specs.declared.clock.Clock as clocks
 use Rattle.command_io.specs.declared.status.ExitStatus.{ExitStatus}
 use Rattle.energy_report.specs.declared.form.ReportForm.{ReportForm}
 use Rattle.office_events.specs.Names.{named}
-use Rattle.office_rules.specs.History.{History}
+use Rattle.office_books.specs.History.{History}
 use Rattle.office_books.specs.Ledgers.{Ledger}
 use Rattle.office_books.specs.declared.books.Books as stores
 use Rattle.office_core.specs.Standing.{Stands, books_in}

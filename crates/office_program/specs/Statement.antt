@@ -7,7 +7,7 @@ use Rattle.command_io.specs.declared.status.ExitStatus.{ExitStatus}
 use Rattle.energy_report.specs.declared.form.StatementForm.{StatementForm}
 use Rattle.interval_core.specs.declared.zone.Zone.{Zone}
 use Rattle.office_events.specs.Names.{named}
-use Rattle.office_rules.specs.History.{History}
+use Rattle.office_books.specs.History.{History}
 use Rattle.office_books.specs.Ledgers.{Ledger}
 use Rattle.office_books.specs.declared.books.Books as stores
 use Rattle.office_core.specs.Standing.{Stands}

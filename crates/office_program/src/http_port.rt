@@ -1,6 +1,6 @@
 //! Serves HTTP on a port, for an office (the engine that records meters' energy) that is opened
 //! over a store.
-ghost use Rattle.http_request.specs.Hosts.{texts};
+ghost use Rattle.http_messages.specs.Hosts.{texts};
 ghost use Rattle.office_core.specs.Standing.{After};
 ghost use Rattle.office_http.specs.Serving as http;
 ghost use Rattle.office_program.specs.Texts.Passing.{Lasts};

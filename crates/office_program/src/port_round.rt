@@ -1,6 +1,6 @@
 //! Polls a device once over TCP, for an office (the engine that records meters' energy) that is
 //! opened over a store.
-ghost use Rattle.office_rounds.specs.Passing as rounds;
+ghost use Rattle.office_program.specs.Passing as rounds;
 ghost use Rattle.office_program.specs.Texts.Passing.{Lasts};
 ghost use Rattle.office_program.specs.PortRound.{PollsOver, PollsPortOf};
 
@@ -10,7 +10,7 @@ use command_io::ExitStatus;
 use office_books::Books;
 use office_core::Office;
 use office_events::Name;
-use office_rounds::RoundFault;
+use crate::RoundFault;
 use socket_link::{Clock, SocketLink};
 use std::alloc::Global;
 use std::io::{self, Write};

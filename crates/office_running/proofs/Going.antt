@@ -5,8 +5,8 @@ use Rattle.std.specs.Prelude.{max, position, slice_get, if◌then◌else◌}
 use Rattle.office_events.specs.declared.answers.Answer.{Answer}
 use Rattle.office_events.specs.declared.events.Event.{Event}
 use Rattle.office_events.specs.declared.refusals.Refusal.{Refusal}
-use Rattle.office_rules.specs.History.{History, Opened}
-use Rattle.office_rules.specs.Refusals.{with_answer}
+use Rattle.office_books.specs.History.{History, Opened}
+use Rattle.office_books.specs.Refusals.{with_answer}
 use Rattle.office_books.specs.declared.failures.Failures.{Failures}
 use Rattle.office_books.specs.Ledgers.{KeepsFacts, Ledger}
 use Rattle.office_core.specs.Leaving.{BooksStand}
@@ -20,19 +20,19 @@ use Rattle.http_peers.specs.Clients.{ServesClients}
 use Rattle.office_http.specs.Connections.Connections as connections
 use Rattle.office_http.specs.Connections.Connections.{Connection}
 use Rattle.office_http.specs.Serving.{with_asked}
-use Rattle.office_rounds.specs.Passing as rounds
-use Rattle.office_rounds.specs.FedEvents as reporting
-use Rattle.office_rounds.specs.Driver.Going as driver
-use Rattle.office_rounds.specs.Driver.Going.{Start, TakesTurn as TakesDeviceTurn, scene}
+use Rattle.office_program.specs.Passing as rounds
+use Rattle.office_program.specs.FedEvents as reporting
+use Rattle.office_program.specs.Driver.Going as driver
+use Rattle.office_program.specs.Driver.Going.{Start, TakesTurn as TakesDeviceTurn, scene}
 use Rattle.office_events.specs.Showing.{Shown}
-use Rattle.office_rounds.specs.Driver.Turns as table
-use Rattle.office_rounds.specs.Driver.Turns.{Table, Wished}
-use Rattle.office_rounds.specs.DeviceRounds.Rounds.{has_request, wish_at, wish_of}
-use Rattle.office_rounds.specs.declared.device_rounds.round.Round.{Round}
-use Rattle.office_rounds.specs.declared.device_rounds.stage.Stage.{Stage}
-use Rattle.office_rounds.specs.declared.device_rounds.stage.Stage.TheVariants.{Off, Joining, Starting, Waiting, Leaving}
-use Rattle.office_rounds.specs.declared.driver.device_events.DeviceEvent.{DeviceEvent}
-use Rattle.office_rounds.specs.declared.driver.device_events.DeviceEvent.TheVariants.{Connected, Received, Closed, Tick}
+use Rattle.office_program.specs.Driver.Turns as table
+use Rattle.office_program.specs.Driver.Turns.{Table, Wished}
+use Rattle.office_program.specs.DeviceRounds.Rounds.{has_request, wish_at, wish_of}
+use Rattle.office_program.specs.declared.device_rounds.round.Round.{Round}
+use Rattle.office_program.specs.declared.device_rounds.stage.Stage.{Stage}
+use Rattle.office_program.specs.declared.device_rounds.stage.Stage.TheVariants.{Off, Joining, Starting, Waiting, Leaving}
+use Rattle.office_program.specs.declared.driver.device_events.DeviceEvent.{DeviceEvent}
+use Rattle.office_program.specs.declared.driver.device_events.DeviceEvent.TheVariants.{Connected, Received, Closed, Tick}
 use Rattle.office_program.specs.Texts.OpenedOffice.{Opens}
 use Rattle.office_program.specs.Texts.Passing.{Lasts}
 use Rattle.run_status.specs.Advice.Lacks.{LooksUp}

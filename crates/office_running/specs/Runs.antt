@@ -6,9 +6,9 @@ use Rattle.office_events.specs.declared.commands.Command.{Command}
 use Rattle.office_events.specs.declared.commands.Command.TheVariants as command
 use Rattle.office_events.specs.declared.events.Event.{Event}
 use Rattle.office_events.specs.declared.events.Event.TheVariants as event
-use Rattle.office_rules.specs.Facts.{latest_in, pending_in}
-use Rattle.office_rules.specs.History.{History, Opened, facts_of}
-use Rattle.office_rules.specs.Refusals.{with_answer}
+use Rattle.office_books.specs.Facts.{latest_in, pending_in}
+use Rattle.office_books.specs.History.{History, Opened, facts_of}
+use Rattle.office_books.specs.Refusals.{with_answer}
 use Rattle.office_books.specs.Ledgers.{Ledger}
 use Rattle.office_core.specs.Leaving.{BooksStand}
 use Rattle.office_core.specs.EventRun.{Answered}

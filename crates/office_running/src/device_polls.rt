@@ -11,7 +11,7 @@ use mio::{Registry, Token};
 use office_books::Books;
 use office_core::Office;
 use office_events::{Answer, Event, Name, Note, Observer, Piece, Refusal};
-use office_rounds::{DeviceEvent, Round, Stage, turn};
+use office_program::{DeviceEvent, Round, Stage, turn};
 use poll_core::Closing;
 use run_schedule::Phase;
 use std::alloc::{AllocError, Global};

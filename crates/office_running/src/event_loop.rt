@@ -1,7 +1,7 @@
 //! The event loop of a run of `sunreg run`. Each turn of the loop processes at most one event of
 //! each device, serves the clients, prints output, and waits for sockets.
 ghost use Rattle.std.specs.Prelude.{◌≡◌, ℕ, List};
-ghost use Rattle.http_request.specs.Hosts.{texts};
+ghost use Rattle.http_messages.specs.Hosts.{texts};
 ghost use Rattle.office_running.specs.Runs.{Goes, ReadsClock, RunsOn, TakesTurns, TurnsFrom};
 
 use crate::clocks::{read_clock, read_time, time_from, to_next_second};
@@ -19,7 +19,7 @@ use mio::net::TcpListener;
 use mio::{Events, Interest, Poll, Registry, Token};
 use office_books::Books;
 use office_core::Office;
-use office_rounds::DeviceEvent;
+use office_program::DeviceEvent;
 use poll_core::Closing;
 use run_schedule::{MOST_CLIENTS, RunTime, SteadyClock, place_at};
 use run_status::DeviceLack;

@@ -1,7 +1,7 @@
 //! Finds what the devices lack when a run of `sunreg run` begins. For example, a device without a
 //! point list in the store can't be polled.
 ghost use Rattle.office_core.specs.Leaving.{BooksStand};
-ghost use Rattle.office_rules.specs.History.{History};
+ghost use Rattle.office_books.specs.History.{History};
 ghost use Rattle.office_program.specs.Texts.Passing.{Lasts};
 ghost use Rattle.run_status.specs.Advice.Lacks.{LooksUp};
 

@@ -2,7 +2,7 @@
 //! them before it opens the office, because opening records each pending poll as lost.
 ghost use Rattle.std.specs.Prelude.{◌≡◌, false, nat_lt, IfSome};
 ghost use Rattle.office_core.specs.Leaving.{BooksStand};
-ghost use Rattle.office_rules.specs.History.{History};
+ghost use Rattle.office_books.specs.History.{History};
 ghost use Rattle.office_program.specs.Texts.Passing.{Lasts};
 ghost use Rattle.office_running.specs.Runs.{IsLeft};
 

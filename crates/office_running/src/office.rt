@@ -1,7 +1,7 @@
 //! Runs an office over a store: polls devices on a schedule and serves HTTP.
-ghost use Rattle.http_request.specs.Hosts.{texts};
+ghost use Rattle.http_messages.specs.Hosts.{texts};
 ghost use Rattle.office_core.specs.Leaving.{BooksStand};
-ghost use Rattle.office_rules.specs.History.{History};
+ghost use Rattle.office_books.specs.History.{History};
 ghost use Rattle.office_program.specs.Texts.Passing.{Lasts};
 ghost use Rattle.office_running.specs.Runs.{BooksRun};
 

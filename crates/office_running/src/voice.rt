@@ -3,7 +3,7 @@
 use crate::descriptors::FewClients;
 use crate::leftovers::Left;
 use office_events::{Answer, Event, Name, Note, Observer, Refusal};
-use office_rounds::Sum;
+use office_program::Sum;
 use poll_core::Closing;
 use run_schedule::FileLoss;
 use run_status::{

@@ -12,7 +12,7 @@ use Rattle.office_books.specs.Faults.{faults_after}
 use Rattle.office_books.specs.Ledgers.{Books, KeepsFacts, with_facts}
 use Rattle.office_books.specs.Same.{AreSame}
 use Rattle.store_tables.specs.declared.faults.RowFault.{RowFault}
-use Rattle.store_facts.specs.Holding.{HasFacts, HoldsFacts, BooksFacts}
+use Rattle.office_store.specs.Holding.{HasFacts, HoldsFacts, BooksFacts}
 use Rattle.office_store.specs.Laws.Laws.{DatabasesTellTheirFacts}
 use Rattle.office_store.specs.Answers.{answer_of}
 use Rattle.office_store.specs.Stored.{IsStored, ledger_of}

@@ -12,10 +12,10 @@ use Rattle.office_books.specs.Faults.{faults_after}
 use Rattle.office_books.specs.Ledgers.{KeepsFacts, OnlyReads, Finds}
 use Rattle.office_books.specs.Rows.{TakesAll, HandsOn}
 use Rattle.store_tables.specs.declared.faults.RowFault.{RowFault}
-use Rattle.store_facts.specs.Holding.{HoldsFacts, LeavesFacts, OnlyLooks}
-use Rattle.store_facts.proofs.Committed.{kept_holds}
-use Rattle.store_queries.specs.Finding.Finding as finding
-use Rattle.store_queries.specs.Metering.Looking as metering
+use Rattle.office_store.specs.Holding.{HoldsFacts, LeavesFacts, OnlyLooks}
+use Rattle.office_store.proofs.Committed.{kept_holds}
+use Rattle.office_store.specs.Finding.Finding as finding
+use Rattle.office_store.specs.Metering.Looking as metering
 use Rattle.office_store.specs.Answers.{answer_of}
 use Rattle.office_store.specs.Stored.{ledger_of}
 

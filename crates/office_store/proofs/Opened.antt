@@ -7,11 +7,11 @@ use Rattle.sqlite.specs.State.{HasCleanDisk}
 use Rattle.office_events.specs.declared.facts.Fact.{Fact}
 use Rattle.store_tables.specs.Content.{Content}
 use Rattle.store_tables.specs.Steps.{TransactsTo}
-use Rattle.store_files.specs.declared.layouts.Layout.{Layout}
-use Rattle.store_files.specs.Layouts.{no_schema}
-use Rattle.store_files.specs.NewFile.{Makes}
-use Rattle.store_files.specs.Upgrade.{IsFile, OpensFile}
-use Rattle.store_facts.specs.Holding.{HasFacts, HoldsFacts, LeavesFacts}
+use Rattle.store_tables.specs.declared.layouts.Layout.{Layout}
+use Rattle.store_tables.specs.Layouts.{no_schema}
+use Rattle.store_tables.specs.NewFile.{Makes}
+use Rattle.store_tables.specs.Upgrade.{IsFile, OpensFile}
+use Rattle.office_store.specs.Holding.{HasFacts, HoldsFacts, LeavesFacts}
 use Rattle.office_store.specs.Laws.Files.{HasFactsIn, NewFilesHaveNone, OpenedFilesKeepTheirs}
 use Rattle.office_store.specs.Database.{HasFile, HoldsAlone, KeepsFile}
 

@@ -5,8 +5,8 @@ use Rattle.sqlite.specs.Store.{Ghosts}
 use Rattle.sqlite.specs.Held.{Held, state}
 use Rattle.sqlite.specs.State.{HasCleanDisk, KeepsCommit}
 use Rattle.office_events.specs.declared.facts.Fact.{Fact}
-use Rattle.store_files.specs.declared.layouts.Layout.{Layout}
-use Rattle.store_facts.specs.Holding.{HoldsFacts, LeavesFacts, IsLeft}
+use Rattle.store_tables.specs.declared.layouts.Layout.{Layout}
+use Rattle.office_store.specs.Holding.{HoldsFacts, LeavesFacts, IsLeft}
 use Rattle.office_store.specs.Laws.Files.{HasFactsIn}
 
 module _ {S : Type 0} (g : Ghosts S) (zone : List ℕ) where

@@ -1,3 +1,14 @@
+pub mod Finding
+pub mod Metering
+pub mod Rows
+pub mod Tables
+pub mod Holding
+pub mod Going
+pub mod Recording
+pub mod Handing
+pub mod Intervals
+pub mod Holds
+pub mod Voids
 pub mod Answers
 pub mod Stored
 pub mod Database

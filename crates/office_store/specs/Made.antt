@@ -3,8 +3,8 @@ use Rattle.std.specs.Prelude.{◌≡◌, ◌⊎◌, Result, Ok, Err}
 use Rattle.sqlite.specs.Store.{Ghosts}
 use Rattle.sqlite.specs.Held.{Held}
 use Rattle.interval_core.specs.declared.zone.Zone.{Zone}
-use Rattle.store_files.specs.declared.faults.OpenFault.{OpenFault}
-use Rattle.store_files.specs.declared.faults.OpenFault.TheVariants.{NotOurs, Zone as NoZone}
+use Rattle.store_tables.specs.declared.open_faults.OpenFault.{OpenFault}
+use Rattle.store_tables.specs.declared.open_faults.OpenFault.TheVariants.{NotOurs, Zone as NoZone}
 use Rattle.office_store.specs.declared.books.SqlBooks.{SqlBooks}
 use Rattle.office_store.specs.declared.books.Unopened.{Unopened}
 

@@ -7,7 +7,7 @@ use Rattle.interval_core.specs.declared.zone.Zone.{Zone}
 use Rattle.office_events.specs.declared.facts.Fact.{Fact}
 use Rattle.office_books.specs.declared.failures.Failures.{Failures}
 use Rattle.office_books.specs.Ledgers.{Ledger}
-use Rattle.store_facts.specs.Holding.{HoldsFacts, LeavesFacts}
+use Rattle.office_store.specs.Holding.{HoldsFacts, LeavesFacts}
 
 module _ {S : Type 0} (g : Ghosts S) where
   -- True if the tables of a database encode the records, with some time zone.

@@ -6,7 +6,7 @@ use interval_core::Zone;
 use office_books::Failures;
 use sqlite::{Alter, Connection};
 use std::alloc::Global;
-use store_files::OpenFault;
+use store_tables::OpenFault;
 
 /// The store of metering records in a SQLite database. No transaction is open between calls.
 #[derive(Drop)]

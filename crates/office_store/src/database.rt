@@ -5,12 +5,12 @@ ghost use Rattle.sqlite.specs.State.{HasCleanDisk};
 ghost use Rattle.interval_core.specs.Zone.{HasRule};
 ghost use Rattle.office_events.specs.declared.facts.Fact.{Fact};
 ghost use Rattle.store_tables.specs.Steps.{TransactsTo};
-ghost use Rattle.store_files.specs.declared.layouts.Layout.{Layout as TheLayout};
-ghost use Rattle.store_files.specs.Upgrade.{OpensAnyFile};
-ghost use Rattle.store_files.specs.Layouts.{no_schema, IsNamedAs};
-ghost use Rattle.store_files.specs.NewFile.{Makes};
-ghost use Rattle.store_files.specs.OpenedFile.{ReportsOfFile};
-ghost use Rattle.store_files.specs.Zones.{IsZone};
+ghost use Rattle.store_tables.specs.declared.layouts.Layout.{Layout as TheLayout};
+ghost use Rattle.store_tables.specs.Upgrade.{OpensAnyFile};
+ghost use Rattle.store_tables.specs.Layouts.{no_schema, IsNamedAs};
+ghost use Rattle.store_tables.specs.NewFile.{Makes};
+ghost use Rattle.store_tables.specs.OpenedFile.{ReportsOfFile};
+ghost use Rattle.store_tables.specs.Zones.{IsZone};
 ghost use Rattle.office_books.specs.Faults.{no_failures};
 ghost use Rattle.office_store.specs.Made.{HandsBackUntouched, connection_in, reported_by};
 ghost use Rattle.office_store.specs.Database.{HasFile, HoldsAlone, KeepsFile};
@@ -20,7 +20,7 @@ use crate::laws::{new_files_have_none, opened_files_keep_theirs};
 use office_books::Failures;
 use sqlite::{Alter, Connection};
 use std::alloc::Global;
-use store_files::OpenFault;
+use store_tables::OpenFault;
 
 impl<S: Alter> SqlBooks<S> {
     /// Creates the tables of a new store in a database without tables. `zone` determines the civil
@@ -50,7 +50,7 @@ impl<S: Alter> SqlBooks<S> {
     {
         new_files_have_none();
         let mut connection = connection;
-        match store_files::create(&mut connection, zone) {
+        match store_tables::create(&mut connection, zone) {
             Ok(zone) => Ok(SqlBooks {
                 connection,
                 zone,
@@ -89,7 +89,7 @@ impl<S: Alter> SqlBooks<S> {
     {
         opened_files_keep_theirs();
         let mut connection = connection;
-        match store_files::open(&mut connection) {
+        match store_tables::open(&mut connection) {
             Ok(zone) => Ok(SqlBooks {
                 connection,
                 zone,

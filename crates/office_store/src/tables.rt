@@ -30,17 +30,17 @@ impl<S: Alter + Drop> Books for SqlBooks<S> {
     }
 
     fn devices(&mut self) -> Result<Vec<Device>, BooksFault> {
-        let found = store_queries::devices(&mut self.connection);
+        let found = crate::devices(&mut self.connection);
         answered(&mut self.failures, found)
     }
 
     fn list(&mut self, device: &Name) -> Result<Option<PlannedList>, BooksFault> {
-        let found = store_queries::list(self.alloc, &mut self.connection, device);
+        let found = crate::list(self.alloc, &mut self.connection, device);
         answered(&mut self.failures, found)
     }
 
     fn read_count(&mut self, device: &Name) -> Result<Option<usize>, BooksFault> {
-        let found = store_queries::read_count(self.alloc, &mut self.connection, device);
+        let found = crate::read_count(self.alloc, &mut self.connection, device);
         answered(&mut self.failures, found)
     }
 
@@ -50,17 +50,17 @@ impl<S: Alter + Drop> Books for SqlBooks<S> {
         from: u64,
         most: usize,
     ) -> Result<Vec<ReadSpan>, BooksFault> {
-        let found = store_queries::reads(self.alloc, &mut self.connection, device, from, most);
+        let found = crate::reads(self.alloc, &mut self.connection, device, from, most);
         answered(&mut self.failures, found)
     }
 
     fn register(&mut self, name: &Name) -> Result<Option<Register>, BooksFault> {
-        let found = store_queries::register(&mut self.connection, name);
+        let found = crate::register(&mut self.connection, name);
         answered(&mut self.failures, found)
     }
 
     fn registers(&mut self, device: &Name) -> Result<Vec<Register>, BooksFault> {
-        let found = store_queries::registers(&mut self.connection, device);
+        let found = crate::registers(&mut self.connection, device);
         answered(&mut self.failures, found)
     }
 
@@ -69,42 +69,42 @@ impl<S: Alter + Drop> Books for SqlBooks<S> {
         device: &Name,
         span: ReadSpan,
     ) -> Result<Vec<Register>, BooksFault> {
-        let found = store_queries::registers_read(&mut self.connection, device, span);
+        let found = crate::registers_read(&mut self.connection, device, span);
         answered(&mut self.failures, found)
     }
 
     fn register_count(&mut self, device: &Name) -> Result<usize, BooksFault> {
-        let found = store_queries::register_count(&mut self.connection, device);
+        let found = crate::register_count(&mut self.connection, device);
         answered(&mut self.failures, found)
     }
 
     fn meter(&mut self, name: &Name) -> Result<Option<Installation>, BooksFault> {
-        let found = store_queries::meter(&mut self.connection, name);
+        let found = crate::meter(&mut self.connection, name);
         answered(&mut self.failures, found)
     }
 
     fn installation(&mut self, register: &Name) -> Result<Option<Installation>, BooksFault> {
-        let found = store_queries::installation(&mut self.connection, register);
+        let found = crate::installation(&mut self.connection, register);
         answered(&mut self.failures, found)
     }
 
     fn meters(&mut self, register: &Name) -> Result<Vec<Installation>, BooksFault> {
-        let found = store_queries::meters_at(self.alloc, &mut self.connection, register);
+        let found = crate::meters_at(self.alloc, &mut self.connection, register);
         answered(&mut self.failures, found)
     }
 
     fn installation_count(&mut self) -> Result<usize, BooksFault> {
-        let found = store_queries::installation_count(&mut self.connection);
+        let found = crate::installation_count(&mut self.connection);
         answered(&mut self.failures, found)
     }
 
     fn entry(&mut self, meter: &Name, place: u64) -> Result<Option<EntryContext>, BooksFault> {
-        let found = store_queries::entry(self.alloc, &mut self.connection, meter, place);
+        let found = crate::entry(self.alloc, &mut self.connection, meter, place);
         answered(&mut self.failures, found)
     }
 
     fn entry_near(&mut self, meter: &Name, place: u64) -> Result<Option<EntryContext>, BooksFault> {
-        let found = store_queries::entry_near(self.alloc, &mut self.connection, meter, place);
+        let found = crate::entry_near(self.alloc, &mut self.connection, meter, place);
         answered(&mut self.failures, found)
     }
 
@@ -114,7 +114,7 @@ impl<S: Alter + Drop> Books for SqlBooks<S> {
         from: u64,
         most: u32,
     ) -> Result<Vec<MeterEntry>, BooksFault> {
-        let found = store_queries::meter_entries(
+        let found = crate::meter_entries(
             self.alloc,
             &mut self.connection,
             meter,
@@ -125,22 +125,22 @@ impl<S: Alter + Drop> Books for SqlBooks<S> {
     }
 
     fn poll(&mut self, number: u64) -> Result<Option<PollRow>, BooksFault> {
-        let found = store_queries::poll(&mut self.connection, number);
+        let found = crate::poll(&mut self.connection, number);
         answered(&mut self.failures, found)
     }
 
     fn poll_count(&mut self) -> Result<u64, BooksFault> {
-        let found = store_queries::poll_count(&mut self.connection);
+        let found = crate::poll_count(&mut self.connection);
         answered(&mut self.failures, found)
     }
 
     fn pending(&mut self) -> Result<Vec<Poll>, BooksFault> {
-        let found = store_queries::pending(&mut self.connection);
+        let found = crate::pending(&mut self.connection);
         answered(&mut self.failures, found)
     }
 
     fn latest(&mut self) -> Result<u64, BooksFault> {
-        let found = store_queries::latest(&mut self.connection);
+        let found = crate::latest(&mut self.connection);
         answered(&mut self.failures, found)
     }
 
@@ -150,7 +150,7 @@ impl<S: Alter + Drop> Books for SqlBooks<S> {
         number: u64,
         request: &[u8],
     ) -> Result<Option<Repeat>, BooksFault> {
-        let found = store_queries::repeat(&mut self.connection, caller, number, request);
+        let found = crate::repeat(&mut self.connection, caller, number, request);
         answered(&mut self.failures, found)
     }
 
@@ -160,7 +160,7 @@ impl<S: Alter + Drop> Books for SqlBooks<S> {
         span: Span,
         sink: &mut K,
     ) -> Result<(), BooksFault> {
-        let found = store_queries::intervals(&mut self.connection, meter, span, sink);
+        let found = crate::intervals(&mut self.connection, meter, span, sink);
         answered(&mut self.failures, found)
     }
 
@@ -170,7 +170,7 @@ impl<S: Alter + Drop> Books for SqlBooks<S> {
         span: Span,
         sink: &mut K,
     ) -> Result<(), BooksFault> {
-        let found = store_queries::register_intervals(&mut self.connection, register, span, sink);
+        let found = crate::register_intervals(&mut self.connection, register, span, sink);
         answered(&mut self.failures, found)
     }
 
@@ -180,7 +180,7 @@ impl<S: Alter + Drop> Books for SqlBooks<S> {
         span: Span,
         sink: &mut K,
     ) -> Result<(), BooksFault> {
-        let found = store_queries::holds(&mut self.connection, meter, span, sink);
+        let found = crate::holds(&mut self.connection, meter, span, sink);
         answered(&mut self.failures, found)
     }
 

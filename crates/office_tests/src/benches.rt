@@ -4,7 +4,7 @@ use crate::links::{SECOND_REPLY, first_reply};
 use crate::offices::{assert_list_accepted, inv, office_after};
 use office_books::Books;
 use office_events::{Name, Observer, Piece};
-use office_rounds::{DeviceEvent, Round, turn};
+use office_program::{DeviceEvent, Round, turn};
 use poll_core::Closing;
 use std::alloc::Global;
 use std::process::Abort;

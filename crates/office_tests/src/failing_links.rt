@@ -5,7 +5,7 @@ use crate::rounds::{ANSWERED, BOTH_AT_ONCE, Ends, LOST, ends, listed, round};
 use crate::tried::{Trial, try_in_memory};
 use mb_wire::MemoryLink;
 use office_books::Books;
-use office_rounds::RoundFault;
+use office_program::RoundFault;
 use std::alloc::Global;
 use std::process::Abort;
 

@@ -3,7 +3,7 @@
 use energy_core::Cause;
 use office_books::{BooksFault, Failures, StoreFault};
 use office_events::{Refusal, StoreCause};
-use office_rounds::RoundFault;
+use office_program::RoundFault;
 use std::alloc::Global;
 use std::fmt::Display;
 use std::process::Abort;

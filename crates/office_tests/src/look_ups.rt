@@ -1,7 +1,6 @@
 //! Tests how many calls of the store are made before an event is refused or a retry is answered.
 use crate::offices::{READ, event_of, new_books, office_after, opened, request_of};
-use failing_books::FailingBooks;
-use memory_books::ListBooks;
+use memory_books::{FailingBooks, ListBooks};
 use office_books::Books;
 use office_events::{Answer, CommandKind, Event, Refusal, StoreCause};
 use std::alloc::Global;

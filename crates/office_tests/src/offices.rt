@@ -1,15 +1,14 @@
 //! Helpers that open an `Office` (the core of `sunreg`) over a store in memory, and the events that
 //! tests send to it.
-use failing_books::FailingBooks;
+use memory_books::{FailingBooks, ListBooks};
 use interval_core::Zone;
-use memory_books::ListBooks;
 use office_books::Books;
 use office_core::Office;
 use office_events::{
     Asked, Command, Event, Name, Piece, PlannedList, PutList, Refusal, StartPoll, StoreCause,
 };
 use point_list::read_list;
-use script_lines::{GivenStart, ScriptLine};
+use script_text::{GivenStart, ScriptLine};
 use std::alloc::Global;
 use std::process::Abort;
 

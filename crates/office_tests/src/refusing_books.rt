@@ -7,7 +7,7 @@ use crate::tried::{Trial, try_failing};
 use mb_wire::MemoryLink;
 use office_books::Books;
 use office_events::{Refusal, StoreCause};
-use office_rounds::RoundFault;
+use office_program::RoundFault;
 use std::alloc::Global;
 use std::process::Abort;
 

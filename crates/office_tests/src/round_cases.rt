@@ -8,7 +8,7 @@ use mb_wire::{Link, MemoryLink};
 use office_books::Books;
 use office_core::Office;
 use office_events::{Name, Refusal};
-use office_rounds::{RoundFault, round_over};
+use office_program::{RoundFault, round_over};
 use poll_core::{LostCause, Outcome};
 use socket_link::FixedClock;
 use std::alloc::Global;

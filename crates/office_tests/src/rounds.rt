@@ -4,7 +4,7 @@ use crate::offices::{assert_list_accepted, inv, office_after};
 use mb_wire::Link;
 use office_books::Books;
 use office_core::Office;
-use office_rounds::{RoundFault, round_over};
+use office_program::{RoundFault, round_over};
 use poll_core::{LostCause, Outcome};
 use socket_link::FixedClock;
 use std::alloc::Global;

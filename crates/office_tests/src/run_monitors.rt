@@ -2,7 +2,7 @@
 use crate::benches::{Bench, Moment, Step, names, play};
 use crate::offices::{inv, new_books};
 use office_events::{Answer, Event, Refusal};
-use office_rounds::Sum;
+use office_program::Sum;
 use poll_core::Closing;
 use run_status::{RunMonitor, write_lines, write_sum};
 use std::alloc::Global;

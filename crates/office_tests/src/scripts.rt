@@ -4,8 +4,9 @@ use energy_report::RowLines;
 use office_books::Books;
 use office_core::Office;
 use office_events::{Event, Refusal};
-use script_lines::ScriptLine;
-use script_text::{write_accepted, write_end, write_meter, write_notes, write_poll, write_refusal};
+use script_text::{
+    ScriptLine, write_accepted, write_end, write_meter, write_notes, write_poll, write_refusal,
+};
 use std::alloc::Global;
 use std::io;
 use std::process::Abort;

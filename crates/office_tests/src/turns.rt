@@ -3,7 +3,7 @@
 use crate::benches::{Bench, Moment, Step, play};
 use crate::observer::Seen;
 use crate::offices::new_books;
-use office_rounds::Stage;
+use office_program::Stage;
 use poll_core::Closing;
 use std::alloc::Global;
 use std::process::Abort;

@@ -12,10 +12,10 @@ use Rattle.office_books.specs.declared.spans.Span.TheVariants.{Between}
 use Rattle.office_events.specs.declared.facts.Opening.{Opening}
 use Rattle.office_events.specs.declared.facts.Fact.{Fact}
 use Rattle.office_events.specs.declared.facts.Fact.TheVariants as fact
-use Rattle.office_rules.specs.Facts.{moment_limit, opening_of}
-use Rattle.office_rules.specs.Intervals.{rows_of_meter}
-use Rattle.office_rules.specs.Lawful.{AreLawful}
-use Rattle.office_rules.specs.Meters.{opened, rows_of, installation_of}
+use Rattle.office_books.specs.Facts.{moment_limit, opening_of}
+use Rattle.office_books.specs.Intervals.{rows_of_meter}
+use Rattle.office_books.specs.Lawful.{AreLawful}
+use Rattle.office_books.specs.Meters.{opened, rows_of, installation_of}
 
 -- The interval rows of quarter hours that start before the time `moment`.
 abbrev pub rows_before : (moment : ℕ) → List Share → List Share

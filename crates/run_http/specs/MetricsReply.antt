@@ -3,7 +3,7 @@
 use Rattle.std.specs.Prelude.{List, [], ℕ, Result, Ok, Err, codes}
 use Rattle.std.specs.declared.alloc.Global.{Global}
 use Rattle.std.specs.declared.vec.Vec.{Vec}
-use Rattle.http_request.specs.declared.status.Status.TheVariants.{Fine}
+use Rattle.http_messages.specs.declared.status.Status.TheVariants.{Fine}
 use Rattle.office_events.specs.declared.refusals.Refusal.{Refusal}
 use Rattle.office_core.specs.declared.site.SiteRow.{SiteRow}
 use Rattle.run_http.specs.SiteReply.{with_refusal}

@@ -5,8 +5,8 @@ use Rattle.std.specs.Prelude.{◌≡◌, ℕ, ◌+◌, ◌-◌, ◌<◌, ◌≤�
 use Rattle.std.specs.Option.{option_and_then}
 use Rattle.std.specs.declared.alloc.Global.{Global}
 use Rattle.std.specs.declared.vec.Vec.{Vec}
-use Rattle.http_answer.specs.Replies.{lines_reply, reply_bytes}
-use Rattle.http_request.specs.declared.status.Status.TheVariants.{Fine}
+use Rattle.http_messages.specs.Replies.{lines_reply, reply_bytes}
+use Rattle.http_messages.specs.declared.status.Status.TheVariants.{Fine}
 use Rattle.interval_core.specs.Lines.{end_line, intervals_text, share_line}
 use Rattle.interval_core.specs.declared.shares.Share.{Share}
 use Rattle.office_books.specs.Ledgers.{Ledger}
@@ -21,10 +21,10 @@ use Rattle.office_events.specs.declared.facts.Fact.{Fact}
 use Rattle.office_events.specs.declared.facts.Opening.{Opening}
 use Rattle.office_events.specs.declared.questions.Installation.{Installation}
 use Rattle.office_events.specs.declared.refusals.Refusal.{Refusal}
-use Rattle.office_rules.specs.Facts.{opening_of}
-use Rattle.office_rules.specs.History.{facts_of}
-use Rattle.office_rules.specs.Lawful.{AreLawful}
-use Rattle.office_rules.specs.Meters.{meter_of}
+use Rattle.office_books.specs.Facts.{opening_of}
+use Rattle.office_books.specs.History.{facts_of}
+use Rattle.office_books.specs.Lawful.{AreLawful}
+use Rattle.office_books.specs.Meters.{meter_of}
 use Rattle.run_http.specs.Copies.{VoidsFrom, next_place, quarter_of}
 use Rattle.run_http.specs.StatusRoute.{with_reply, with_start_of}
 use Rattle.run_http.specs.declared.pieces.RemainingRows.{RemainingRows}

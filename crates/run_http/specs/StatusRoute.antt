@@ -4,16 +4,16 @@ use Rattle.std.specs.Prelude.{◌≡◌, ℕ, Bool, true, false, not, ◌&&◌, 
 use Rattle.std.specs.Option.{option_map}
 use Rattle.std.specs.Str.{bytes_eq}
 use Rattle.httparse.specs.Spans.{span_bytes}
-use Rattle.http_request.specs.Head.Heads.{Looks}
-use Rattle.http_request.specs.Hosts.{may_ask_in}
-use Rattle.http_request.specs.Routing.Targets.{has_query}
-use Rattle.http_request.specs.Sites.{is_cross_site_in}
-use Rattle.http_request.specs.Status.Statuses.{number_of_status, reason_of_status}
-use Rattle.http_request.specs.declared.head.head.HeadState.{HeadState}
-use Rattle.http_request.specs.declared.head.head.HeadState.TheVariants.{Open, TooLarge, NoHead, Whole}
-use Rattle.http_request.specs.declared.status.Status.{Status as HttpStatus}
-use Rattle.http_request.specs.declared.status.Status.TheVariants.{Fine, Forbidden, MethodNotAllowed, Misdirected}
-use Rattle.http_answer.specs.Sending.Bodies.{fault_text}
+use Rattle.http_messages.specs.Head.Heads.{Looks}
+use Rattle.http_messages.specs.Hosts.{may_ask_in}
+use Rattle.http_messages.specs.Routing.Targets.{has_query}
+use Rattle.http_messages.specs.Sites.{is_cross_site_in}
+use Rattle.http_messages.specs.Status.Statuses.{number_of_status, reason_of_status}
+use Rattle.http_messages.specs.declared.head.head.HeadState.{HeadState}
+use Rattle.http_messages.specs.declared.head.head.HeadState.TheVariants.{Open, TooLarge, NoHead, Whole}
+use Rattle.http_messages.specs.declared.status.Status.{Status as HttpStatus}
+use Rattle.http_messages.specs.declared.status.Status.TheVariants.{Fine, Forbidden, MethodNotAllowed, Misdirected}
+use Rattle.http_messages.specs.Sending.Bodies.{fault_text}
 use Rattle.run_http.specs.MeterTargets.{meter_target}
 use Rattle.run_http.specs.RegisterTargets.{IsRegisterTarget}
 use Rattle.run_status.specs.Status.StatusText.{with_status}

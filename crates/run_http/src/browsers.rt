@@ -1,6 +1,6 @@
 //! Adds the response headers that protect users of browsers.
 ghost use Rattle.std.specs.Prelude.{◌≡◌, IfOk};
-ghost use Rattle.http_request.specs.Hosts.{texts};
+ghost use Rattle.http_messages.specs.Hosts.{texts};
 ghost use Rattle.run_http.specs.Browsers as browsers;
 ghost use Rattle.run_http.specs.Browsers.{IsForBrowsers};
 

@@ -9,7 +9,7 @@ use crate::kept_rows::KeptRows;
 use crate::route::append_reply;
 use crate::site::append_refusal;
 use crate::texts::{write_entries, write_shares};
-use http_request::Status;
+use http_messages::Status;
 use interval_core::Share;
 use office_books::{Books, MeterEntry, Span};
 use office_core::Office;

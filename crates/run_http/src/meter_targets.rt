@@ -3,7 +3,7 @@ ghost use Rattle.std.specs.Prelude.{◌≡◌, option_map};
 ghost use Rattle.run_http.specs.MeterTargets as targets;
 
 use crate::route::{RunRoute, StatusRoute};
-use http_request::{Status, digits};
+use http_messages::{Status, digits};
 use office_books::Span;
 use office_events::Name;
 

@@ -6,7 +6,7 @@ ghost use Rattle.run_http.specs.SiteReply.{RepliesSite};
 use crate::route::append_reply;
 use crate::site::append_refusal;
 use crate::texts::write_metrics;
-use http_request::Status;
+use http_messages::Status;
 use office_books::Books;
 use office_core::{Office, SiteRow};
 use office_events::Refusal;

@@ -2,14 +2,15 @@
 //! response. A request to void an entry (to withdraw a false reading) can change rows of streamed
 //! responses.
 ghost use Rattle.std.specs.Prelude.{◌≡◌, IfSome};
-ghost use Rattle.http_request.specs.Head.Heads.{Looks};
-ghost use Rattle.http_request.specs.declared.head.head.HeadState.TheVariants.{Whole};
+ghost use Rattle.http_messages.specs.Head.Heads.{Looks};
+ghost use Rattle.http_messages.specs.declared.head.head.HeadState.TheVariants.{Whole};
 ghost use Rattle.run_http.specs.OfficeRequests as requests;
 ghost use Rattle.run_http.specs.OfficeRequests.{AsksAllRows, MayVoid};
 
 use crate::meter_targets::after;
-use http_answer::{name_asked, questions_are_replied_to};
-use http_request::{Ask, Head, HeadState, Route, ask_of, parse_head};
+use http_messages::{
+    Ask, Head, HeadState, Route, ask_of, name_asked, parse_head, questions_are_replied_to,
+};
 use matchit::Router;
 use office_events::Name;
 

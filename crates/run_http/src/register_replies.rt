@@ -6,7 +6,7 @@ ghost use Rattle.run_http.specs.RegisterReplies.{with_energy_reply};
 use crate::route::append_reply;
 use crate::site::append_refusal;
 use energy_report::{ReportForm, ReportRows};
-use http_request::Status;
+use http_messages::Status;
 use office_books::Books;
 use office_core::Office;
 use office_events::{Name, Refusal};

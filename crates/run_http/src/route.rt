@@ -1,15 +1,15 @@
 //! The routes of `sunreg run`: the status, metrics, the site, rows of a meter, the energy and
 //! meters of a register, and the web page.
 ghost use Rattle.std.specs.Prelude.{◌≡◌, IfOk, OnOk};
-ghost use Rattle.http_request.specs.Head.Heads.{Looks};
-ghost use Rattle.http_answer.specs.Sending.Bodies.{fault_text};
-ghost use Rattle.http_request.specs.Hosts as hosts;
+ghost use Rattle.http_messages.specs.Head.Heads.{Looks};
+ghost use Rattle.http_messages.specs.Sending.Bodies.{fault_text};
+ghost use Rattle.http_messages.specs.Hosts as hosts;
 ghost use Rattle.run_http.specs.StatusRoute as texts;
 
 use crate::meter_targets::meter_target;
 use crate::register_targets::register_target;
 use energy_report::ReportForm;
-use http_request::{HeadState, Status, has_query, is_cross_site, may_ask, parse_head};
+use http_messages::{HeadState, Status, has_query, is_cross_site, may_ask, parse_head};
 use office_books::Span;
 use office_events::Name;
 use run_status::{

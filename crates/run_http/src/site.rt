@@ -4,8 +4,7 @@ ghost use Rattle.run_http.specs.SiteReply.{with_refusal, with_site_reply};
 
 use crate::route::append_reply;
 use crate::texts::{SiteLine, write_site};
-use http_answer::{refused_body, status_of};
-use http_request::Status;
+use http_messages::{Status, refused_body, status_of};
 use office_events::Refusal;
 use std::alloc::{AllocError, Global};
 

@@ -8,7 +8,7 @@ ghost use Rattle.run_http.specs.Voids.{voids_of};
 use crate::route::append_reply;
 use crate::site::append_refusal;
 use crate::texts::write_voids;
-use http_request::Status;
+use http_messages::Status;
 use office_books::{Books, MeterEntry};
 use office_core::Office;
 use office_events::{Name, Refusal};

@@ -7,9 +7,9 @@ use office_books::Books;
 use office_core::Office;
 use office_events::{Command, Event, PlannedList, PutList, Refusal, StartPoll};
 use point_list::{ListFault, read_list};
-use script_lines::{GivenList, LineFault, ScriptLine};
 use script_text::{
-    write_accepted, write_bad_line, write_end, write_faults, write_meter, write_poll, write_refusal,
+    GivenList, LineFault, ScriptLine, write_accepted, write_bad_line, write_end, write_faults,
+    write_meter, write_poll, write_refusal,
 };
 use std::alloc::Global;
 use std::io::{self, ErrorKind, Read, Write};

@@ -1,7 +1,7 @@
 //! Tests of the error messages for inputs, for script lines, and for the program's arguments.
 use command_io::ReadFault;
 use command_words::{DeviceFault, ListFault, WordsFault};
-use script_lines::LineFault;
+use script_text::LineFault;
 use std::alloc::Global;
 use std::fmt::Display;
 use std::process::Abort;

@@ -1,6 +1,6 @@
 //! Tests of lines that the parser never gets from a script, because reading a script skips empty
 //! lines and drops carriage returns. Also tests lines of the maximum length.
-use script_lines::{BankLine, LineFault, ScriptLine};
+use script_text::{BankLine, LineFault, ScriptLine};
 use std::alloc::Global;
 use std::process::Abort;
 

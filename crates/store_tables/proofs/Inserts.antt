@@ -27,7 +27,7 @@ use Rattle.store_tables.proofs.Fresh.{write_fresh}
 use Rattle.store_tables.proofs.Frames.{frame, tree_at}
 use Rattle.store_tables.proofs.Apart.{apart_permutation, apart_more}
 use Rattle.store_tables.proofs.Laid.{laid, laid_more, laid_permuted}
-use Rattle.store_tables.proofs.Tables.{went, same_value, nothing_acts, Rewrites, turns}
+use Rattle.store_tables.proofs.OtherTables.{went, same_value, nothing_acts, Rewrites, turns}
 
 not_taken : (b : Bool) → not b && true ≡ true → b ≡ false
 not_taken true e = absurd (let f = e in cc)

@@ -1,9 +1,21 @@
+mod Grown
+mod Texts
+mod Writes
+mod Made
+mod Names
+mod Questions
+mod Ranges
+mod Brought
+mod Reported
+pub mod DevicesLemmas
+pub mod PollsLemmas
+mod Examples
 pub mod Permuted
 pub mod Fresh
 pub mod Frames
 pub mod Edits
 pub mod Laid
-pub mod Tables
+pub mod OtherTables
 pub mod Inserts
 pub mod Scans
 pub mod Updates

@@ -29,7 +29,7 @@ use Rattle.store_tables.proofs.Apart.{apart_permutation, changed_apart, left_apa
 use Rattle.store_tables.proofs.Edits.{changed, edited_rows, given_are, left_are}
 use Rattle.store_tables.proofs.Laid.{laid, IsLaid, laid_changed, laid_others, laid_permuted}
 use Rattle.store_tables.proofs.Scans.{scan, no_limit, passes, shows, asked}
-use Rattle.store_tables.proofs.Tables.{went, same_value, nothing_acts, Rewrites, turns}
+use Rattle.store_tables.proofs.OtherTables.{went, same_value, nothing_acts, Rewrites, turns}
 use Rattle.store_tables.proofs.Inserts.{plainly}
 
 module _ (t : Table) (at : ℕ) (place : slice_get books_schema.tables at ≡ Some (plainly t)) (params : Row) (tests : List Term) where

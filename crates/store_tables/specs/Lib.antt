@@ -1,3 +1,13 @@
+pub mod Faults
+pub mod Zones
+pub mod Layouts
+pub mod Meta
+pub mod Growing
+pub mod NewFile
+pub mod Upgrade
+pub mod OpenedFile
+pub mod Devices
+pub mod Polls
 pub mod Schema
 pub mod Content
 pub mod Steps

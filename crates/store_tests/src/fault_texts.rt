@@ -4,8 +4,7 @@ use sqlite::Error;
 use std::alloc::Global;
 use std::fmt::Display;
 use std::process::Abort;
-use store_files::OpenFault;
-use store_tables::RowFault;
+use store_tables::{OpenFault, RowFault};
 use stored_files::FileFault;
 
 /// Asserts that each fault has its expected text, without a full stop.

@@ -7,7 +7,7 @@ use office_events::{HeldReading, Name};
 use sqlite::{Alter, Connection};
 use std::alloc::Global;
 use std::process::Abort;
-use store_queries::holds;
+use office_store::holds;
 
 /// SQL statements that insert two rejected readings of the meter m1, and one of the meter m0
 /// between them. The second reading of m1 has an earlier timestamp than the first.

@@ -2,8 +2,7 @@
 //! failure messages that they print.
 use command_io::ExitStatus;
 use office_events::Refusal;
-use office_program::{PollEnd, ServeEnd};
-use office_rounds::RoundFault;
+use office_program::{PollEnd, RoundFault, ServeEnd};
 use office_running::RunFault;
 use std::alloc::Global;
 use std::process::Abort;

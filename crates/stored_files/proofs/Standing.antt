@@ -4,8 +4,8 @@ use Rattle.std.specs.Prelude.{All}
 use Rattle.sqlite.specs.Store.{Ghosts}
 use Rattle.sqlite.specs.Held.{Held}
 use Rattle.interval_core.specs.declared.zone.Zone.{Zone}
-use Rattle.office_rules.specs.History.{History, facts_of}
-use Rattle.office_rules.specs.Lawfulness.{IsPast}
+use Rattle.office_books.specs.History.{History, facts_of}
+use Rattle.office_books.specs.Lawfulness.{IsPast}
 use Rattle.office_books.specs.declared.failures.Failures.{Failures}
 use Rattle.office_core.specs.Leaving.{MayBeLeft, BooksStand}
 use Rattle.office_store.specs.Stored.{ledger_of}

@@ -2,8 +2,8 @@
 use Rattle.std.specs.Prelude.{ℕ, List}
 use Rattle.sqlite.specs.Store.{Ghosts}
 use Rattle.sqlite.specs.Held.{Held}
-use Rattle.office_rules.specs.History.{History, facts_of}
-use Rattle.office_rules.specs.Lawfulness.{IsPast}
+use Rattle.office_books.specs.History.{History, facts_of}
+use Rattle.office_books.specs.Lawfulness.{IsPast}
 use Rattle.office_books.specs.Ledgers.{Ledger}
 use Rattle.office_store.specs.Stored.{ledger_of}
 use Rattle.office_store.specs.Database.{HasFile}

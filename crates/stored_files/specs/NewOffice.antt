@@ -4,8 +4,8 @@ use Rattle.std.specs.declared.result.Result.{Result}
 use Rattle.sqlite.specs.Store.{Ghosts}
 use Rattle.sqlite.specs.Held.{Held, state}
 use Rattle.interval_core.specs.declared.zone.Zone.{Zone}
-use Rattle.store_files.specs.declared.faults.OpenFault.{OpenFault}
-use Rattle.store_files.specs.NewFile.{Makes}
+use Rattle.store_tables.specs.declared.open_faults.OpenFault.{OpenFault}
+use Rattle.store_tables.specs.NewFile.{Makes}
 use Rattle.store_tables.specs.Steps.{TransactsTo}
 use Rattle.office_store.specs.Database.{HoldsAlone}
 

@@ -4,7 +4,7 @@ use Rattle.sqlite.specs.Store.{Ghosts}
 use Rattle.sqlite.specs.Held.{Held, state}
 use Rattle.sqlite.specs.State.{HasCleanDisk}
 use Rattle.office_events.specs.declared.facts.Fact.{Fact}
-use Rattle.office_rules.specs.Facts.{latest_in}
+use Rattle.office_books.specs.Facts.{latest_in}
 use Rattle.office_store.specs.declared.books.SqlBooks.{SqlBooks}
 use Rattle.table_seals.specs.declared.filed.FiledMeter.{FiledMeter}
 use Rattle.stored_files.specs.BooksFound.{ledger_beneath}

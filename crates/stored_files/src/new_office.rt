@@ -1,7 +1,7 @@
 //! Creates the tables for metering records in an empty database.
 ghost use Rattle.std.specs.Prelude.{◌≡◌, ◌≢◌, ◌⊎◌, false, Err, IfErr, OnOk};
-ghost use Rattle.store_files.specs.Layouts.{no_schema};
-ghost use Rattle.store_files.specs.Zones.{IsZone};
+ghost use Rattle.store_tables.specs.Layouts.{no_schema};
+ghost use Rattle.store_tables.specs.Zones.{IsZone};
 ghost use Rattle.stored_files.specs.NewOffice.{IsMade};
 
 use office_store::{OpenFault, SqlBooks};

@@ -1,8 +1,8 @@
 -- Lemmas on tasks over a store that has the records of a history of accepted events.
 use Rattle.std.proofs.Common.{◌≡◌, ℕ, List, sym, subst}
 use Rattle.sqlite.specs.Store.{Ghosts}
-use Rattle.office_rules.specs.History.{History, facts_of}
-use Rattle.office_rules.specs.Lawfulness.{IsPast}
+use Rattle.office_books.specs.History.{History, facts_of}
+use Rattle.office_books.specs.Lawfulness.{IsPast}
 use Rattle.office_books.specs.Ledgers.{Ledger}
 use Rattle.office_core.specs.Leaving.{BooksStand}
 use Rattle.office_store.specs.Database.{HoldsAlone}

@@ -1,7 +1,7 @@
 -- Defines what it means that a task ran over the store in a database.
 use Rattle.std.specs.Prelude.{ℕ, List}
 use Rattle.sqlite.specs.Store.{Ghosts}
-use Rattle.office_rules.specs.History.{History, facts_of}
+use Rattle.office_books.specs.History.{History, facts_of}
 use Rattle.office_books.specs.Ledgers.{Ledger}
 use Rattle.kept_books.specs.declared.kept.CachedBooks.{CachedBooks}
 use Rattle.kept_books.specs.Keeping.{beneath, ledger_over}

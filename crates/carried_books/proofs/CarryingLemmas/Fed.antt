@@ -6,8 +6,8 @@ use Rattle.office_events.specs.declared.commands.Command.{Command}
 use Rattle.office_events.specs.declared.events.Event.{Event}
 use Rattle.office_events.specs.declared.facts.Fact.{Fact}
 use Rattle.office_events.specs.declared.refusals.Refusal.{Refusal}
-use Rattle.office_rules.specs.History.{Fed, History, facts_of, kind_of, next_poll, slots_of}
-use Rattle.office_rules.specs.Refusals.{answer_to, decision_of, is_start, reads_in_all, refusal_of, sent_count, unless_refused, with_answer}
+use Rattle.office_books.specs.History.{Fed, History, facts_of, kind_of, next_poll, slots_of}
+use Rattle.office_books.specs.Refusals.{answer_to, decision_of, is_start, reads_in_all, refusal_of, sent_count, unless_refused, with_answer}
 use Rattle.office_books.specs.Ledgers.{Ledger}
 use Rattle.office_books.specs.declared.failures.Failures.{Failures}
 use Rattle.office_core.specs.declared.office.Office.{Office}

@@ -14,8 +14,8 @@ use Rattle.meter_journal.specs.Journal as journal
 use Rattle.office_events.specs.declared.facts.Fact.{Fact}
 use Rattle.office_events.specs.declared.facts.Opening.{Opening}
 use Rattle.office_events.specs.declared.questions.Installation.{Installation}
-use Rattle.office_rules.specs.Facts.{opening_of}
-use Rattle.office_rules.specs.Meters.{installation_of, meter_of, opened, rows_of}
+use Rattle.office_books.specs.Facts.{opening_of}
+use Rattle.office_books.specs.Meters.{installation_of, meter_of, opened, rows_of}
 use Rattle.office_books.specs.declared.entries.MeterEntry.{MeterEntry}
 use Rattle.office_books.specs.declared.entries.MeterEntry.TheVariants as listed
 use Rattle.office_books.specs.Entries.{all_entries, entries_at, entries_from, first_from, listed_rows}

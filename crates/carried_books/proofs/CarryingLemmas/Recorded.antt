@@ -13,9 +13,9 @@ use Rattle.office_events.specs.declared.facts.Opening.{Opening}
 use Rattle.office_events.specs.declared.facts.Register.{Register}
 use Rattle.office_events.specs.declared.facts.ScaleSource.{ScaleSource}
 use Rattle.office_events.specs.declared.facts.ScaleSource.TheVariants as source
-use Rattle.office_rules.specs.Facts.{list_of, registers_of}
-use Rattle.office_rules.specs.History.{History, facts_of, function_by, scale_by}
-use Rattle.office_rules.proofs.Lists.{reverse_cons}
+use Rattle.office_books.specs.Facts.{list_of, registers_of}
+use Rattle.office_books.specs.History.{History, facts_of, function_by, scale_by}
+use Rattle.office_books.proofs.Lists.{reverse_cons}
 use Rattle.carried_books.specs.Carrying.Commands.{add_device, add_register, commands_for, first_moment, install, put_list, scale_given, set_up_device, set_up_devices}
 use Rattle.carried_books.specs.Carrying.Feeding.{accepted, history_with}
 use Rattle.carried_books.specs.Carrying.Recorded.{CommandsRecordTheSame, carried_facts, device_facts, list_fact}

@@ -23,7 +23,7 @@ use Rattle.meter_journal.specs.declared.lines.EntryKind.{EntryKind}
 use Rattle.office_books.specs.declared.entries.MeterEntry.{MeterEntry}
 use Rattle.office_books.specs.declared.entries.MeterEntry.TheVariants as entry
 use Rattle.office_events.specs.declared.facts.HeldReading.{HeldReading}
-use Rattle.office_rules.proofs.Lists.{map_reverse}
+use Rattle.office_books.proofs.Lists.{map_reverse}
 use Rattle.carried_books.specs.Joining.Statements.{BothFilesStateTheJoinedMeter, moved_entry, own_entries}
 use Rattle.carried_books.proofs.JoiningLemmas.KeptMeters.{reported_alike}
 

@@ -15,7 +15,7 @@ use Rattle.office_events.specs.declared.facts.Fact.TheVariants as fact
 use Rattle.office_events.specs.declared.facts.Opening.{Opening}
 use Rattle.office_events.specs.declared.facts.Register.{Register}
 use Rattle.office_events.specs.declared.facts.ScaleSource.TheVariants as source
-use Rattle.office_rules.specs.Meters.{installation_of}
+use Rattle.office_books.specs.Meters.{installation_of}
 use Rattle.carried_books.specs.Joining.Statements.{AreMetersOver, MeterOver, both_of, meter_in, statement_over}
 
 abbrev main : List ℕ

@@ -6,7 +6,7 @@ use Rattle.interval_core.specs.declared.shares.Share.{Share}
 use Rattle.interval_core.specs.declared.zone.Zone.{Zone}
 use Rattle.office_events.specs.declared.facts.Fact.{Fact}
 use Rattle.office_events.specs.declared.questions.Installation.{Installation}
-use Rattle.office_rules.specs.Intervals.{rows_of_register}
+use Rattle.office_books.specs.Intervals.{rows_of_register}
 use Rattle.office_books.specs.declared.spans.Span.{Span}
 use Rattle.office_books.specs.Entries.{installations_of}
 use Rattle.office_books.specs.Spans.{rows_within}

@@ -39,8 +39,8 @@ use Rattle.office_core.proofs.Around.{has_each}
 use Rattle.office_events.specs.declared.facts.Fact.{Fact}
 use Rattle.office_events.specs.declared.facts.HeldReading.{HeldReading}
 use Rattle.office_events.specs.declared.questions.Installation.{Installation}
-use Rattle.office_rules.specs.Facts.{opening_of}
-use Rattle.office_rules.specs.Intervals.{rows_of_meter}
+use Rattle.office_books.specs.Facts.{opening_of}
+use Rattle.office_books.specs.Intervals.{rows_of_meter}
 use Rattle.carried_books.specs.Joining.Statements.{MeterOver, TalliesOn, ReportsPart, both_held, both_of, kept_of, meter_in, own_entries, with_part}
 use Rattle.carried_books.specs.declared.joining.kept_meters.KeptMeter.{KeptMeter}
 use Rattle.carried_books.proofs.CarryingLemmas.Lasts.{piece_of}

@@ -10,7 +10,7 @@ use Rattle.std.specs.Str.{bytes_eq}
 use Rattle.meter_audit.specs.CarriedFiles.{GoesOnAs}
 use Rattle.office_events.specs.declared.questions.Installation.{Installation}
 use Rattle.carried_books.specs.declared.joining.meters.Apart.{Apart}
-use Rattle.office_rules.specs.Meters.{installed}
+use Rattle.office_books.specs.Meters.{installed}
 use Rattle.carried_books.specs.Joining.Meters.{AddMeters, AddOrAreApart, AddsMeter, AddsNext, AddsOrIsApart, GoesOn, NoneGoesOn, is_before}
 
 -- ---- The first meter that was not closed before another meter began

@@ -24,14 +24,14 @@ use Rattle.office_events.specs.declared.questions.Installation.{Installation}
 use Rattle.office_events.specs.declared.refusals.Refusal.{Refusal}
 use Rattle.office_events.specs.declared.refusals.Refusal.TheVariants as refusal
 use Rattle.office_events.specs.declared.refusals.StoreCause.TheVariants as store
-use Rattle.office_rules.specs.Facts.{opening_of, openings_in, register_of, same}
-use Rattle.office_rules.specs.History.{History, facts_of}
-use Rattle.office_rules.specs.Intervals.{installations_at, rows_of_opening, rows_of_register}
-use Rattle.office_rules.specs.Lawful.{AreLawful}
-use Rattle.office_rules.specs.Lawfulness.{FactsAreLawful}
-use Rattle.office_rules.specs.Meters.{installation_of}
-use Rattle.office_rules.proofs.Lookups.{each_found}
-use Rattle.office_rules.proofs.Openings.{openings_apart}
+use Rattle.office_books.specs.Facts.{opening_of, openings_in, register_of, same}
+use Rattle.office_books.specs.History.{History, facts_of}
+use Rattle.office_books.specs.Intervals.{installations_at, rows_of_opening, rows_of_register}
+use Rattle.office_books.specs.Lawful.{AreLawful}
+use Rattle.office_books.specs.Lawfulness.{FactsAreLawful}
+use Rattle.office_books.specs.Meters.{installation_of}
+use Rattle.office_books.proofs.Lookups.{each_found}
+use Rattle.office_books.proofs.FoundOpenings.{openings_apart}
 use Rattle.office_books.specs.Entries.{installations_of}
 use Rattle.office_books.specs.Ledgers.{Ledger}
 use Rattle.office_books.specs.Rows.{TakesAll}

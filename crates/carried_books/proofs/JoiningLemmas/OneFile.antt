@@ -16,10 +16,10 @@ use Rattle.office_events.specs.declared.facts.Fact.{Fact}
 use Rattle.office_events.specs.declared.facts.Opening.{Opening}
 use Rattle.office_events.specs.declared.questions.Installation.{Installation}
 use Rattle.office_program.specs.Texts.Statements.{statement_of, statements_of}
-use Rattle.office_rules.specs.Facts.{openings_in, same}
-use Rattle.office_rules.specs.Lawfulness.{NamesAreDistinct}
-use Rattle.office_rules.specs.Meters.{installation_of}
-use Rattle.office_rules.proofs.Lists.{reverse_cons}
+use Rattle.office_books.specs.Facts.{openings_in, same}
+use Rattle.office_books.specs.Lawfulness.{NamesAreDistinct}
+use Rattle.office_books.specs.Meters.{installation_of}
+use Rattle.office_books.proofs.Lists.{reverse_cons}
 use Rattle.carried_books.specs.Joining.Statements.{AddsOver, MeterOver, OneFileStatesItsMeters, meter_in, statement_over, statements_over}
 
 pub all_turned : {X : Type 0} (P : X → Type 0) (xs : List X) → All P xs → All P (reverse xs)

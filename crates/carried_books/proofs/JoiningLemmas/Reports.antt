@@ -34,7 +34,7 @@ use Rattle.office_events.specs.declared.facts.Fact.{Fact}
 use Rattle.office_program.specs.Texts.EndTexts.{IsReported}
 use Rattle.office_program.specs.Texts.RangedReports.{PrintsLast}
 use Rattle.office_program.proofs.TextsLemmas.Ranged.{taken_all}
-use Rattle.office_rules.specs.Intervals.{rows_of_register}
+use Rattle.office_books.specs.Intervals.{rows_of_register}
 use Rattle.carried_books.specs.Joining.Days.{HasNumber}
 use Rattle.carried_books.specs.Joining.Files.{HasJoined, rows_over, rows_over_within}
 use Rattle.carried_books.specs.Joining.Reports.{IsReportOver}

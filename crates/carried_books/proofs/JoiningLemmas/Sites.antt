@@ -12,10 +12,10 @@ use Rattle.std.proofs.lemmas.Slice.Eq.{bytes_eq-Decides}
 use Rattle.office_events.specs.declared.facts.Fact.{Fact}
 use Rattle.office_events.specs.declared.facts.Opening.{Opening}
 use Rattle.office_events.specs.declared.questions.Installation.{Installation}
-use Rattle.office_rules.specs.Facts.{openings_in, same}
-use Rattle.office_rules.specs.Lawfulness.{NamesAreDistinct}
-use Rattle.office_rules.specs.Meters.{installation_of}
-use Rattle.office_rules.proofs.Lists.{reverse_cons}
+use Rattle.office_books.specs.Facts.{openings_in, same}
+use Rattle.office_books.specs.Lawfulness.{NamesAreDistinct}
+use Rattle.office_books.specs.Meters.{installation_of}
+use Rattle.office_books.proofs.Lists.{reverse_cons}
 use Rattle.carried_books.specs.Joining.Meters.{AddMeters, AddsMeter, as_one, is_before}
 use Rattle.carried_books.specs.Joining.Sites.{LatestIsOfAllFiles, is_left, last_of, latest, latest_meter, meter_of, of_both, of_office}
 use Rattle.carried_books.specs.declared.joining.sites.LatestMeter.{LatestMeter}

@@ -15,7 +15,7 @@ use Rattle.office_events.specs.declared.facts.Opening.{Opening}
 use Rattle.office_events.specs.declared.facts.Register.{Register}
 use Rattle.office_events.specs.declared.facts.ScaleSource.{ScaleSource}
 use Rattle.office_events.specs.declared.facts.ScaleSource.TheVariants as source
-use Rattle.office_rules.specs.Facts.{latest_in, list_of, registers_of}
+use Rattle.office_books.specs.Facts.{latest_in, list_of, registers_of}
 use Rattle.carried_books.specs.declared.carrying.commands.TimedCommand.{TimedCommand}
 
 -- A command with the timestamp at which a new office is to execute it.

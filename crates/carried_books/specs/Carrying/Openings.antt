@@ -9,8 +9,8 @@ use Rattle.office_events.specs.declared.facts.Fact.{Fact}
 use Rattle.office_events.specs.declared.facts.Opening.{Opening}
 use Rattle.office_events.specs.declared.facts.Register.{Register}
 use Rattle.office_events.specs.declared.questions.Installation.{Installation}
-use Rattle.office_rules.specs.Facts.{registers_of}
-use Rattle.office_rules.specs.Meters.{open_at}
+use Rattle.office_books.specs.Facts.{registers_of}
+use Rattle.office_books.specs.Meters.{open_at}
 use Rattle.carried_books.specs.Carrying.Standings.{last_until}
 use Rattle.carried_books.specs.declared.carrying.openings.Openings.{Openings}
 use Rattle.carried_books.specs.declared.carrying.openings.Openings.TheVariants.{All, NotYet}

@@ -7,7 +7,7 @@ use Rattle.office_events.specs.declared.facts.Device.{Device}
 use Rattle.office_events.specs.declared.facts.Fact.{Fact}
 use Rattle.office_events.specs.declared.facts.Opening.{Opening}
 use Rattle.office_events.specs.declared.questions.Installation.{Installation}
-use Rattle.office_rules.specs.Facts.{devices_in}
+use Rattle.office_books.specs.Facts.{devices_in}
 use Rattle.carried_books.specs.Carrying.Commands.{commands_for}
 use Rattle.carried_books.specs.Carrying.Openings.{AreOpeningsOf, IsNotYet, open_at_devices}
 use Rattle.carried_books.specs.declared.carrying.commands.TimedCommand.{TimedCommand}

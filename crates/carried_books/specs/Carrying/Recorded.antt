@@ -8,9 +8,9 @@ use Rattle.office_events.specs.declared.facts.Fact.{Fact}
 use Rattle.office_events.specs.declared.facts.Fact.TheVariants as fact
 use Rattle.office_events.specs.declared.facts.Opening.{Opening}
 use Rattle.office_events.specs.declared.questions.Installation.{Installation}
-use Rattle.office_rules.specs.Facts.{list_of, registers_of}
-use Rattle.office_rules.specs.History.{History, facts_of}
-use Rattle.office_rules.specs.Meters.{meter_of}
+use Rattle.office_books.specs.Facts.{list_of, registers_of}
+use Rattle.office_books.specs.History.{History, facts_of}
+use Rattle.office_books.specs.Meters.{meter_of}
 use Rattle.carried_books.specs.Carrying.Commands.{commands_for}
 use Rattle.carried_books.specs.Carrying.Feeding.{history_with}
 use Rattle.carried_books.specs.Carrying.Standings.{last_until}

@@ -5,8 +5,8 @@
 use Rattle.std.specs.Prelude.{◌≡◌, ◌⊎◌, ◌+◌, ◌-◌, ◌^◌, nat_le, min, Bool, true, false, not, ◌&&◌, List, [], ◌∷◌, ◌++◌, All, Contains, Option, Some, None}
 use Rattle.meter_audit.specs.CarriedFiles.{GoesOnAs}
 use Rattle.office_events.specs.declared.questions.Installation.{Installation}
-use Rattle.office_rules.specs.Facts.{same}
-use Rattle.office_rules.specs.Meters.{installed}
+use Rattle.office_books.specs.Facts.{same}
+use Rattle.office_books.specs.Meters.{installed}
 use Rattle.office_books.specs.Rows.{TakesAll, TakesFirst}
 use Rattle.carried_books.specs.declared.joining.meters.Apart.{Apart}
 

@@ -15,10 +15,10 @@ use Rattle.office_events.specs.declared.questions.Installation.{Installation}
 use Rattle.office_events.specs.declared.refusals.Refusal.{Refusal}
 use Rattle.office_events.specs.declared.refusals.Refusal.TheVariants as refusal
 use Rattle.office_events.specs.declared.refusals.StoreCause.TheVariants as store
-use Rattle.office_rules.specs.Facts.{opening_of, register_of}
-use Rattle.office_rules.specs.History.{facts_of}
-use Rattle.office_rules.specs.Intervals.{rows_of_opening, rows_of_register}
-use Rattle.office_rules.specs.Meters.{installation_of}
+use Rattle.office_books.specs.Facts.{opening_of, register_of}
+use Rattle.office_books.specs.History.{facts_of}
+use Rattle.office_books.specs.Intervals.{rows_of_opening, rows_of_register}
+use Rattle.office_books.specs.Meters.{installation_of}
 use Rattle.office_books.specs.Ledgers.{Ledger}
 use Rattle.office_books.specs.Rows.{TakesAll}
 use Rattle.office_books.specs.Spans.{rows_within}

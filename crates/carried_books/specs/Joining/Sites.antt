@@ -6,9 +6,9 @@ use Rattle.std.specs.List.{slice_get}
 use Rattle.std.specs.Option.{option_map}
 use Rattle.office_events.specs.declared.facts.Fact.{Fact}
 use Rattle.office_events.specs.declared.questions.Installation.{Installation}
-use Rattle.office_rules.specs.Facts.{same}
-use Rattle.office_rules.specs.Lawful.{AreLawful}
-use Rattle.office_rules.specs.Meters.{installation_at}
+use Rattle.office_books.specs.Facts.{same}
+use Rattle.office_books.specs.Lawful.{AreLawful}
+use Rattle.office_books.specs.Meters.{installation_at}
 use Rattle.office_books.specs.Entries.{installations_of}
 use Rattle.carried_books.specs.Joining.Meters.{AddMeters, as_one}
 use Rattle.carried_books.specs.declared.joining.earlier.EarlierRegister.{EarlierRegister}

@@ -28,8 +28,8 @@ use Rattle.office_events.specs.declared.facts.HeldReading.{HeldReading}
 use Rattle.office_events.specs.declared.questions.Installation.{Installation}
 use Rattle.office_program.specs.Texts.EndTexts.{IsReported}
 use Rattle.office_program.specs.Texts.Statements.{statements_of}
-use Rattle.office_rules.specs.Intervals.{rows_of_meter}
-use Rattle.office_rules.specs.Lawful.{AreLawful}
+use Rattle.office_books.specs.Intervals.{rows_of_meter}
+use Rattle.office_books.specs.Lawful.{AreLawful}
 use Rattle.carried_books.specs.Joining.Files.{StaysRecorded, is_recorded, is_recorded_in}
 use Rattle.carried_books.specs.Joining.Meters.{AddOrAreApart, AreApart, GoesOn, as_one, is_before}
 use Rattle.carried_books.specs.declared.joining.files.Unjoined.{Unjoined}

@@ -2,7 +2,7 @@
 //! together they have one history of the register's meters.
 ghost use Rattle.std.specs.Prelude.{◌≡◌, ℕ, List, [], IfOk};
 ghost use Rattle.office_events.specs.declared.facts.Fact.{Fact};
-ghost use Rattle.office_rules.specs.Intervals.{rows_of_register};
+ghost use Rattle.office_books.specs.Intervals.{rows_of_register};
 ghost use Rattle.office_books.specs.Entries.{installations_of};
 ghost use Rattle.office_books.specs.Ledgers.{Consults, Finds};
 ghost use Rattle.office_books.specs.Spans.{rows_within};

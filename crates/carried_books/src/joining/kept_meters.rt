@@ -4,7 +4,7 @@ ghost use Rattle.std.specs.Prelude.{◌≡◌, ◌≤◌, if◌then◌else◌};
 ghost use Rattle.office_books.specs.Entries.{all_entries};
 ghost use Rattle.office_books.specs.Holds.{holds_of};
 ghost use Rattle.office_books.specs.Ledgers.{Consults, Finds};
-ghost use Rattle.office_rules.specs.Intervals.{rows_of_meter};
+ghost use Rattle.office_books.specs.Intervals.{rows_of_meter};
 ghost use Rattle.energy_report.specs.Held.{held_within};
 ghost use Rattle.energy_report.specs.Statements.{energy_within};
 ghost use Rattle.carried_books.specs.Joining.Statements as statements;

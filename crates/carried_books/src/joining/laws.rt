@@ -8,7 +8,7 @@ ghost use Rattle.carried_books.specs.Joining.Sites.{LatestIsOfAllFiles};
 ghost use Rattle.carried_books.specs.Joining.Statements.{BothFilesStateTheJoinedMeter};
 ghost use Rattle.carried_books.specs.Joining.Statements.{OneFileStatesItsMeters};
 
-use office_rules::names_are_distinct;
+use office_books::names_are_distinct;
 
 /// Proves that a report over one file has the register's days in this file.
 pub fn days_of_one_file_are_its_own()

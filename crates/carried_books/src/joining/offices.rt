@@ -9,10 +9,9 @@ ghost use Rattle.carried_books.specs.Joining.Offices.{ReportsDaysOver};
 
 use crate::joining::days::{EarlierDays, JoinedDays};
 use interval_core::{DayTotal, Zone};
-use office_books::{Books, Span};
+use office_books::{Books, Span, facts_are_lawful};
 use office_core::Office;
 use office_events::{Installation, Name, Refusal};
-use office_rules::facts_are_lawful;
 
 // Adds the energy intervals of the meters in `meters` in a span of time, one meter after another.
 fn add_meters_within<B: Books>(

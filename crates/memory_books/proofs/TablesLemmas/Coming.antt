@@ -2,8 +2,8 @@
 use Rattle.std.proofs.Common.{◌≡◌, ℕ, ◌+◌, ◌<◌, ◌≤◌, List, [], ◌∷◌, ◌++◌, reverse, take, drop, length, get_or, sym, ap, subst, ◌∙◌, arith}
 use Rattle.std.proofs.lemmas.List.{reverse-append, length-reverse, length-take-le, take-append-drop, take-append-le, take_all, length-append}
 use Rattle.office_events.specs.declared.facts.Fact.{Fact}
-use Rattle.office_rules.specs.Lawful.{AreLawful}
-use Rattle.office_rules.proofs.Lists.{reverse_more}
+use Rattle.office_books.specs.Lawful.{AreLawful}
+use Rattle.office_books.proofs.Lists.{reverse_more}
 use Rattle.memory_books.specs.declared.tables.table.Kept.{Kept}
 use Rattle.memory_books.specs.Tables.Growing.{HasCome, latest_first}
 

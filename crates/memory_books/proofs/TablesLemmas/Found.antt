@@ -11,9 +11,9 @@ use Rattle.office_events.specs.declared.facts.Fact.{Fact}
 use Rattle.office_events.specs.declared.facts.Fact.TheVariants as fact
 use Rattle.read_plan.specs.PlannedLists.{Planned}
 use Rattle.office_books.specs.Repeats.{as_repeat, repeat_of}
-use Rattle.office_rules.specs.Facts.{same, if_some, as_list, as_register, as_opening, as_reply, register_of, registers_of, installed_at, list_of}
-use Rattle.office_rules.specs.Intervals.{installations_at}
-use Rattle.office_rules.specs.Readings.{is_read_by}
+use Rattle.office_books.specs.Facts.{same, if_some, as_list, as_register, as_opening, as_reply, register_of, registers_of, installed_at, list_of}
+use Rattle.office_books.specs.Intervals.{installations_at}
+use Rattle.office_books.specs.Readings.{is_read_by}
 use Rattle.memory_books.specs.declared.tables.keys.Key.{Key}
 use Rattle.memory_books.specs.declared.tables.places.Kind.{Kind}
 use Rattle.memory_books.specs.declared.tables.places.Kind.TheVariants.{DeviceLists, Registers, DeviceRegisters, RegisterOpenings, Replies}

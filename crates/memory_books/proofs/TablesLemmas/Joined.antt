@@ -7,11 +7,11 @@ use Rattle.std.proofs.lemmas.List.{append-nil, take_more}
 use Rattle.std.proofs.lemmas.List.Elements.{Contains-push_cases, filter_map-append}
 use Rattle.office_events.specs.declared.facts.Opening.{Opening}
 use Rattle.office_events.specs.declared.facts.Fact.{Fact}
-use Rattle.office_rules.specs.Facts.{as_opening, openings_in}
-use Rattle.office_rules.specs.Intervals.{rows_of_opening, rows_of_installed, rows_of_meter}
-use Rattle.office_rules.specs.Lawful.{AreLawful}
-use Rattle.office_rules.proofs.Journals.{found}
-use Rattle.office_rules.proofs.Lists.{reverse_cons}
+use Rattle.office_books.specs.Facts.{as_opening, openings_in}
+use Rattle.office_books.specs.Intervals.{rows_of_opening, rows_of_installed, rows_of_meter}
+use Rattle.office_books.specs.Lawful.{AreLawful}
+use Rattle.office_books.proofs.Journals.{found}
+use Rattle.office_books.proofs.Lists.{reverse_cons}
 use Rattle.interval_core.specs.declared.shares.Share.{Share}
 use Rattle.memory_books.specs.Tables.IntervalRows.{rows_at}
 use Rattle.memory_books.specs.Tables.Lookups.{opening_at}

@@ -10,11 +10,11 @@ use Rattle.meter_journal.specs.Journal.{entries_in}
 use Rattle.meter_journal.specs.Laws.{JournalsAreKept}
 use Rattle.office_events.specs.declared.facts.Opening.{Opening}
 use Rattle.office_events.specs.declared.facts.Fact.{Fact}
-use Rattle.office_rules.specs.Lawful.{AreLawful}
-use Rattle.office_rules.specs.Meters.{installed, journal_of, rows_of}
-use Rattle.office_rules.specs.Laws.{IsRecorded, JournalsFit}
-use Rattle.office_rules.specs.Ranges.{InstallationsAreInRange}
-use Rattle.office_rules.proofs.Journals.{found, well as well_installed}
+use Rattle.office_books.specs.Lawful.{AreLawful}
+use Rattle.office_books.specs.Meters.{installed, journal_of, rows_of}
+use Rattle.office_books.specs.Laws.{IsRecorded, JournalsFit}
+use Rattle.office_books.specs.Ranges.{InstallationsAreInRange}
+use Rattle.office_books.proofs.Journals.{found, well as well_installed}
 use Rattle.office_books.specs.Sound.{HasNumbers}
 
 pub record IsKnown (facts : List Fact) (o : Opening) : Type 0 where

@@ -8,9 +8,9 @@ use Rattle.std.proofs.lemmas.List.Elements.{filter_map-append}
 use Rattle.office_events.specs.declared.facts.Opening.{Opening}
 use Rattle.office_events.specs.declared.facts.Fact.{Fact}
 use Rattle.office_events.specs.declared.questions.Installation.{Installation}
-use Rattle.office_rules.specs.Lawful.{AreLawful}
-use Rattle.office_rules.specs.Meters.{installation_of, meter_of}
-use Rattle.office_rules.proofs.Journals.{found}
+use Rattle.office_books.specs.Lawful.{AreLawful}
+use Rattle.office_books.specs.Meters.{installation_of, meter_of}
+use Rattle.office_books.proofs.Journals.{found}
 use Rattle.memory_books.specs.Tables.Lookups.{opening_at}
 use Rattle.memory_books.proofs.TablesLemmas.Joined.{recorded_at}
 

@@ -22,14 +22,14 @@ use Rattle.office_events.specs.declared.facts.VoidedEntry.{VoidedEntry}
 use Rattle.office_events.specs.declared.facts.Fact.{Fact}
 use Rattle.office_events.specs.declared.facts.Fact.TheVariants as fact
 use Rattle.office_events.specs.declared.questions.Installation.{Installation}
-use Rattle.office_rules.specs.Ranges.{IsSound, InstallationsAreInRange}
-use Rattle.office_rules.specs.Facts.{same, openings_in, opening_of}
-use Rattle.office_rules.specs.Lawful.{AreLawful, LineFits}
-use Rattle.office_rules.specs.Meters.{line_of, opened, installed, journal_of, rows_of, is_ended, standing, installation_of}
-use Rattle.office_rules.specs.Laws.{IsRecorded, JournalsFit}
-use Rattle.office_rules.specs.Steps.{Stays, OtherMetersStay, HoldsChangeNothing, OpeningsBegin, EntriesMoveOn, moved_by}
-use Rattle.office_rules.proofs.Journals.{by_name, none_and_some}
-use Rattle.office_rules.proofs.Stepping.{named as named_so, own_line, line_after}
+use Rattle.office_books.specs.Ranges.{IsSound, InstallationsAreInRange}
+use Rattle.office_books.specs.Facts.{same, openings_in, opening_of}
+use Rattle.office_books.specs.Lawful.{AreLawful, LineFits}
+use Rattle.office_books.specs.Meters.{line_of, opened, installed, journal_of, rows_of, is_ended, standing, installation_of}
+use Rattle.office_books.specs.Laws.{IsRecorded, JournalsFit}
+use Rattle.office_books.specs.Steps.{Stays, OtherMetersStay, HoldsChangeNothing, OpeningsBegin, EntriesMoveOn, moved_by}
+use Rattle.office_books.proofs.Journals.{by_name, none_and_some}
+use Rattle.office_books.proofs.Stepping.{named as named_so, own_line, line_after}
 use Rattle.memory_books.specs.declared.tables.keys.Key.{Key}
 use Rattle.memory_books.specs.declared.tables.meter.Meter.{Meter}
 use Rattle.memory_books.specs.declared.tables.meters.Meters.{Meters}

@@ -5,7 +5,7 @@ use Rattle.std.specs.declared.vec.Vec.{Vec}
 use Rattle.std.specs.Ordering.{is_eq}
 use Rattle.std.proofs.lemmas.Bool.{cases_Bool, cond-true, cond-false}
 use Rattle.office_events.specs.declared.facts.Fact.{Fact}
-use Rattle.office_rules.proofs.Lists.{reverse_cons}
+use Rattle.office_books.proofs.Lists.{reverse_cons}
 use Rattle.memory_books.specs.declared.tables.keys.Key.{Key}
 use Rattle.memory_books.specs.declared.tables.places.Kind.{Kind}
 use Rattle.memory_books.specs.Tables.Keys.{key_cmp, is_same_key}

@@ -14,11 +14,11 @@ use Rattle.office_events.specs.declared.facts.EndedPoll.{EndedPoll}
 use Rattle.office_events.specs.declared.facts.Fact.{Fact}
 use Rattle.office_events.specs.declared.facts.Fact.TheVariants as fact
 use Rattle.office_events.specs.declared.questions.PollRow.{PollRow}
-use Rattle.office_rules.specs.Facts.{polls_in, pending_in, ends_of, end_of}
-use Rattle.office_rules.specs.PollEndings.{AreNumbered}
-use Rattle.office_rules.specs.Lawful.{AreLawful, PollFits, EndFits}
-use Rattle.office_rules.specs.Readings.{poll_row, poll_row_of}
-use Rattle.office_rules.proofs.Lists.{reverse_cons, get_last, get_others}
+use Rattle.office_books.specs.Facts.{polls_in, pending_in, ends_of, end_of}
+use Rattle.office_books.specs.PollEndings.{AreNumbered}
+use Rattle.office_books.specs.Lawful.{AreLawful, PollFits, EndFits}
+use Rattle.office_books.specs.Readings.{poll_row, poll_row_of}
+use Rattle.office_books.proofs.Lists.{reverse_cons, get_last, get_others}
 use Rattle.memory_books.specs.Tables.Polls.{row_with_end, polls_but}
 
 -- If the rules accept the records, then their polls are numbered consecutively from 1.

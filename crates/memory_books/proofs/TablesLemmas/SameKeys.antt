@@ -7,8 +7,8 @@ use Rattle.std.specs.declared.cmp.Ordering.TheVariants.{Less, Equal, Greater}
 use Rattle.std.proofs.lemmas.Bool.{eqb-true}
 use Rattle.std.proofs.lemmas.Bool.Decides.{nat_tests}
 use Rattle.std.proofs.lemmas.Map.Text.{is_eq-slice_cmp}
-use Rattle.office_rules.specs.Facts.{same}
-use Rattle.office_rules.proofs.Lookups.{same_text}
+use Rattle.office_books.specs.Facts.{same}
+use Rattle.office_books.proofs.Lookups.{same_text}
 use Rattle.memory_books.specs.declared.tables.keys.Key.{Key}
 use Rattle.memory_books.specs.Tables.Keys.{key_cmp, is_same_key, numbered}
 

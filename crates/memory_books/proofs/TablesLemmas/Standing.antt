@@ -5,7 +5,7 @@ use Rattle.std.specs.Option.{option_and_then}
 use Rattle.std.proofs.lemmas.Bool.{cases_Bool, cond-true, cond-false}
 use Rattle.std.proofs.lemmas.List.{length-reverse}
 use Rattle.office_events.specs.declared.facts.Fact.{Fact}
-use Rattle.office_rules.proofs.Lists.{reverse_cons, get_last, get_others}
+use Rattle.office_books.proofs.Lists.{reverse_cons, get_last, get_others}
 use Rattle.memory_books.specs.Tables.Places.{places_of}
 use Rattle.memory_books.proofs.TablesLemmas.Turned.{filter_map_reverse}
 

@@ -3,7 +3,7 @@ use Rattle.std.proofs.Common.{◌≡◌, Bool, List, [], ◌∷◌, ◌++◌, re
 use Rattle.std.specs.List.{filter, filter_map, cons_option}
 use Rattle.std.proofs.lemmas.List.{append-nil, reverse-reverse}
 use Rattle.std.proofs.lemmas.List.Elements.{filter_map-append}
-use Rattle.office_rules.proofs.Lists.{reverse_cons, filter_reverse}
+use Rattle.office_books.proofs.Lists.{reverse_cons, filter_reverse}
 
 one_last : {X Y : Type 0} (h : X → Option Y) (x : X) (o : Option Y) (ys : List Y) → h x ≡ o
     → reverse ys ++ cons_option o [] ≡ reverse (cons_option o ys)

@@ -14,7 +14,7 @@ use Rattle.office_books.specs.declared.spans.Span.{Span}
 use Rattle.office_books.specs.Rows.{TakesAll}
 use Rattle.office_books.specs.Spans.{rows_within}
 use Rattle.office_events.specs.declared.facts.Fact.{Fact}
-use Rattle.office_rules.specs.Intervals.{rows_of_opening}
+use Rattle.office_books.specs.Intervals.{rows_of_opening}
 use Rattle.memory_books.specs.Tables.Lookups.{opening_at}
 
 -- True if the sink received all of these rows except the last row, which is still in `waits`.

@@ -3,7 +3,7 @@ use Rattle.std.specs.Prelude.{ℕ, ◌==◌, ◌&&◌, Bool, List}
 use Rattle.std.specs.Cmp.Lexicographic.{slice_cmp}
 use Rattle.std.specs.Ordering.{nat_cmp, on, then_cmp}
 use Rattle.std.specs.declared.cmp.Ordering.{Ordering}
-use Rattle.office_rules.specs.Facts.{same}
+use Rattle.office_books.specs.Facts.{same}
 use Rattle.memory_books.specs.declared.tables.keys.Key.{Key}
 
 -- The order of keys: by the bytes of their names, then by their numbers.

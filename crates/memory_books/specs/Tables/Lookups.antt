@@ -10,8 +10,8 @@ use Rattle.office_events.specs.declared.facts.Fact.{Fact}
 use Rattle.read_plan.specs.PlannedLists.{Planned}
 use Rattle.office_books.specs.declared.books.Repeat.{Repeat}
 use Rattle.office_books.specs.Repeats.{as_repeat}
-use Rattle.office_rules.specs.Facts.{as_register, as_opening, as_list, as_reply, if_some}
-use Rattle.office_rules.specs.Readings.{is_read_by}
+use Rattle.office_books.specs.Facts.{as_register, as_opening, as_list, as_reply, if_some}
+use Rattle.office_books.specs.Readings.{is_read_by}
 
 -- The point list in a record, or `None` if the record has no point list or the list has no points.
 abbrev pub listed : Fact → Option Planned

@@ -4,8 +4,8 @@ use Rattle.std.specs.BTreeMap.{get}
 use Rattle.meter_journal.specs.Lists as lists
 use Rattle.office_events.specs.declared.facts.Opening.{Opening}
 use Rattle.office_events.specs.declared.facts.Fact.{Fact}
-use Rattle.office_rules.specs.Facts.{same, opening_of}
-use Rattle.office_rules.specs.Meters.{rows_of, installation_of}
+use Rattle.office_books.specs.Facts.{same, opening_of}
+use Rattle.office_books.specs.Meters.{rows_of, installation_of}
 use Rattle.memory_books.specs.declared.tables.meter.Meter.{Meter}
 use Rattle.memory_books.specs.declared.tables.meters.Meters.{Meters}
 use Rattle.memory_books.specs.Tables.Keys.{key_cmp, named}

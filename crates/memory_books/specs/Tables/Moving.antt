@@ -8,11 +8,11 @@ use Rattle.meter_journal.specs.Lists as lists
 use Rattle.office_events.specs.declared.facts.Opening.{Opening}
 use Rattle.office_events.specs.declared.facts.BookedEntry.{BookedEntry}
 use Rattle.office_events.specs.declared.facts.Fact.{Fact}
-use Rattle.office_rules.specs.Ranges.{IsSound}
-use Rattle.office_rules.specs.Laws.{IsRecorded}
-use Rattle.office_rules.specs.Steps.{moved_by}
-use Rattle.office_rules.specs.Lawful.{AreLawful}
-use Rattle.office_rules.specs.Meters.{opened, installed, standing, rows_of, installation_of}
+use Rattle.office_books.specs.Ranges.{IsSound}
+use Rattle.office_books.specs.Laws.{IsRecorded}
+use Rattle.office_books.specs.Steps.{moved_by}
+use Rattle.office_books.specs.Lawful.{AreLawful}
+use Rattle.office_books.specs.Meters.{opened, installed, standing, rows_of, installation_of}
 use Rattle.office_books.specs.Sound.{as_begun, HasNumbers, MayEnter}
 use Rattle.memory_books.specs.declared.tables.meter.Meter.{Meter}
 

@@ -5,8 +5,8 @@ use Rattle.office_events.specs.declared.facts.Poll.{Poll}
 use Rattle.office_events.specs.declared.facts.EndedPoll.{EndedPoll}
 use Rattle.office_events.specs.declared.facts.Fact.{Fact}
 use Rattle.office_events.specs.declared.questions.PollRow.{PollRow}
-use Rattle.office_rules.specs.Facts.{polls_in, pending_in}
-use Rattle.office_rules.specs.Readings.{poll_row}
+use Rattle.office_books.specs.Facts.{polls_in, pending_in}
+use Rattle.office_books.specs.Readings.{poll_row}
 use Rattle.memory_books.specs.declared.tables.polls.Polls.{Polls}
 use Rattle.memory_books.specs.declared.tables.polls.Pending.{Pending}
 

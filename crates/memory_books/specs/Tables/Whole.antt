@@ -1,7 +1,7 @@
 -- Definitions of when all tables of a store in memory agree with its records.
 use Rattle.std.specs.Prelude.{◌≡◌, List, reverse}
 use Rattle.office_events.specs.declared.facts.Fact.{Fact}
-use Rattle.office_rules.specs.Lawful.{AreLawful}
+use Rattle.office_books.specs.Lawful.{AreLawful}
 use Rattle.memory_books.specs.declared.tables.places.Kind.{Kind}
 use Rattle.memory_books.specs.declared.tables.places.Kind.TheVariants.{DeviceLists, Registers, DeviceRegisters, RegisterOpenings, Replies}
 use Rattle.memory_books.specs.declared.tables.places.Places.{Places}

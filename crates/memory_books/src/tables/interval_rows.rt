@@ -6,7 +6,7 @@ ghost use Rattle.energy_core.specs.Account.{intervals_touched};
 ghost use Rattle.interval_core.specs.Share.{shares_of};
 ghost use Rattle.meter_journal.specs.Books as books;
 ghost use Rattle.office_books.specs.Sound.{HasNumbers};
-ghost use Rattle.office_rules.specs.Meters as meters;
+ghost use Rattle.office_books.specs.Meters as meters;
 ghost use Rattle.memory_books.specs.Tables.IntervalRows.{Passes, TakesRowsOf, TakesSome, TakesWithin};
 
 use energy_core::{

@@ -2,7 +2,7 @@
 ghost use Rattle.std.specs.Prelude.{◌≡◌, IfOk};
 ghost use Rattle.std.specs.List.{filter_map};
 ghost use Rattle.std.specs.Option.{option_copied};
-ghost use Rattle.office_rules.specs.Facts as kinds;
+ghost use Rattle.office_books.specs.Facts as kinds;
 ghost use Rattle.office_books.specs.Repeats as repeats;
 ghost use Rattle.memory_books.specs.Tables.Lookups as spots;
 

@@ -7,9 +7,9 @@ ghost use Rattle.office_books.specs.Entries.{entries_at, first_from};
 ghost use Rattle.office_books.specs.Rows.{TakesAll};
 ghost use Rattle.office_events.specs.declared.facts.Fact.{Fact};
 ghost use Rattle.office_events.specs.declared.facts.Opening.{Opening as RecordedOpening};
-ghost use Rattle.office_rules.specs.Ranges.{IsSound};
-ghost use Rattle.office_rules.specs.Intervals.{rows_of_opening};
-ghost use Rattle.office_rules.specs.Meters.{place_in, rows_of};
+ghost use Rattle.office_books.specs.Ranges.{IsSound};
+ghost use Rattle.office_books.specs.Intervals.{rows_of_opening};
+ghost use Rattle.office_books.specs.Meters.{place_in, rows_of};
 ghost use Rattle.memory_books.specs.Tables.IntervalRows.{TakesSome, TakesWithin};
 ghost use Rattle.memory_books.specs.Tables.Moving.{VoidsAt};
 
@@ -20,10 +20,10 @@ use meter_journal::{
     EntryRow, are_numbered, find_row, journals_are_kept, places_were_kept, row_after, strike,
 };
 use office_books::{
-    MeterEntry, RowSink, Span, begun, installation_after, list_entries, moved, opened,
+    MeterEntry, RowSink, Span, begun, installation_after, installations_are_in_range, journals_fit,
+    list_entries, moved, opened,
 };
 use office_events::{BookedEntry, EntryContext, Installation, Opening};
-use office_rules::{installations_are_in_range, journals_fit};
 use std::alloc::{AllocError, Global};
 
 fn void_in_slice(last: &Last, rows: &mut [EntryRow], place: u64)

@@ -4,10 +4,10 @@ ghost use Rattle.office_events.specs.declared.facts.Fact.{Fact};
 ghost use Rattle.office_books.specs.Entries.{entries_from};
 ghost use Rattle.office_books.specs.Near.{ReportsNear};
 ghost use Rattle.office_books.specs.Rows.{TakesAll};
-ghost use Rattle.office_rules.specs.Ranges.{IsSound};
-ghost use Rattle.office_rules.specs.Intervals.{rows_of_meter};
-ghost use Rattle.office_rules.specs.Lawful.{AreLawful};
-ghost use Rattle.office_rules.specs.Meters.{meter_of, entry_at};
+ghost use Rattle.office_books.specs.Ranges.{IsSound};
+ghost use Rattle.office_books.specs.Intervals.{rows_of_meter};
+ghost use Rattle.office_books.specs.Lawful.{AreLawful};
+ghost use Rattle.office_books.specs.Meters.{meter_of, entry_at};
 ghost use Rattle.memory_books.specs.Tables.IntervalRows.{TakesSome, TakesWithin};
 ghost use Rattle.memory_books.specs.Tables.Moving.{HasEntered, IsSame, HasStruck};
 
@@ -17,12 +17,11 @@ use crate::tables::places::named;
 use crate::tables::table::Table;
 use interval_core::Share;
 use meter_journal::{journals_are_kept, places_were_kept};
-use office_books::{MeterEntry, RowSink, Span, is_sound, with_whole_energy};
-use office_events::{BookedEntry, EntryContext, Fact, Installation, Name, Opening, VoidedEntry};
-use office_rules::{
-    entries_move_on, holds_change_nothing, installations_are_in_range, journals_fit,
-    openings_begin, other_meters_stay,
+use office_books::{
+    MeterEntry, RowSink, Span, entries_move_on, holds_change_nothing, installations_are_in_range,
+    is_sound, journals_fit, openings_begin, other_meters_stay, with_whole_energy,
 };
+use office_events::{BookedEntry, EntryContext, Fact, Installation, Name, Opening, VoidedEntry};
 use std::alloc::{AllocError, Global};
 use std::collections::BTreeMap;
 

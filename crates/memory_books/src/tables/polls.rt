@@ -1,9 +1,9 @@
 //! The table of all polls by number, and the table of pending polls.
 ghost use Rattle.std.specs.Prelude.{◌≡◌, [], List, length, IfOk};
 ghost use Rattle.office_events.specs.declared.facts.Fact.{Fact};
-ghost use Rattle.office_rules.specs.Facts.{polls_in, pending_in};
-ghost use Rattle.office_rules.specs.Lawful.{AreLawful};
-ghost use Rattle.office_rules.specs.Readings.{poll_row_of};
+ghost use Rattle.office_books.specs.Facts.{polls_in, pending_in};
+ghost use Rattle.office_books.specs.Lawful.{AreLawful};
+ghost use Rattle.office_books.specs.Readings.{poll_row_of};
 
 use crate::tables::table::Table;
 use office_events::{EndedPoll, Fact, Poll, PollRow};

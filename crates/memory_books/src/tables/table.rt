@@ -1,7 +1,7 @@
 //! Tables to which the missing records of the store's list are added before a lookup.
 ghost use Rattle.std.specs.Prelude.{◌≡◌, List, [], length, OnOk};
 ghost use Rattle.office_events.specs.declared.facts.Fact.{Fact};
-ghost use Rattle.office_rules.specs.Lawful.{AreLawful};
+ghost use Rattle.office_books.specs.Lawful.{AreLawful};
 ghost use Rattle.memory_books.specs.Tables.Growing.{HasCome, latest_first};
 
 use office_events::Fact;
@@ -11,7 +11,7 @@ use std::alloc::AllocError;
 pub(crate) trait Table: Drop {
     ghost use Rattle.std.specs.Prelude.{◌≡◌, List, ◌∷◌, length, Option, OnOk, OnErr};
     ghost use Rattle.office_events.specs.declared.facts.Fact.{Fact};
-    ghost use Rattle.office_rules.specs.Lawful.{AreLawful};
+    ghost use Rattle.office_books.specs.Lawful.{AreLawful};
     ghost use Rattle.memory_books.specs.declared.tables.places.Kind.{Kind};
 
     /// The kind of a table of indices, which never changes, or `None` for any other table.

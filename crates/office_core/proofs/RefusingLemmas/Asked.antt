@@ -9,14 +9,14 @@ use Rattle.office_events.specs.declared.events.Event.TheVariants as event
 use Rattle.office_events.specs.declared.facts.Fact.{Fact}
 use Rattle.office_events.specs.declared.refusals.Refusal.{Refusal}
 use Rattle.office_events.specs.declared.refusals.Refusal.TheVariants as refusal
-use Rattle.office_rules.specs.Facts.{moment_limit, request_limit}
-use Rattle.office_rules.specs.History.{History, facts_of, slots_of, latest_of}
-use Rattle.office_rules.specs.Refusals.{asks_wrongly, reasons, refuses, refusal_of}
-use Rattle.office_booking.specs.declared.sessions.slots.Slot.{Slot}
-use Rattle.office_booking.specs.Sessions.Keeping.{KeepsSlots}
+use Rattle.office_books.specs.Facts.{moment_limit, request_limit}
+use Rattle.office_books.specs.History.{History, facts_of, slots_of, latest_of}
+use Rattle.office_books.specs.Refusals.{asks_wrongly, reasons, refuses, refusal_of}
+use Rattle.office_core.specs.declared.sessions.slots.Slot.{Slot}
+use Rattle.office_core.specs.Sessions.Keeping.{KeepsSlots}
 use Rattle.office_books.specs.declared.faults.BooksFault.{BooksFault}
 use Rattle.office_core.specs.declared.refusing.arrivals.Arrival.{Arrival}
-use Rattle.office_booking.specs.Sessions.Ranges.{IsInRange}
+use Rattle.office_core.specs.Sessions.Ranges.{IsInRange}
 use Rattle.office_core.specs.Refusing.Reasons.{arrival_of, request_arrival, speaks_against, refusal_under, IsWhy, IsWhyAmong, Befits}
 use Rattle.office_core.proofs.RefusingLemmas.AtMeters.{same_find, or_false}
 

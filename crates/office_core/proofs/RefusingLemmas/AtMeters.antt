@@ -17,11 +17,11 @@ use Rattle.office_events.specs.declared.questions.EntryContext.{EntryContext}
 use Rattle.office_events.specs.declared.refusals.Refusal.{Refusal}
 use Rattle.office_events.specs.declared.refusals.Refusal.TheVariants as refusal
 use Rattle.office_events.specs.declared.refusals.StoreCause.TheVariants as store
-use Rattle.office_rules.specs.Facts.{opening_of, openings_in}
-use Rattle.office_rules.specs.Meters.{installation_at, if_open, open_at}
-use Rattle.office_rules.specs.Sessions.{Slot}
-use Rattle.office_rules.specs.History.{corrected_at}
-use Rattle.office_rules.specs.Refusals.{asks_unknown, asks_taken, asks_bad_scale, asks_bad_field, asks_busy, asks_faulty, asks_unvoidable, has_no_meter, installation_limit, is_closed, is_crowded, is_start, makes_fault, reasons, voided_place, is_held_for, verdict_at}
+use Rattle.office_books.specs.Facts.{opening_of, openings_in}
+use Rattle.office_books.specs.Meters.{installation_at, if_open, open_at}
+use Rattle.office_books.specs.Sessions.{Slot}
+use Rattle.office_books.specs.History.{corrected_at}
+use Rattle.office_books.specs.Refusals.{asks_unknown, asks_taken, asks_bad_scale, asks_bad_field, asks_busy, asks_faulty, asks_unvoidable, has_no_meter, installation_limit, is_closed, is_crowded, is_start, makes_fault, reasons, voided_place, is_held_for, verdict_at}
 use Rattle.office_core.specs.declared.refusing.arrivals.Arrival.{Arrival}
 use Rattle.office_core.specs.Refusing.Entries.{entry_has_fault, is_faulty, speaks_of_entry, entry_refusal}
 use Rattle.office_core.specs.Refusing.Reasons.{speaks_against, refusal_under}

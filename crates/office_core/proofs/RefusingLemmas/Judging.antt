@@ -19,9 +19,9 @@ use Rattle.office_events.specs.declared.facts.Fact.{Fact}
 use Rattle.office_events.specs.declared.facts.Opening.{Opening}
 use Rattle.office_events.specs.declared.questions.EntryContext.{EntryContext}
 use Rattle.office_events.specs.declared.questions.Installation.{Installation}
-use Rattle.office_rules.specs.Facts.{opening_of}
-use Rattle.office_rules.specs.Meters.{rows_of, installation_of, place_in, entry_at}
-use Rattle.office_rules.specs.Refusals.{verdict_between, verdict_at, is_held_for, is_not_voidable}
+use Rattle.office_books.specs.Facts.{opening_of}
+use Rattle.office_books.specs.Meters.{rows_of, installation_of, place_in, entry_at}
+use Rattle.office_books.specs.Refusals.{verdict_between, verdict_at, is_held_for, is_not_voidable}
 use Rattle.office_books.specs.Near.{with_energy, ReportsNear}
 use Rattle.office_core.specs.Refusing.Spots.{is_full, IsJudgedAs}
 

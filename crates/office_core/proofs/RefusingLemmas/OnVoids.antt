@@ -7,8 +7,8 @@ use Rattle.office_events.specs.declared.facts.Fact.{Fact}
 use Rattle.office_events.specs.declared.refusals.Refusal.{Refusal}
 use Rattle.office_events.specs.declared.refusals.Refusal.TheVariants as refusal
 use Rattle.office_events.specs.declared.refusals.StoreCause.TheVariants as store
-use Rattle.office_rules.specs.Sessions.{Slot}
-use Rattle.office_rules.specs.Refusals.{reasons, is_held_for}
+use Rattle.office_books.specs.Sessions.{Slot}
+use Rattle.office_books.specs.Refusals.{reasons, is_held_for}
 use Rattle.office_core.specs.declared.refusing.arrivals.Arrival.{Arrival}
 use Rattle.office_core.specs.declared.refusing.voids.Spot.{Spot}
 use Rattle.office_core.specs.Refusing.Reasons.{speaks_against, refusal_under}

@@ -13,9 +13,9 @@ use Rattle.office_events.specs.declared.facts.Fact.{Fact}
 use Rattle.office_events.specs.declared.facts.Opening.{Opening}
 use Rattle.office_events.specs.declared.questions.EntryContext.{EntryContext}
 use Rattle.office_events.specs.declared.questions.Installation.{Installation}
-use Rattle.office_rules.specs.Facts.{opening_of}
-use Rattle.office_rules.specs.Meters.{opened, journal_of, rows_of, place_in, entry_at, installation_of, meter_of}
-use Rattle.office_rules.specs.Refusals.{has_place, is_not_voidable, verdict_at}
+use Rattle.office_books.specs.Facts.{opening_of}
+use Rattle.office_books.specs.Meters.{opened, journal_of, rows_of, place_in, entry_at, installation_of, meter_of}
+use Rattle.office_books.specs.Refusals.{has_place, is_not_voidable, verdict_at}
 use Rattle.office_core.specs.declared.refusing.voids.Spot.TheVariants as spot
 use Rattle.office_core.specs.Refusing.Spots.{IsAt, IsJudgedAs}
 

@@ -11,13 +11,13 @@ use Rattle.poll_core.specs.Standing as standing
 use Rattle.poll_core.specs.Standing.{last_moment}
 use Rattle.poll_core.specs.Starting.{start_fault, AreStarts, IsReady}
 use Rattle.office_events.specs.declared.facts.Device.{Device}
-use Rattle.office_rules.specs.Sessions as sessions
-use Rattle.office_rules.specs.Sessions.{Send, is_startable, start_by, sends_on, slot_of}
-use Rattle.office_rules.specs.History.{sends_from}
-use Rattle.office_rules.specs.Refusals.{is_ready}
-use Rattle.office_booking.specs.declared.sessions.slots.Slot.{Slot}
-use Rattle.office_booking.specs.Sessions.Keeping.{KeepsPresent, KeepsSession, KeepsSlots}
-use Rattle.office_booking.proofs.SessionsLemmas.Keeping.{keeps_at}
+use Rattle.office_books.specs.Sessions as sessions
+use Rattle.office_books.specs.Sessions.{Send, is_startable, start_by, sends_on, slot_of}
+use Rattle.office_books.specs.History.{sends_from}
+use Rattle.office_books.specs.Refusals.{is_ready}
+use Rattle.office_core.specs.declared.sessions.slots.Slot.{Slot}
+use Rattle.office_core.specs.Sessions.Keeping.{KeepsPresent, KeepsSession, KeepsSlots}
+use Rattle.office_core.proofs.SessionsLemmas.Keeping.{keeps_at}
 use Rattle.office_core.specs.Refusing.Rounds.{HasRoomFor, HasRoomOn}
 
 some_is_none : {X : Type 0} (o : Option X) → IsSome o → is_none o ≡ false

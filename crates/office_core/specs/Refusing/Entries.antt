@@ -10,8 +10,8 @@ use Rattle.energy_core.specs.Admission as entering
 use Rattle.office_events.specs.declared.questions.Installation.{Installation}
 use Rattle.office_events.specs.declared.refusals.Refusal.{Refusal}
 use Rattle.office_events.specs.declared.refusals.Refusal.TheVariants as refusal
-use Rattle.office_rules.specs.Meters.{if_open}
-use Rattle.office_rules.specs.Refusals.{reasons}
+use Rattle.office_books.specs.Meters.{if_open}
+use Rattle.office_books.specs.Refusals.{reasons}
 use Rattle.office_core.specs.declared.refusing.arrivals.Arrival.{Arrival}
 use Rattle.office_core.specs.Refusing.Asking.{IsOfEvent}
 

@@ -6,14 +6,14 @@ use Rattle.office_events.specs.declared.events.Asked.{Asked}
 use Rattle.office_events.specs.declared.facts.Fact.{Fact}
 use Rattle.office_events.specs.declared.refusals.Refusal.{Refusal}
 use Rattle.office_events.specs.declared.refusals.Refusal.TheVariants as refusal
-use Rattle.office_rules.specs.Facts.{moment_limit, request_limit}
-use Rattle.office_rules.specs.Sessions as sessions
-use Rattle.office_rules.specs.Refusals.{asks_wrongly, reasons}
-use Rattle.office_booking.specs.declared.sessions.slots.Slot.{Slot}
-use Rattle.office_booking.specs.Sessions.Keeping.{KeepsSlots}
+use Rattle.office_books.specs.Facts.{moment_limit, request_limit}
+use Rattle.office_books.specs.Sessions as sessions
+use Rattle.office_books.specs.Refusals.{asks_wrongly, reasons}
+use Rattle.office_core.specs.declared.sessions.slots.Slot.{Slot}
+use Rattle.office_core.specs.Sessions.Keeping.{KeepsSlots}
 use Rattle.office_core.specs.declared.refusing.arrivals.Arrival.{Arrival}
 use Rattle.office_core.specs.Refusing.Asking.{IsOfEvent}
-use Rattle.office_booking.specs.Sessions.Ranges.{IsCommandInRange}
+use Rattle.office_core.specs.Sessions.Ranges.{IsCommandInRange}
 
 -- The timestamp `at` of an event, checked against the timestamp `latest` of the latest accepted
 -- event.

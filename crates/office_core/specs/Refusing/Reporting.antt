@@ -2,10 +2,10 @@
 use Rattle.std.specs.Prelude.{◌≡◌, ℕ, List, Option, Result, IfOk, IfSome}
 use Rattle.office_events.specs.declared.events.Event.{Event}
 use Rattle.office_events.specs.declared.refusals.Refusal.{Refusal}
-use Rattle.office_rules.specs.History.{History, facts_of, slots_of, latest_of}
-use Rattle.office_rules.specs.Refusals.{refusal_of}
-use Rattle.office_booking.specs.declared.sessions.slots.Slot.{Slot}
-use Rattle.office_booking.specs.Sessions.Keeping.{KeepsSlots}
+use Rattle.office_books.specs.History.{History, facts_of, slots_of, latest_of}
+use Rattle.office_books.specs.Refusals.{refusal_of}
+use Rattle.office_core.specs.declared.sessions.slots.Slot.{Slot}
+use Rattle.office_core.specs.Sessions.Keeping.{KeepsSlots}
 use Rattle.office_books.specs.declared.faults.BooksFault.{BooksFault}
 use Rattle.office_books.specs.Ledgers.{Ledger}
 use Rattle.office_core.specs.Refusing.Asking.{IsOfSession}

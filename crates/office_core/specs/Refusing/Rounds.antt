@@ -3,9 +3,9 @@ use Rattle.std.specs.Prelude.{◌≡◌, ℕ, min, true, false, List, length, Op
 use Rattle.mb_wire.specs.declared.span.ReadSpan.{ReadSpan}
 use Rattle.poll_core.specs.Settling as session
 use Rattle.office_events.specs.declared.facts.Device.{Device}
-use Rattle.office_rules.specs.Sessions.{Slot, slot_of, is_startable, sends_at}
-use Rattle.office_rules.specs.History.{sends_from}
-use Rattle.office_rules.specs.Refusals.{can_start}
+use Rattle.office_books.specs.Sessions.{Slot, slot_of, is_startable, sends_at}
+use Rattle.office_books.specs.History.{sends_from}
+use Rattle.office_books.specs.Refusals.{can_start}
 
 -- True if the named device exists and can start exactly `room` polls in a row.
 pub record HasRoomFor (slots : List Slot) (device : Option (List ℕ)) (room : ℕ) : Type 0 where

@@ -8,10 +8,10 @@ use Rattle.office_events.specs.declared.facts.Fact.{Fact}
 use Rattle.office_events.specs.declared.questions.EntryContext.{EntryContext}
 use Rattle.office_events.specs.declared.refusals.Refusal.{Refusal}
 use Rattle.office_events.specs.declared.refusals.Refusal.TheVariants as refusal
-use Rattle.office_rules.specs.Facts.{opening_of}
-use Rattle.office_rules.specs.Meters.{entry_at}
-use Rattle.office_rules.specs.Refusals.{has_place, is_not_voidable, is_held_for, verdict_at, reasons}
-use Rattle.office_rules.specs.Ranges.{IsSound}
+use Rattle.office_books.specs.Facts.{opening_of}
+use Rattle.office_books.specs.Meters.{entry_at}
+use Rattle.office_books.specs.Refusals.{has_place, is_not_voidable, is_held_for, verdict_at, reasons}
+use Rattle.office_books.specs.Ranges.{IsSound}
 use Rattle.office_core.specs.declared.refusing.arrivals.Arrival.{Arrival}
 use Rattle.office_core.specs.declared.refusing.voids.Spot.{Spot}
 use Rattle.office_core.specs.declared.refusing.voids.Spot.TheVariants as spot

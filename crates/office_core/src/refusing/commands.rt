@@ -1,6 +1,6 @@
 //! Finds the reason to refuse a command.
 ghost use Rattle.std.specs.Prelude.{◌≡◌, None, IfOk, IsOk};
-ghost use Rattle.office_booking.specs.Sessions.Places.{StartsOnSlot};
+ghost use Rattle.office_core.specs.Sessions.Places.{StartsOnSlot};
 ghost use Rattle.office_books.specs.Ledgers.{Finds, OnlyReads};
 ghost use Rattle.office_core.specs.Refusing.Asking.{IsOfDevices};
 ghost use Rattle.office_core.specs.Refusing.Reasons.{IsWhyAmong, Befits};
@@ -13,7 +13,7 @@ use crate::refusing::installs::install;
 use crate::refusing::registers::add_register;
 use crate::refusing::starts::{start_poll, start_round};
 use crate::refusing::voids::void_entry;
-use office_booking::Slot;
+use crate::Slot;
 use office_books::{Books, BooksFault};
 use office_events::{Command, Refusal};
 

@@ -2,13 +2,13 @@
 ghost use Rattle.std.specs.Prelude.{◌≡◌, List, nat_le, length};
 ghost use Rattle.office_events.specs.declared.commands.Command.TheVariants as command;
 ghost use Rattle.office_events.specs.declared.facts.Fact.{Fact};
-ghost use Rattle.office_rules.specs.Refusals.{device_limit};
-ghost use Rattle.office_booking.specs.Sessions.Keeping.{IsOfKept};
+ghost use Rattle.office_books.specs.Refusals.{device_limit};
+ghost use Rattle.office_core.specs.Sessions.Keeping.{IsOfKept};
 ghost use Rattle.office_core.specs.Refusing.Reasons.{IsWhyAmong, Befits};
 
 use crate::refusing::arrivals::Arrival;
 use crate::refusing::limits::is_bad_device;
-use office_booking::{Slot, has_device};
+use crate::{Slot, has_device};
 use office_events::{AddDevice, MAX_DEVICES, PutList, Refusal};
 
 /// Returns true if the office already has the maximum number of devices.

@@ -1,6 +1,6 @@
 //! Finds the reason to refuse an entry that a command adds to a meter.
 ghost use Rattle.std.specs.Prelude.{◌≡◌};
-ghost use Rattle.office_rules.specs.Ranges.{IsSound};
+ghost use Rattle.office_books.specs.Ranges.{IsSound};
 ghost use Rattle.office_core.specs.Refusing.Given.{entry_of};
 ghost use Rattle.office_core.specs.Refusing.Entries.{entry_refusal, BefitsEntry};
 

@@ -2,15 +2,15 @@
 ghost use Rattle.std.specs.Prelude.{◌≡◌, IfOk, IfSome, IsOk, None};
 ghost use Rattle.office_books.specs.Ledgers.{OnlyReads};
 ghost use Rattle.office_core.specs.Refusing.Asking.{AsksNoBooks, IsOfDevice, IsOfEvent};
-ghost use Rattle.office_rules.specs.Sessions.{command_in};
-ghost use Rattle.office_booking.specs.Sessions.Places.{AsksOnSlot};
-ghost use Rattle.office_booking.specs.Sessions.Ranges.{IsInRange};
+ghost use Rattle.office_books.specs.Sessions.{command_in};
+ghost use Rattle.office_core.specs.Sessions.Places.{AsksOnSlot};
+ghost use Rattle.office_core.specs.Sessions.Ranges.{IsInRange};
 ghost use Rattle.office_core.specs.Refusing.Reporting.{ReportsAlone, ReportsWhy};
 
 use crate::refusing::arrivals::Arrival;
 use crate::refusing::commands::refusal_of_command;
 use crate::refusing::sessions::refusal_of_session;
-use office_booking::{Slot, has_device, is_connected};
+use crate::{Slot, has_device, is_connected};
 use office_books::{Books, BooksFault};
 use office_events::{Event, Refusal};
 

@@ -3,7 +3,7 @@
 ghost use Rattle.std.specs.Prelude.{◌≡◌, ◌≤◌, ◌^◌};
 ghost use Rattle.energy_core.specs.Account.{moment_of, reached};
 ghost use Rattle.energy_core.specs.declared.admission.TermFault.TheVariants as fault;
-ghost use Rattle.office_rules.specs.Ranges.{IsSound};
+ghost use Rattle.office_books.specs.Ranges.{IsSound};
 ghost use Rattle.office_core.specs.Refusing.Given.{entry_of};
 ghost use Rattle.office_core.specs.Refusing.Entries.{entry_has_fault};
 

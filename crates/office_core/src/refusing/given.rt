@@ -1,7 +1,7 @@
 //! Entries with the numbers of a command, before the office checks them.
 ghost use Rattle.std.specs.Prelude.{◌≡◌};
 ghost use Rattle.energy_core.specs.declared.entries.Entry.TheVariants as entry;
-ghost use Rattle.office_rules.specs.History.{read_at};
+ghost use Rattle.office_books.specs.History.{read_at};
 ghost use Rattle.office_core.specs.Refusing.Given.{entry_of};
 
 use office_events::{Manual, Rescale};

@@ -1,8 +1,8 @@
 //! Finds the reason to refuse the installation of a meter.
 ghost use Rattle.std.specs.Prelude.{◌≡◌, IfOk, length, nat_le};
 ghost use Rattle.office_events.specs.declared.commands.Command.TheVariants as command;
-ghost use Rattle.office_rules.specs.Facts.{openings_in};
-ghost use Rattle.office_rules.specs.Refusals.{installation_limit};
+ghost use Rattle.office_books.specs.Facts.{openings_in};
+ghost use Rattle.office_books.specs.Refusals.{installation_limit};
 ghost use Rattle.office_books.specs.Ledgers.{Finds, OnlyReads};
 ghost use Rattle.office_core.specs.Refusing.Reasons.{IsWhy, Befits};
 

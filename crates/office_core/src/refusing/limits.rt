@@ -1,7 +1,7 @@
 //! Checks whether the names, scales and numbers of a command are in range.
 ghost use Rattle.std.specs.Prelude.{◌≡◌, nat_lt, false};
 ghost use Rattle.office_events.specs.declared.commands.Command.TheVariants as command;
-ghost use Rattle.office_rules.specs.Refusals as refusals;
+ghost use Rattle.office_books.specs.Refusals as refusals;
 
 use energy_core::{MAX_CEILING, MAX_RANGE, MAX_SCALE, MIN_RANGE, MIN_SCALE};
 use mb_wire::MAX_READ_REGISTERS;

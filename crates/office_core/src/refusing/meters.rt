@@ -1,7 +1,7 @@
 //! Checks whether an accounting register has an open meter.
 ghost use Rattle.std.specs.Prelude.{◌≡◌, is_some};
 ghost use Rattle.std.specs.Option.{option_and_then};
-ghost use Rattle.office_rules.specs.Meters.{if_open, open_at};
+ghost use Rattle.office_books.specs.Meters.{if_open, open_at};
 ghost use Rattle.office_books.specs.Ledgers.{Finds, OnlyReads};
 
 use office_books::{Books, BooksFault, meter_at};

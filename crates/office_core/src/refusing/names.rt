@@ -1,7 +1,7 @@
 //! Checks whether the store has the names of a command.
 ghost use Rattle.std.specs.Prelude.{◌≡◌, is_some};
 ghost use Rattle.std.specs.Option.{option_and_then};
-ghost use Rattle.office_rules.specs.Facts.{register_of, opening_of};
+ghost use Rattle.office_books.specs.Facts.{register_of, opening_of};
 ghost use Rattle.office_books.specs.Ledgers.{Finds, OnlyReads};
 
 use office_books::{Books, BooksFault};

@@ -1,14 +1,14 @@
 //! Finds the reason to refuse a new accounting register.
 ghost use Rattle.std.specs.Prelude.{◌≡◌, IfOk};
 ghost use Rattle.office_events.specs.declared.commands.Command.TheVariants as command;
-ghost use Rattle.office_rules.specs.Refusals.{is_full_of_registers};
+ghost use Rattle.office_books.specs.Refusals.{is_full_of_registers};
 ghost use Rattle.office_books.specs.Ledgers.{Finds, OnlyReads};
 ghost use Rattle.office_core.specs.Refusing.Reasons.{IsWhyAmong, Befits};
 
 use crate::refusing::arrivals::Arrival;
 use crate::refusing::limits::{is_bad_register, is_bad_scale};
 use crate::refusing::names::has_register;
-use office_booking::{Slot, has_device};
+use crate::{Slot, has_device};
 use office_books::{Books, BooksFault};
 use office_events::{AddRegister, MAX_REGISTERS, Name, Refusal};
 

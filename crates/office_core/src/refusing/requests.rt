@@ -1,6 +1,6 @@
 //! Finds the stored answer to a request that is a retry.
 ghost use Rattle.std.specs.Prelude.{◌≡◌, IsOk, IfOk};
-ghost use Rattle.office_rules.specs.Refusals.{kept_of};
+ghost use Rattle.office_books.specs.Refusals.{kept_of};
 ghost use Rattle.office_books.specs.Ledgers.{Finds, OnlyReads};
 ghost use Rattle.office_core.specs.Refusing.Kept.{kept_as, IsNoRequest, IsReusedIfRefused};
 

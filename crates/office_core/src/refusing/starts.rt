@@ -3,19 +3,19 @@ ghost use Rattle.std.specs.Prelude.{◌≡◌, ◌+◌, List, Option, Some, None
 ghost use Rattle.poll_core.specs.Settling as session;
 ghost use Rattle.office_events.specs.declared.commands.Command.TheVariants as command;
 ghost use Rattle.office_events.specs.declared.facts.Device.{Device};
-ghost use Rattle.office_rules.specs.Facts.{polls_in, poll_limit};
-ghost use Rattle.office_rules.specs.Sessions as sessions;
-ghost use Rattle.office_rules.specs.History.{round_spans};
+ghost use Rattle.office_books.specs.Facts.{polls_in, poll_limit};
+ghost use Rattle.office_books.specs.Sessions as sessions;
+ghost use Rattle.office_books.specs.History.{round_spans};
 ghost use Rattle.read_plan.specs.PlannedLists.{Planned};
-ghost use Rattle.office_booking.specs.Sessions.Keeping.{KeepsSlots, KeepsPresent};
-ghost use Rattle.office_booking.specs.Sessions.Places.{StartsOnSlot, has_slot};
+ghost use Rattle.office_core.specs.Sessions.Keeping.{KeepsSlots, KeepsPresent};
+ghost use Rattle.office_core.specs.Sessions.Places.{StartsOnSlot, has_slot};
 ghost use Rattle.office_books.specs.Ledgers.{Finds, OnlyReads};
 ghost use Rattle.office_books.specs.Plans.{read_count_of};
 ghost use Rattle.office_core.specs.Refusing.Reasons.{IsWhyAmong, Befits};
 ghost use Rattle.office_core.specs.Refusing.Rounds.{HasRoom, HasRoomOn};
 
 use crate::refusing::arrivals::Arrival;
-use office_booking::{Slot, place_of};
+use crate::{Slot, place_of};
 use office_books::{Books, BooksFault, read_count_at};
 use office_events::{MAX_POLLS, Name, Refusal, StartPoll, StartRound, StoreCause};
 use poll_core::Session;

@@ -1,10 +1,10 @@
 //! Finds the reason to refuse a void, which cancels an entry of a meter.
 ghost use Rattle.std.specs.Prelude.{◌≡◌, IfOk, IfSome, Some};
 ghost use Rattle.office_events.specs.declared.commands.Command.TheVariants as command;
-ghost use Rattle.office_rules.specs.Meters.{entry_at};
-ghost use Rattle.office_rules.specs.Refusals.{verdict_between, verdict_at};
+ghost use Rattle.office_books.specs.Meters.{entry_at};
+ghost use Rattle.office_books.specs.Refusals.{verdict_between, verdict_at};
 ghost use Rattle.office_books.specs.Ledgers.{Finds, OnlyReads};
-ghost use Rattle.office_rules.specs.Ranges.{IsSound};
+ghost use Rattle.office_books.specs.Ranges.{IsSound};
 ghost use Rattle.office_core.specs.Refusing.Reasons.{IsWhy, Befits};
 ghost use Rattle.office_core.specs.Refusing.Asking.{IsOfEvent};
 ghost use Rattle.office_core.specs.Refusing.Spots as spots;

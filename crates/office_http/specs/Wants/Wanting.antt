@@ -1,23 +1,23 @@
 -- The query or command of a request, or why there is none.
 use Rattle.std.specs.Prelude.{◌≡◌, ◌⊎◌, ℕ, true, List, Ok, Err}
-use Rattle.http_answer.specs.Commands.Given.{Gives}
-use Rattle.http_answer.specs.Commands.Few.{HasFewRows}
-use Rattle.http_answer.specs.declared.commands.fault.CommandFault.{CommandFault}
-use Rattle.http_answer.specs.declared.commands.fault.CommandFault.TheVariants.{Memory}
-use Rattle.http_request.specs.HeadTests.{Start}
-use Rattle.http_request.specs.Routing.Routes.{Table}
-use Rattle.http_request.specs.Routing.Targets.{is_question, name_in, name_of}
-use Rattle.http_request.specs.declared.routing.routes.Route.{Route}
-use Rattle.http_request.specs.declared.routing.targets.Found.{Found}
-use Rattle.http_request.specs.declared.status.Status.{Status}
-use Rattle.http_request.specs.Whole.Whole.{HoldsRequest}
+use Rattle.http_messages.specs.Commands.Given.{Gives}
+use Rattle.http_messages.specs.Commands.Few.{HasFewRows}
+use Rattle.http_messages.specs.declared.commands.fault.CommandFault.{CommandFault}
+use Rattle.http_messages.specs.declared.commands.fault.CommandFault.TheVariants.{Memory}
+use Rattle.http_messages.specs.HeadTests.{Start}
+use Rattle.http_messages.specs.Routing.Routes.{Table}
+use Rattle.http_messages.specs.Routing.Targets.{is_question, name_in, name_of}
+use Rattle.http_messages.specs.declared.routing.routes.Route.{Route}
+use Rattle.http_messages.specs.declared.routing.targets.Found.{Found}
+use Rattle.http_messages.specs.declared.status.Status.{Status}
+use Rattle.http_messages.specs.Whole.Whole.{HoldsRequest}
 use Rattle.office_events.specs.declared.commands.Command.{Command}
 use Rattle.office_events.specs.declared.events.Asked.{Asked}
-use Rattle.http_answer.specs.Kinds.{done_text}
-use Rattle.http_answer.specs.Offices.{Office}
-use Rattle.http_answer.specs.Replies.{asked_of, fault, fault_said, question_reply, reply_bytes, row_reply}
-use Rattle.http_answer.specs.Requests.{name_asked}
-use Rattle.http_answer.specs.Whole.{IsCommand, IsReply}
+use Rattle.http_messages.specs.Kinds.{done_text}
+use Rattle.http_messages.specs.Offices.{Office}
+use Rattle.http_messages.specs.Replies.{asked_of, fault, fault_said, question_reply, reply_bytes, row_reply}
+use Rattle.http_messages.specs.Requests.{name_asked}
+use Rattle.http_messages.specs.WholeResponses.{IsCommand, IsReply}
 use Rattle.office_http.specs.declared.wants.kinds.Want.{Want}
 use Rattle.office_http.specs.declared.wants.kinds.Want.TheVariants as want
 

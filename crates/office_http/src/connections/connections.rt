@@ -1,6 +1,6 @@
 //! Serves HTTP connections, one after the other.
 ghost use Rattle.std.specs.Prelude.{[]};
-ghost use Rattle.http_request.specs.Hosts.{texts};
+ghost use Rattle.http_messages.specs.Hosts.{texts};
 ghost use Rattle.office_core.specs.Standing.{After};
 ghost use Rattle.office_http.specs.Serving.{Lasts};
 ghost use Rattle.office_http.specs.Connections.Connections.{ServesOne, ServesUpTo};

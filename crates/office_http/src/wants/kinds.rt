@@ -1,6 +1,5 @@
 //! The query or command of a request, or why there is none.
-use http_answer::CommandFault;
-use http_request::{Found, Status};
+use http_messages::{CommandFault, Found, Status};
 use office_events::Asked;
 
 /// The query or command of a request, or why there is none.

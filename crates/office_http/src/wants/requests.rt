@@ -1,19 +1,17 @@
 //! Parses a complete request into a query or command.
 ghost use Rattle.std.specs.Prelude.{◌≡◌, ◌⊎◌, Ok, Err};
-ghost use Rattle.http_request.specs.Asking.{TestsHead};
-ghost use Rattle.http_request.specs.HeadTests.{start_at};
-ghost use Rattle.http_request.specs.declared.ask.Ask.TheVariants.{Command as AskedCommand};
-ghost use Rattle.http_request.specs.Whole.Whole.{Holds, IsWhole};
+ghost use Rattle.http_messages.specs.Asking.{TestsHead};
+ghost use Rattle.http_messages.specs.HeadTests.{start_at};
+ghost use Rattle.http_messages.specs.declared.ask.Ask.TheVariants.{Command as AskedCommand};
+ghost use Rattle.http_messages.specs.Whole.Whole.{Holds, IsWhole};
 ghost use Rattle.office_http.specs.Wants.Wanting.{HasFewFaults, Wants};
 
 use crate::wants::kinds::Want;
 use crate::wants::laws::bodies_give_one_command;
-use http_answer::{
-    CommandFault, asked, command_in, commands_are_replied_to, faults_are_replied_to, kept_request,
-    name_asked, questions_are_replied_to,
-};
-use http_request::{
-    Ask, Found, Head, HeadState, Posted, Route, head_gives_body_size, request_body, test_request,
+use http_messages::{
+    Ask, CommandFault, Found, Head, HeadState, Posted, Route, asked, command_in,
+    commands_are_replied_to, faults_are_replied_to, head_gives_body_size, kept_request, name_asked,
+    questions_are_replied_to, request_body, test_request,
 };
 use matchit::Router;
 use std::alloc::Global;

@@ -11,7 +11,7 @@ use Rattle.command_io.specs.declared.status.ExitStatus.TheVariants.{Fine, Refuse
 use Rattle.office_events.specs.Names.{named}
 use Rattle.office_events.specs.declared.events.Asked.{Asked}
 use Rattle.office_events.specs.declared.facts.Fact.{Fact}
-use Rattle.office_rules.specs.History.{History, facts_of}
+use Rattle.office_books.specs.History.{History, facts_of}
 use Rattle.office_books.specs.Ledgers.{Ledger, OnlyReads}
 use Rattle.office_books.specs.declared.faults.BooksFault.{BooksFault}
 use Rattle.office_core.specs.Leaving.{BooksStand}

@@ -8,12 +8,12 @@ use Rattle.script_text.proofs.Got.{got_both}
 use Rattle.command_io.specs.Lines.{Line}
 use Rattle.command_io.specs.declared.status.ExitStatus.{ExitStatus}
 use Rattle.command_io.specs.declared.status.ExitStatus.TheVariants.{Fine, Refused, Failed}
-use Rattle.office_rules.specs.History.{History}
+use Rattle.office_books.specs.History.{History}
 use Rattle.office_books.specs.declared.failures.Failures.{Failures}
 use Rattle.office_books.specs.Ledgers.{Ledger}
 use Rattle.office_core.specs.Standing.{Stands}
 use Rattle.office_core.specs.declared.office.Office.{Office}
-use Rattle.office_rounds.specs.Rounds.{RoundState}
+use Rattle.office_program.specs.Rounds.{RoundState}
 use Rattle.office_program.specs.declared.entering.progress.Progress.{Progress}
 use Rattle.office_program.specs.Entering.Course.{AreAnswered, AreTaken, AreTimed, Came, Comes, EntersLine, IsUntouched, Taken, Takes, TakesLine, came_text, history_with, lines_with, progress_of, text_after}
 use Rattle.office_program.specs.Entering.Entered.{EntersLines, IsStopped, status_of}

@@ -12,9 +12,9 @@ use Rattle.office_events.specs.declared.facts.Fact.{Fact}
 use Rattle.office_events.specs.declared.questions.Installation.{Installation}
 use Rattle.office_events.specs.declared.refusals.Refusal.{Refusal}
 use Rattle.office_events.specs.declared.refusals.Refusal.TheVariants as refusal
-use Rattle.office_rules.specs.History.{History, corrected_at}
-use Rattle.office_rules.specs.Meters.{if_open, installation_at}
-use Rattle.office_rules.specs.Ranges.{AreInRange, IsSound}
+use Rattle.office_books.specs.History.{History, corrected_at}
+use Rattle.office_books.specs.Meters.{if_open, installation_at}
+use Rattle.office_books.specs.Ranges.{AreInRange, IsSound}
 use Rattle.office_books.specs.Ledgers.{Ledger}
 use Rattle.office_books.specs.declared.books.Repeat.{Repeat}
 use Rattle.office_books.specs.declared.failures.Failures.{Failures}

@@ -4,12 +4,12 @@ use Rattle.command_io.specs.Lines.{speaking_lines}
 use Rattle.command_io.specs.declared.status.ExitStatus.{ExitStatus}
 use Rattle.socket_link.specs.Clocks.{ReportsMoment, next_moment}
 use Rattle.office_events.specs.Names.{named}
-use Rattle.office_rules.specs.History.{History, Opened}
+use Rattle.office_books.specs.History.{History, Opened}
 use Rattle.office_books.specs.Ledgers.{Ledger}
 use Rattle.office_core.specs.Standing.{After, books_in}
 use Rattle.office_core.specs.Taking.{failures_of}
 use Rattle.office_core.specs.declared.office.Office.{Office}
-use Rattle.office_rounds.specs.Rounds.{round_state}
+use Rattle.office_program.specs.Rounds.{round_state}
 use Rattle.office_program.specs.Texts.OpenedOffice.{Opens, ReportsUnopened}
 use Rattle.office_program.specs.Entering.Entered.{EntersLines, ReportsEntering}
 use Rattle.office_program.specs.Entering.Lines.{Reporting}

@@ -7,12 +7,12 @@ use Rattle.point_list.specs.declared.fault.ListFault.TheVariants.{Faults}
 use Rattle.point_list.specs.declared.point.ListedPoint.{ListedPoint}
 use Rattle.read_plan.specs.PlannedLists.{IsPlanned, Planned}
 use Rattle.office_events.specs.declared.commands.Command.{Command}
-use Rattle.script_lines.specs.LineWords.Words.{words_of}
-use Rattle.script_lines.specs.Seen.{IsOnly, Reads}
-use Rattle.script_lines.specs.declared.line_fault.LineFault.{LineFault}
-use Rattle.script_lines.specs.declared.line_fault.LineFault.TheVariants.{Bad, Memory}
-use Rattle.script_lines.specs.declared.script.GivenList.{GivenList}
-use Rattle.script_lines.specs.declared.script.ScriptLine.{ScriptLine}
+use Rattle.script_text.specs.LineWords.Words.{words_of}
+use Rattle.script_text.specs.Seen.{IsOnly, Reads}
+use Rattle.script_text.specs.declared.line_fault.LineFault.{LineFault}
+use Rattle.script_text.specs.declared.line_fault.LineFault.TheVariants.{Bad, Memory}
+use Rattle.script_text.specs.declared.script.GivenList.{GivenList}
+use Rattle.script_text.specs.declared.script.ScriptLine.{ScriptLine}
 use Rattle.office_program.specs.declared.entering.entries.Entry.{Entry}
 use Rattle.office_program.specs.declared.entering.entries.Entry.TheVariants.{Ask, Faulty}
 use Rattle.office_program.specs.declared.entering.wanted.Wanted.{Wanted}

@@ -3,9 +3,9 @@ use Rattle.std.proofs.Common.{◌≡◌, inl, inr, ℕ, ◌==◌, List, [], ◌�
 use Rattle.std.specs.Prelude.{codes, option_map}
 use Rattle.std.specs.Str.{bytes_eq}
 use Rattle.std.proofs.lemmas.Bool.{eqb-true}
-use Rattle.script_lines.specs.LineWords.Fields.{AnyName, Field, Number, Spell, Word, first_value, end_of_words}
-use Rattle.script_lines.proofs.Chosen.{chosen, is_text, same}
-use Rattle.script_lines.proofs.Made.{bound, first_spelled}
+use Rattle.script_text.specs.LineWords.Fields.{AnyName, Field, Number, Spell, Word, first_value, end_of_words}
+use Rattle.script_text.proofs.Chosen.{chosen, is_text, same}
+use Rattle.script_text.proofs.Made.{bound, first_spelled}
 use Rattle.office_program.specs.Entering.FileLines.{FileLine, IsFileLine, IsNoFileLine, file_in, file_said, file_word, list_word}
 
 -- If the words form a line that names a file, then the parser returns this line.

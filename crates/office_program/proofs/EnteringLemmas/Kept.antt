@@ -16,15 +16,15 @@ use Rattle.office_events.specs.declared.facts.Poll.{Poll}
 use Rattle.office_events.specs.declared.facts.Reply.{Reply}
 use Rattle.office_events.specs.declared.refusals.Refusal.{Refusal}
 use Rattle.office_events.specs.declared.refusals.Refusal.TheVariants as refusal
-use Rattle.office_rules.specs.Facts.{as_reply, moment_limit, replies_in, reply_of, same}
-use Rattle.office_rules.specs.History.{Fed, History, Opened, added_by, facts_of, kind_of, lost, reply_by, slots_of, next_poll, with_lost, with_settled}
-use Rattle.office_rules.specs.Refusals.{AreAccepted, by_reply, kept_of, refusal_of}
-use Rattle.office_rules.specs.Sessions.{Slot}
-use Rattle.office_rules.proofs.EndedFacts.{unseen-with_settled}
-use Rattle.office_rules.proofs.LawfulChanges.{not_refused}
-use Rattle.office_rules.proofs.Lookups.{same_itself, same_text}
-use Rattle.office_rules.proofs.LostPolls.{left_in, with_lost_is}
-use Rattle.office_rules.proofs.QuietFacts.{HoldsOfBooks, added_each, later_part_first, unseen}
+use Rattle.office_books.specs.Facts.{as_reply, moment_limit, replies_in, reply_of, same}
+use Rattle.office_books.specs.History.{Fed, History, Opened, added_by, facts_of, kind_of, lost, reply_by, slots_of, next_poll, with_lost, with_settled}
+use Rattle.office_books.specs.Refusals.{AreAccepted, by_reply, kept_of, refusal_of}
+use Rattle.office_books.specs.Sessions.{Slot}
+use Rattle.office_books.proofs.EndedFacts.{unseen-with_settled}
+use Rattle.office_books.proofs.LawfulChanges.{not_refused}
+use Rattle.office_books.proofs.Lookups.{same_itself, same_text}
+use Rattle.office_books.proofs.LostPolls.{left_in, with_lost_is}
+use Rattle.office_books.proofs.QuietFacts.{HoldsOfBooks, added_each, later_part_first, unseen}
 
 -- If a record is a point list, register, opening, entry or void (a cancelled reading), then it has
 -- no stored answer to a request.

@@ -2,12 +2,12 @@
 use Rattle.std.proofs.Common.{◌≡◌, ◌⊎◌, inl, inr, ℕ, Bool, true, false, List, [], ◌∷◌, Option, Some, None, refl, sym, ap, ◌∙◌, subst}
 use Rattle.std.specs.Prelude.{codes, if◌then◌else◌, option_map}
 use Rattle.std.specs.Str.{bytes_eq}
-use Rattle.script_lines.specs.LineWords.Fields.{AnyName, Field, Kind, Number, Of, Range, Spell, Value, Word, first_value, missing, end_of_words, spelled}
-use Rattle.script_lines.proofs.Chosen.{chosen, is_text, same}
-use Rattle.script_lines.proofs.Made.{bound, first_spelled}
+use Rattle.script_text.specs.LineWords.Fields.{AnyName, Field, Kind, Number, Of, Range, Spell, Value, Word, first_value, missing, end_of_words, spelled}
+use Rattle.script_text.proofs.Chosen.{chosen, is_text, same}
+use Rattle.script_text.proofs.Made.{bound, first_spelled}
 use Rattle.office_program.specs.declared.entering.read_line.ReadLine.{ReadLine}
 use Rattle.office_program.specs.declared.entering.read_line.ReadLine.TheVariants as read
-use Rattle.script_lines.specs.LineWords.Words.{words_of}
+use Rattle.script_text.specs.LineWords.Words.{words_of}
 use Rattle.office_program.specs.Entering.Marks.{is_marked, unmarked}
 use Rattle.office_program.specs.Entering.ReadLines.{IsNoRead, IsNoReadLine, IsRead, IsReadLine, exchange_said, install_said, line_said, may_end, read_said, read_word, verb_said}
 

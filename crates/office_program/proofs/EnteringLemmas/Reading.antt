@@ -8,13 +8,13 @@ use Rattle.office_events.specs.declared.facts.Device.{Device}
 use Rattle.office_events.specs.declared.facts.Fact.{Fact}
 use Rattle.office_events.specs.declared.facts.Register.{Register}
 use Rattle.office_events.specs.declared.refusals.Refusal.{Refusal}
-use Rattle.office_rules.specs.Facts.{device_of, register_of}
-use Rattle.office_rules.specs.History.{History, facts_of}
+use Rattle.office_books.specs.Facts.{device_of, register_of}
+use Rattle.office_books.specs.History.{History, facts_of}
 use Rattle.office_books.specs.Ledgers.{Ledger}
 use Rattle.office_books.specs.declared.books.Repeat.{Repeat}
 use Rattle.office_books.specs.declared.failures.Failures.{Failures}
 use Rattle.office_core.specs.declared.office.Office.{Office}
-use Rattle.office_rounds.specs.Rounds.{RoundState, round_state}
+use Rattle.office_program.specs.Rounds.{RoundState, round_state}
 use Rattle.office_program.specs.declared.entering.files.Shown.{Shown}
 use Rattle.office_program.specs.declared.entering.progress.Progress.{Progress}
 use Rattle.office_program.specs.declared.entering.read_line.ReadRequest.{ReadRequest}

@@ -3,8 +3,8 @@
 use Rattle.std.proofs.Common.{◌≡◌, ℤ, pos, ◌⊎◌, inl, inr, ℕ, Bool, true, false, List, [], ◌∷◌, ◌++◌, Option, Some, None, Result, Ok, Err, refl, sym, ap, subst, ◌∙◌, append_assoc}
 use Rattle.std.specs.Prelude.{IsOk, if◌then◌else◌}
 use Rattle.command_io.specs.Lines.{Line}
-use Rattle.script_lines.specs.LineWords.Words.{words_of}
-use Rattle.script_lines.specs.declared.script.ScriptLine.{ScriptLine}
+use Rattle.script_text.specs.LineWords.Words.{words_of}
+use Rattle.script_text.specs.declared.script.ScriptLine.{ScriptLine}
 use Rattle.office_events.specs.declared.answers.Answer.{Answer}
 use Rattle.office_events.specs.declared.answers.Answer.TheVariants as answer
 use Rattle.office_events.specs.declared.answers.CommandKind.{CommandKind}
@@ -13,9 +13,9 @@ use Rattle.office_events.specs.declared.events.Event.{Event}
 use Rattle.office_events.specs.declared.events.Event.TheVariants as event
 use Rattle.office_events.specs.declared.facts.Fact.{Fact}
 use Rattle.office_events.specs.declared.refusals.Refusal.{Refusal}
-use Rattle.office_rules.specs.Facts.{reply_of}
-use Rattle.office_rules.specs.History.{Fed, History, facts_of, kind_of, next_poll, slots_of}
-use Rattle.office_rules.specs.Refusals.{AreAccepted, IsAccepted, answer_of, decision_of, is_start, kept_of, reads_in_all, refusal_of, sent_count, unless_kept, unless_refused, with_answer}
+use Rattle.office_books.specs.Facts.{reply_of}
+use Rattle.office_books.specs.History.{Fed, History, facts_of, kind_of, next_poll, slots_of}
+use Rattle.office_books.specs.Refusals.{AreAccepted, IsAccepted, answer_of, decision_of, is_start, kept_of, reads_in_all, refusal_of, sent_count, unless_kept, unless_refused, with_answer}
 use Rattle.office_books.specs.Repeats.{as_repeat}
 use Rattle.office_books.specs.declared.books.Repeat.{Repeat}
 use Rattle.office_books.specs.declared.failures.Failures.{Failures}

@@ -14,7 +14,7 @@ use Rattle.office_books.specs.declared.failures.Failures.{Failures}
 use Rattle.office_books.specs.Rows.{TakesAll}
 use Rattle.office_core.specs.DayRange.{HandsDaysWithin}
 use Rattle.office_events.specs.declared.refusals.Refusal.{Refusal}
-use Rattle.office_rules.specs.History.{History, facts_of}
+use Rattle.office_books.specs.History.{History, facts_of}
 use Rattle.script_text.specs.AnswerText.{refused_line}
 use Rattle.office_program.specs.Texts.EndTexts.{IsReported}
 use Rattle.office_program.specs.Texts.RangedReports.{IsRangedReport, PrintsRest}

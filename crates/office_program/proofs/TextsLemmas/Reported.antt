@@ -9,7 +9,7 @@ use Rattle.office_books.specs.declared.failures.Failures.{Failures}
 use Rattle.office_books.specs.Rows.{TakesAll}
 use Rattle.office_core.specs.Asking.{HandsDays}
 use Rattle.office_events.specs.declared.refusals.Refusal.{Refusal}
-use Rattle.office_rules.specs.History.{History, facts_of}
+use Rattle.office_books.specs.History.{History, facts_of}
 use Rattle.energy_report.specs.RowLines.{counted}
 use Rattle.office_program.specs.Texts.Reports.{IsReport, last_line}
 use Rattle.interval_core.specs.Lines.{day_line, end_line}

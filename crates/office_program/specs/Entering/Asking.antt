@@ -9,15 +9,15 @@ use Rattle.command_io.specs.declared.status.ExitStatus.{ExitStatus}
 use Rattle.command_io.specs.declared.status.ExitStatus.TheVariants.{Refused, Failed}
 use Rattle.socket_link.specs.declared.clock.Clock as clocks
 use Rattle.sun_points.specs.Writing.{GotPart, GotText}
-use Rattle.script_lines.specs.declared.line_fault.LineFault.{LineFault}
-use Rattle.script_lines.specs.declared.line_fault.LineFault.TheVariants.{Bad, Memory}
+use Rattle.script_text.specs.declared.line_fault.LineFault.{LineFault}
+use Rattle.script_text.specs.declared.line_fault.LineFault.TheVariants.{Bad, Memory}
 use Rattle.script_text.specs.AnswerText.{accepted_text, bad_line, refused_line}
 use Rattle.office_events.specs.declared.answers.Answer.{Answer}
 use Rattle.office_events.specs.declared.events.Asked.{Asked as Request}
 use Rattle.office_events.specs.declared.events.Event.{Event}
 use Rattle.office_events.specs.declared.refusals.Refusal.{Refusal}
-use Rattle.office_rules.specs.History.{History, facts_of}
-use Rattle.office_rules.specs.Refusals.{with_answer}
+use Rattle.office_books.specs.History.{History, facts_of}
+use Rattle.office_books.specs.Refusals.{with_answer}
 use Rattle.office_books.specs.Ledgers.{Ledger}
 use Rattle.office_books.specs.declared.books.Books as stores
 use Rattle.office_books.specs.declared.failures.Failures.{Failures}
@@ -25,8 +25,8 @@ use Rattle.office_core.specs.EventRun.{Answered}
 use Rattle.office_core.specs.Standing.{After, Stands, notes_in, outgoing_in}
 use Rattle.office_core.specs.Taking.{IsAnswer, failures_of}
 use Rattle.office_core.specs.declared.office.Office.{Office}
-use Rattle.office_rounds.specs.Between.{desk_of}
-use Rattle.office_rounds.specs.Rounds.{RoundState, round_state}
+use Rattle.office_program.specs.Between.{desk_of}
+use Rattle.office_program.specs.Rounds.{RoundState, round_state}
 use Rattle.office_program.specs.declared.entering.entries.Entry.{Entry}
 use Rattle.office_program.specs.declared.entering.entries.Entry.TheVariants as entry
 use Rattle.office_program.specs.declared.entering.progress.Progress.{Progress}

@@ -12,7 +12,7 @@ use Rattle.office_events.specs.Names.{named}
 use Rattle.office_events.specs.declared.events.Asked.{Asked}
 use Rattle.office_events.specs.declared.facts.Fact.{Fact}
 use Rattle.office_events.specs.declared.refusals.Refusal.TheVariants as refusal
-use Rattle.office_rules.specs.History.{History, facts_of}
+use Rattle.office_books.specs.History.{History, facts_of}
 use Rattle.office_books.specs.Faults.{as_refusal}
 use Rattle.office_books.specs.Ledgers.{KeepsFacts, Ledger}
 use Rattle.office_books.specs.Repeats.{repeat_of}

@@ -20,9 +20,9 @@ use Rattle.office_events.specs.declared.events.Event.TheVariants as event
 use Rattle.office_events.specs.declared.facts.Fact.{Fact}
 use Rattle.office_events.specs.declared.refusals.Refusal.{Refusal}
 use Rattle.office_events.specs.declared.refusals.Refusal.TheVariants.{Limit}
-use Rattle.office_rules.specs.History.{History, facts_of}
-use Rattle.office_rules.specs.Notes.{notes_after, outgoing_after}
-use Rattle.office_rules.specs.Refusals.{with_answer}
+use Rattle.office_books.specs.History.{History, facts_of}
+use Rattle.office_books.specs.Notes.{notes_after, outgoing_after}
+use Rattle.office_books.specs.Refusals.{with_answer}
 use Rattle.office_books.specs.declared.failures.Failures.{Failures}
 use Rattle.office_books.specs.Ledgers.{Ledger}
 use Rattle.office_core.specs.EventRun.{Answered}
@@ -30,7 +30,7 @@ use Rattle.office_core.specs.Failing.{IsOutside}
 use Rattle.office_core.specs.Standing.{Stands}
 use Rattle.office_core.specs.Taking.{IsAnswer}
 use Rattle.office_core.specs.declared.office.Office.{Office}
-use Rattle.office_rounds.specs.Rounds.{RoundState}
+use Rattle.office_program.specs.Rounds.{RoundState}
 use Rattle.office_program.specs.declared.entering.entries.Entry.{Entry}
 use Rattle.office_program.specs.declared.entering.entries.Entry.TheVariants as entry
 use Rattle.office_program.specs.declared.entering.progress.Progress.{Progress}

@@ -16,8 +16,8 @@ use Rattle.office_events.specs.declared.events.Event.TheVariants as event
 use Rattle.office_events.specs.declared.facts.Fact.{Fact}
 use Rattle.office_events.specs.declared.questions.Installation.{Installation}
 use Rattle.office_events.specs.declared.refusals.Refusal.{Refusal}
-use Rattle.office_rules.specs.History.{History, corrected_at, facts_of, made_by}
-use Rattle.office_rules.specs.Meters.{open_at}
+use Rattle.office_books.specs.History.{History, corrected_at, facts_of, made_by}
+use Rattle.office_books.specs.Meters.{open_at}
 use Rattle.office_books.specs.Ledgers.{Ledger}
 use Rattle.office_books.specs.Repeats.{repeat_of}
 use Rattle.office_books.specs.declared.books.Repeat.{Repeat}

@@ -10,14 +10,14 @@ use Rattle.socket_link.specs.declared.clock.Clock as clocks
 use Rattle.sun_points.specs.Writing.{GotPart}
 use Rattle.script_text.specs.AnswerText.{bad_line}
 use Rattle.office_events.specs.Names.{named}
-use Rattle.office_rules.specs.History.{History, latest_of}
+use Rattle.office_books.specs.History.{History, latest_of}
 use Rattle.office_books.specs.Ledgers.{Ledger}
 use Rattle.office_books.specs.declared.books.Books as stores
 use Rattle.office_core.specs.Standing.{After}
 use Rattle.office_core.specs.Taking.{failures_of}
 use Rattle.office_core.specs.declared.office.Office.{Office}
-use Rattle.office_rounds.specs.Between.{desk_of}
-use Rattle.office_rounds.specs.Rounds.{RoundState, round_state}
+use Rattle.office_program.specs.Between.{desk_of}
+use Rattle.office_program.specs.Rounds.{RoundState, round_state}
 use Rattle.office_program.specs.Texts.OpenedOffice.{ReportsUnopened}
 use Rattle.office_program.specs.Opened.{OverStanding, WithOffice}
 use Rattle.office_program.specs.declared.entering.progress.Progress.{Progress}

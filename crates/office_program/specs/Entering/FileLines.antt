@@ -2,7 +2,7 @@
 -- `NUMBER list DEVICE @NAME`.
 use Rattle.std.specs.Prelude.{ℕ, ◌==◌, List, [], ◌∷◌, Option, Some, None, codes, if◌then◌else◌, option_map}
 use Rattle.std.specs.Str.{bytes_eq}
-use Rattle.script_lines.specs.LineWords.Fields.{AnyName, Field, Number, Of, Spell, Word, first_value, end_of_words, ◌>>=◌}
+use Rattle.script_text.specs.LineWords.Fields.{AnyName, Field, Number, Of, Spell, Word, first_value, end_of_words, ◌>>=◌}
 use Rattle.office_program.specs.declared.entering.file_line.FileLine as declared
 
 -- An input line that names a file: the number of its request, the device, and the name of the file.

@@ -12,14 +12,14 @@ use Rattle.office_events.specs.declared.events.Event.{Event}
 use Rattle.office_events.specs.declared.events.Event.TheVariants as event
 use Rattle.office_events.specs.declared.facts.Device.{Device}
 use Rattle.office_events.specs.declared.facts.Register.{Register}
-use Rattle.script_lines.specs.Forms.{IsLine}
-use Rattle.script_lines.specs.LineWords.Words.{words_of}
-use Rattle.script_lines.specs.Seen.{IsOnly}
-use Rattle.script_lines.specs.declared.line_fault.LineFault.{LineFault}
-use Rattle.script_lines.specs.declared.line_fault.LineFault.TheVariants.{Bad, Memory}
-use Rattle.script_lines.specs.declared.script.GivenList.{GivenList}
-use Rattle.script_lines.specs.declared.script.ScriptLine.{ScriptLine}
-use Rattle.script_lines.specs.declared.script.ScriptLine.TheVariants as line
+use Rattle.script_text.specs.Forms.{IsLine}
+use Rattle.script_text.specs.LineWords.Words.{words_of}
+use Rattle.script_text.specs.Seen.{IsOnly}
+use Rattle.script_text.specs.declared.line_fault.LineFault.{LineFault}
+use Rattle.script_text.specs.declared.line_fault.LineFault.TheVariants.{Bad, Memory}
+use Rattle.script_text.specs.declared.script.GivenList.{GivenList}
+use Rattle.script_text.specs.declared.script.ScriptLine.{ScriptLine}
+use Rattle.script_text.specs.declared.script.ScriptLine.TheVariants as line
 use Rattle.office_program.specs.declared.entering.wanted.Wanted.{Wanted}
 use Rattle.office_program.specs.declared.entering.wanted.Wanted.TheVariants as wanted
 use Rattle.office_program.specs.declared.entering.entries.Entry.{Entry}

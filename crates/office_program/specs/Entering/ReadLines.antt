@@ -5,8 +5,8 @@ use Rattle.std.specs.Str.{bytes_eq}
 use Rattle.office_events.specs.declared.commands.Command.{Command}
 use Rattle.office_events.specs.declared.commands.Command.TheVariants as command
 use Rattle.office_events.specs.declared.events.Asked.{Asked}
-use Rattle.script_lines.specs.LineWords.Words.{words_of}
-use Rattle.script_lines.specs.LineWords.Fields.{AnyName, Field, Number, Of, Range, Spell, Word, first_value, end_of_words, ◌>>=◌}
+use Rattle.script_text.specs.LineWords.Words.{words_of}
+use Rattle.script_text.specs.LineWords.Fields.{AnyName, Field, Number, Of, Range, Spell, Word, first_value, end_of_words, ◌>>=◌}
 use Rattle.office_program.specs.declared.entering.read_line.ReadLine.{ReadLine}
 use Rattle.office_program.specs.declared.entering.read_line.ReadLine.TheVariants as read
 use Rattle.office_program.specs.declared.entering.read_line.ReadRequest.{ReadRequest}

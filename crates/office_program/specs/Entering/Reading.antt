@@ -7,8 +7,8 @@ use Rattle.office_events.specs.declared.facts.Device.{Device}
 use Rattle.office_events.specs.declared.facts.Fact.{Fact}
 use Rattle.office_events.specs.declared.facts.Register.{Register}
 use Rattle.office_events.specs.declared.refusals.Refusal.{Refusal}
-use Rattle.office_rules.specs.Facts.{device_of, register_of}
-use Rattle.office_rules.specs.History.{History, facts_of}
+use Rattle.office_books.specs.Facts.{device_of, register_of}
+use Rattle.office_books.specs.History.{History, facts_of}
 use Rattle.office_books.specs.Ledgers.{Ledger}
 use Rattle.office_books.specs.declared.books.Repeat.{Repeat}
 use Rattle.office_books.specs.declared.failures.Failures.{Failures}

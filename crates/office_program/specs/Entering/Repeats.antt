@@ -9,8 +9,8 @@ use Rattle.office_events.specs.declared.answers.CommandKind.{CommandKind}
 use Rattle.office_events.specs.declared.events.Asked.{Asked}
 use Rattle.office_events.specs.declared.events.Event.TheVariants as event
 use Rattle.office_events.specs.declared.refusals.Refusal.{Refusal}
-use Rattle.office_rules.specs.History.{Fed, History, kind_of}
-use Rattle.office_rules.specs.Refusals.{AreAccepted, decision_of}
+use Rattle.office_books.specs.History.{Fed, History, kind_of}
+use Rattle.office_books.specs.Refusals.{AreAccepted, decision_of}
 use Rattle.office_books.specs.declared.failures.Failures.{Failures}
 use Rattle.office_core.specs.Failing.{FailsOutside, IsOutside}
 use Rattle.office_program.specs.Entering.Course.{AreAnswered, AreComing, Came, Taken, Undecided, history_with, lines_with}

@@ -6,7 +6,7 @@ use Rattle.socket_link.specs.declared.clock.Clock as a_clock
 use Rattle.command_io.specs.declared.status.ExitStatus.{ExitStatus}
 use Rattle.command_io.specs.declared.status.ExitStatus.TheVariants.{Refused}
 use Rattle.office_events.specs.declared.refusals.Refusal.{Refusal}
-use Rattle.office_rules.specs.History.{History, Opened}
+use Rattle.office_books.specs.History.{History, Opened}
 use Rattle.office_books.specs.Ledgers.{Ledger}
 use Rattle.office_books.specs.declared.books.Books as stores
 use Rattle.office_core.specs.Leaving.{BooksStand}

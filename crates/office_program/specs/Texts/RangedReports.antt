@@ -12,8 +12,8 @@ use Rattle.interval_core.specs.Days.{account_of}
 use Rattle.interval_core.specs.declared.totals.DayTotal.{DayTotal}
 use Rattle.interval_core.specs.declared.zone.Zone.{Zone}
 use Rattle.office_events.specs.declared.refusals.Refusal.{Refusal}
-use Rattle.office_rules.specs.Facts.{register_of}
-use Rattle.office_rules.specs.History.{History, facts_of}
+use Rattle.office_books.specs.Facts.{register_of}
+use Rattle.office_books.specs.History.{History, facts_of}
 use Rattle.office_books.specs.declared.books.Books as stores
 use Rattle.office_books.specs.declared.failures.Failures.{Failures}
 use Rattle.office_core.specs.Asking.{IsFound, is_there}

@@ -7,16 +7,16 @@ use Rattle.mb_wire.specs.declared.link.Link as links
 use Rattle.socket_link.specs.declared.clock.Clock as clocks
 use Rattle.command_io.specs.declared.status.ExitStatus.{ExitStatus}
 use Rattle.command_io.specs.declared.status.ExitStatus.TheVariants as status
-use Rattle.office_rules.specs.History.{History}
+use Rattle.office_books.specs.History.{History}
 use Rattle.office_books.specs.Ledgers.{Ledger}
 use Rattle.office_books.specs.declared.books.Books as stores
 use Rattle.office_core.specs.Standing.{After}
 use Rattle.office_core.specs.declared.office.Office.{Office}
-use Rattle.office_rounds.specs.Between.{passage_of}
-use Rattle.office_rounds.specs.Rounds.{Passage, round_state, passage}
-use Rattle.office_rounds.specs.Rounds as one
-use Rattle.office_rounds.specs.declared.fault.RoundFault.{RoundFault}
-use Rattle.office_rounds.specs.declared.fault.RoundFault.TheVariants.{Refused, Link, Output, TurnsUsed}
+use Rattle.office_program.specs.Between.{passage_of}
+use Rattle.office_program.specs.Rounds.{Passage, round_state, passage}
+use Rattle.office_program.specs.Rounds as one
+use Rattle.office_program.specs.declared.fault.RoundFault.{RoundFault}
+use Rattle.office_program.specs.declared.fault.RoundFault.TheVariants.{Refused, Link, Output, TurnsUsed}
 use Rattle.script_text.specs.AnswerText.{refused_line}
 use Rattle.sun_points.specs.Writing.{GotPart}
 

@@ -20,9 +20,9 @@ use Rattle.office_events.specs.declared.facts.Fact.{Fact}
 use Rattle.office_events.specs.declared.facts.Opening.{Opening}
 use Rattle.office_events.specs.declared.questions.Installation.{Installation}
 use Rattle.office_events.specs.declared.refusals.Refusal.{Refusal}
-use Rattle.office_rules.specs.Facts.{opening_of}
-use Rattle.office_rules.specs.History.{History, facts_of}
-use Rattle.office_rules.specs.Intervals.{rows_of_installed}
+use Rattle.office_books.specs.Facts.{opening_of}
+use Rattle.office_books.specs.History.{History, facts_of}
+use Rattle.office_books.specs.Intervals.{rows_of_installed}
 use Rattle.office_books.specs.declared.failures.Failures.{Failures}
 use Rattle.office_books.specs.Entries.{entries_at}
 use Rattle.office_books.specs.Holds.{holds_of}

@@ -1,7 +1,7 @@
 //! Processes one input line: feeds the line's request to the office (the engine that records
 //! energy) and prints the answer.
 ghost use Rattle.std.specs.Prelude.{◌≡◌, IfOk, true};
-ghost use Rattle.office_rounds.specs.Passing.{Lasts};
+ghost use Rattle.office_program.specs.Passing.{Lasts};
 ghost use Rattle.sun_points.specs.Writing.{GotText};
 ghost use Rattle.script_text.specs.AnswerText.{refused_line};
 ghost use Rattle.office_program.specs.Entering.Asking.{AsksAt, AsksTimed, EntersAt, EntersEntry, EntersNext, ReportsFault, ReportsWhyNot, reported_text};
@@ -21,8 +21,7 @@ use office_books::Books;
 use office_core::Office;
 use office_events::{Answer, Asked, Event, Name, Refusal};
 use point_list::FaultyRow;
-use script_lines::LineFault;
-use script_text::{Line, write_accepted, write_bad_line, write_faults, write_refusal};
+use script_text::{Line, LineFault, write_accepted, write_bad_line, write_faults, write_refusal};
 use socket_link::Clock;
 use std::alloc::Global;
 use std::io::{self, Write};

@@ -2,19 +2,18 @@
 //! than the meter's ceiling (its greatest power) allows since the last entry.
 ghost use Rattle.std.specs.Prelude.{◌≡◌, ◌≤◌, ◌+◌, ◌*◌, ◌^◌};
 ghost use Rattle.std.specs.Option.{option_and_then};
-ghost use Rattle.office_rules.specs.History as history;
-ghost use Rattle.office_rules.specs.Meters.{if_open};
-ghost use Rattle.office_rules.specs.Ranges.{IsSound};
-ghost use Rattle.office_rounds.specs.Passing.{Lasts};
+ghost use Rattle.office_books.specs.History as history;
+ghost use Rattle.office_books.specs.Meters.{if_open};
+ghost use Rattle.office_books.specs.Ranges.{IsSound};
+ghost use Rattle.office_program.specs.Passing.{Lasts};
 ghost use Rattle.office_program.specs.Entering.Doubts as spec;
 ghost use Rattle.office_program.specs.Entering.Doubts.{ReportsDoubt, doubt_of, doubted_in};
 
 use crate::entering::marks::is_marked;
 use energy_core::energy_up_to;
-use office_books::{Books, is_sound};
+use office_books::{Books, facts_are_lawful, installations_are_in_range, is_sound};
 use office_core::Office;
 use office_events::{Asked, Command, Installation, Name, Refusal};
-use office_rules::{facts_are_lawful, installations_are_in_range};
 
 // Returns the value that a counter without rollovers would have: the count `raw` plus one full
 // counter range for each of `rolls` rollovers.

@@ -1,5 +1,5 @@
 //! Enters the lines of an input into an office that is opened over a store.
-ghost use Rattle.office_rounds.specs.Passing as rounds;
+ghost use Rattle.office_program.specs.Passing as rounds;
 ghost use Rattle.office_program.specs.Texts.Passing.{Lasts};
 ghost use Rattle.office_program.specs.Entering.Entered.{EntersOver, EntersTextOf};
 ghost use Rattle.office_program.specs.Entering.Lines.{reporting_of};

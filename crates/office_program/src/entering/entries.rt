@@ -1,6 +1,6 @@
 //! Parses an input line into a request. The request is fed to the office later.
 ghost use Rattle.std.specs.Prelude.{◌≡◌, Some, IfOk};
-ghost use Rattle.script_lines.specs.LineWords.Words.{words_of};
+ghost use Rattle.script_text.specs.LineWords.Words.{words_of};
 ghost use Rattle.office_program.specs.Entering.FileLines.{seen_line};
 ghost use Rattle.office_program.specs.Entering.Lines as lines;
 ghost use Rattle.office_program.specs.Entering.Lines.{ReadsCounter, ReadsEntry, ReadsFile, ReadsList, ReadsScript, ReadsUnnamed, ReadsWanted, reporting_of};
@@ -12,7 +12,7 @@ use crate::entering::read_line::{ReadLine, ReadRequest, read_in};
 use crate::entering::wanted::{Wanted, wanted_in};
 use office_events::{Asked, Command, Name, Piece, PlannedList, PutList};
 use point_list::{FaultyRows, ListFault, read_list};
-use script_lines::{LineFault, ScriptLine};
+use script_text::{LineFault, ScriptLine};
 use std::alloc::{AllocError, Global};
 
 /// The parsed form of an input line: a request, a request that needs a meter's counter reading, or

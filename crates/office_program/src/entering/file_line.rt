@@ -1,10 +1,10 @@
 //! Parses an input line that names the file of a point list.
 ghost use Rattle.std.specs.Prelude.{◌≡◌, option_map};
 ghost use Rattle.office_program.specs.Entering.FileLines as spec;
-ghost use Rattle.script_lines.specs.LineWords.Words.{words_of};
+ghost use Rattle.script_text.specs.LineWords.Words.{words_of};
 
 use office_events::Name;
-use script_lines::{Words, end_of_words, next_name, next_number};
+use script_text::{Words, end_of_words, next_name, next_number};
 
 /// An input line of the form `NUMBER list DEVICE @NAME`: the point list of a device is in the named
 /// file.

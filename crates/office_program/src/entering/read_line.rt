@@ -1,12 +1,12 @@
 //! Parses an input line with `@read`, which installs a meter at the present reading of its counter.
 ghost use Rattle.std.specs.Prelude.{◌≡◌, MatchOption, not, option_map, pos};
 ghost use Rattle.office_program.specs.Entering.ReadLines as spec;
-ghost use Rattle.script_lines.specs.LineWords.Words.{words_of};
+ghost use Rattle.script_text.specs.LineWords.Words.{words_of};
 
 use crate::entering::files::Shown;
 use crate::entering::marks::{is_marked, unmarked};
 use office_events::{Asked, Command, Exchange, Install, Name, Piece};
-use script_lines::{Words, end_of_words, next_name, next_number, next_range};
+use script_text::{Words, end_of_words, next_name, next_number, next_range};
 
 /// An input line with `@read` in place of a counter's reading. A name is `None` if the word in the
 /// line is no valid name.

@@ -1,5 +1,5 @@
 //! Reads a meter's counter, so that the meter is installed at the counter's present reading.
-ghost use Rattle.office_rounds.specs.Passing.{Lasts};
+ghost use Rattle.office_program.specs.Passing.{Lasts};
 ghost use Rattle.office_program.specs.Entering.Lines.{reporting_of};
 ghost use Rattle.office_program.specs.Entering.Reading.{Fills, ReadsAt, ReadsThere};
 

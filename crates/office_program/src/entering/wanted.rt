@@ -5,7 +5,7 @@ ghost use Rattle.office_program.specs.Entering.Lines as lines;
 
 use crate::entering::marks::is_by_hand;
 use office_events::{Command, Event};
-use script_lines::{GivenList, ScriptLine};
+use script_text::{GivenList, ScriptLine};
 
 /// The request in a line of a script, with its number.
 #[derive(Drop)]

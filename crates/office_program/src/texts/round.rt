@@ -1,6 +1,6 @@
 //! Polls a device once, and prints the office's reports of the polling round.
 ghost use Rattle.std.specs.Prelude.{◌≡◌, Err};
-ghost use Rattle.office_rounds.specs.Passing.{AreAtMost, AreTakes, CountsFailures, Lasts};
+ghost use Rattle.office_program.specs.Passing.{AreAtMost, AreTakes, CountsFailures, Lasts};
 ghost use Rattle.office_program.specs.Texts.Rounds as rounds;
 ghost use Rattle.office_program.specs.Texts.Rounds.{IsRefusalReported, PollsRoundOver};
 
@@ -10,7 +10,7 @@ use mb_wire::Link;
 use office_books::Books;
 use office_core::Office;
 use office_events::Name;
-use office_rounds::{RoundFault, round_over};
+use crate::{RoundFault, round_over};
 use socket_link::Clock;
 use std::alloc::Global;
 use std::io::Write;

@@ -8,12 +8,12 @@ use Rattle.sqlite.specs.State.{State, HasCleanDisk, KeepsCommit, Survives, IsRol
 use Rattle.office_events.specs.declared.facts.Fact.{Fact}
 use Rattle.store_tables.specs.declared.faults.RowFault.{RowFault}
 use Rattle.store_tables.specs.Content.{Content}
-use Rattle.store_facts.specs.Going.{Goes, Commits}
-use Rattle.store_facts.specs.Holding.{BooksFacts}
-use Rattle.store_facts.specs.Recording.{Records, RecordsAll}
-use Rattle.store_facts.proofs.Committed.{untouched}
-use Rattle.store_facts.proofs.GoingLemmas as going
-use Rattle.store_facts.proofs.Following.{none_recorded, one_recorded}
+use Rattle.office_store.specs.Going.{Goes, Commits}
+use Rattle.office_store.specs.Holding.{BooksFacts}
+use Rattle.office_store.specs.Recording.{Records, RecordsAll}
+use Rattle.office_store.proofs.Committed.{untouched}
+use Rattle.office_store.proofs.GoingLemmas as going
+use Rattle.office_store.proofs.Following.{none_recorded, one_recorded}
 
 -- When a transaction begins, it has written no record.
 pub begun : (a : State) → Goes {X = Unit {0}} {E = RowFault} a a (Ok tt) (RecordsAll [])

@@ -9,24 +9,24 @@ use Rattle.office_events.specs.declared.facts.Poll.{Poll}
 use Rattle.office_events.specs.declared.facts.EndedPoll.{EndedPoll}
 use Rattle.office_events.specs.declared.facts.Reply.{Reply}
 use Rattle.office_events.specs.declared.facts.Fact.TheVariants as fact
-use Rattle.office_rules.specs.Steps.{HoldsChangeNothing}
+use Rattle.office_books.specs.Steps.{HoldsChangeNothing}
 use Rattle.store_tables.specs.Answer.{every}
 use Rattle.store_tables.specs.Content.{Content, Edits, with_row}
-use Rattle.store_devices.specs.Devices.Trees as list_tree
-use Rattle.store_devices.specs.declared.devices.rows.DeviceRow.{DeviceRow}
-use Rattle.store_devices.specs.declared.devices.rows.Point.{Point}
-use Rattle.store_devices.specs.declared.devices.rows.RegisterRow.{RegisterRow}
-use Rattle.store_devices.specs.Devices.Rows.{Added, Registered, device_columns, device_place, listed_at, point_columns, register_columns, register_place, with_list}
-use Rattle.store_devices.specs.Polls.Trees as poll_tree
-use Rattle.store_devices.specs.declared.polls.rows.PollRow.{PollRow}
-use Rattle.store_devices.specs.declared.polls.rows.OutcomeRow.{OutcomeRow}
-use Rattle.store_devices.specs.declared.polls.rows.RejectedRow.{RejectedRow}
-use Rattle.store_devices.specs.Polls.Rows.{Started, Held, Kept, poll_columns, outcome_columns, hold_columns, hold_place, reply_columns}
-use Rattle.store_facts.specs.Rows.{added, listed, placed_on, registered, started, outcome_row, held_row, kept}
-use Rattle.store_facts.specs.Recording.{Records, IsNext}
-use Rattle.store_facts.proofs.Recorded.{device_recorded, register_recorded, poll_recorded, outcome_recorded, reply_recorded}
-use Rattle.store_facts.proofs.Held.{hold_recorded}
-use Rattle.store_facts.proofs.Listed.{list_recorded}
+use Rattle.store_tables.specs.Devices.Trees as list_tree
+use Rattle.store_tables.specs.declared.devices.rows.DeviceRow.{DeviceRow}
+use Rattle.store_tables.specs.declared.devices.rows.Point.{Point}
+use Rattle.store_tables.specs.declared.devices.rows.RegisterRow.{RegisterRow}
+use Rattle.store_tables.specs.Devices.Rows.{Added, Registered, device_columns, device_place, listed_at, point_columns, register_columns, register_place, with_list}
+use Rattle.store_tables.specs.Polls.Trees as poll_tree
+use Rattle.store_tables.specs.declared.polls.rows.PollRow.{PollRow}
+use Rattle.store_tables.specs.declared.polls.rows.OutcomeRow.{OutcomeRow}
+use Rattle.store_tables.specs.declared.polls.rows.RejectedRow.{RejectedRow}
+use Rattle.store_tables.specs.Polls.Rows.{Started, Held, Kept, poll_columns, outcome_columns, hold_columns, hold_place, reply_columns}
+use Rattle.office_store.specs.Rows.{added, listed, placed_on, registered, started, outcome_row, held_row, kept}
+use Rattle.office_store.specs.Recording.{Records, IsNext}
+use Rattle.office_store.proofs.Recorded.{device_recorded, register_recorded, poll_recorded, outcome_recorded, reply_recorded}
+use Rattle.office_store.proofs.Held.{hold_recorded}
+use Rattle.office_store.proofs.Listed.{list_recorded}
 
 -- ---- inserted rows of `devices`
 

@@ -13,13 +13,13 @@ use Rattle.meter_journal.specs.Intervals as journal
 use Rattle.meter_journal.specs.Voids.{AreTherein, rows_until}
 use Rattle.store_tables.specs.Content.{Content, HasRows, without_where}
 use Rattle.store_tables.specs.Meters.Rows.{greatest_total}
-use Rattle.store_facts.specs.Intervals.Trees.{intervals}
-use Rattle.store_facts.specs.Intervals.Rows.{Interval, interval_columns, is_of, is_at, start_of}
-use Rattle.store_facts.specs.Intervals.StepShares.{EditsIf, with_shares}
-use Rattle.store_facts.specs.Rows.{interval_of}
-use Rattle.store_facts.proofs.Booked.{AreApart, AreRowsOf, has_start, itself, booked, others_booked}
-use Rattle.store_facts.proofs.Passing.{map_agree, any_agree, any_map, filter_edited, filter_spared, all_passing}
-use Rattle.store_facts.specs.Voids.Withdrawal.{lowered, without_share, without_shares, HasShare, HaveShares, TakesShares, starts_from, DropsRows}
+use Rattle.office_store.specs.Intervals.Trees.{intervals}
+use Rattle.office_store.specs.Intervals.Rows.{Interval, interval_columns, is_of, is_at, start_of}
+use Rattle.office_store.specs.Intervals.StepShares.{EditsIf, with_shares}
+use Rattle.office_store.specs.Rows.{interval_of}
+use Rattle.office_store.proofs.Booked.{AreApart, AreRowsOf, has_start, itself, booked, others_booked}
+use Rattle.office_store.proofs.Passing.{map_agree, any_agree, any_map, filter_edited, filter_spared, all_passing}
+use Rattle.office_store.specs.Voids.Withdrawal.{lowered, without_share, without_shares, HasShare, HaveShares, TakesShares, starts_from, DropsRows}
 use Rattle.office_store.specs.Bookings.Corrections.{gone_from}
 
 -- ---- energy that is subtracted from a meter's quarter hours

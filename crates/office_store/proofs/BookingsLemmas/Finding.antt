@@ -7,9 +7,9 @@ use Rattle.store_tables.specs.Content.{Content}
 use Rattle.store_tables.specs.Entries.Rows.{Entered, entry_columns, voided_columns, is_entry, IsRow}
 use Rattle.store_tables.specs.Entries.Trees.{entries, voids}
 use Rattle.store_tables.specs.declared.entries.rows.EntryRow.{EntryRow}
-use Rattle.store_facts.specs.Going.{Goes, Reported}
-use Rattle.store_facts.proofs.GoingLemmas.{goes_then, then_failed, reported_less}
-use Rattle.store_facts.specs.Voids.Places.{ReportsOf, IsBefore, IsAfter}
+use Rattle.office_store.specs.Going.{Goes, Reported}
+use Rattle.office_store.proofs.GoingLemmas.{goes_then, then_failed, reported_less}
+use Rattle.office_store.specs.Voids.Places.{ReportsOf, IsBefore, IsAfter}
 use Rattle.office_store.specs.declared.bookings.meter_state.Standing.{Standing}
 use Rattle.office_store.specs.declared.bookings.surroundings.Neighbours.{Neighbours}
 use Rattle.office_store.specs.declared.bookings.surroundings.Surroundings.{Surroundings}

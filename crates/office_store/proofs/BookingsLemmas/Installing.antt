@@ -3,7 +3,7 @@
 use Rattle.std.proofs.Common.{◌≡◌, ℕ, List, subst}
 use Rattle.office_events.specs.declared.facts.Opening.{Opening}
 use Rattle.office_events.specs.declared.facts.Fact.TheVariants as fact
-use Rattle.office_rules.specs.Steps.{OpeningsBegin}
+use Rattle.office_books.specs.Steps.{OpeningsBegin}
 use Rattle.store_tables.specs.Answer.{every}
 use Rattle.store_tables.specs.Content.{Content, Edits, with_row}
 use Rattle.store_tables.specs.Meters.Trees as meter_tree
@@ -12,9 +12,9 @@ use Rattle.store_tables.specs.Meters.Rows.{Installed, Ranged, installed_columns,
 use Rattle.store_tables.specs.Entries.Trees as entry_tree
 use Rattle.store_tables.specs.declared.entries.rows.EntryRow.{EntryRow}
 use Rattle.store_tables.specs.Entries.Rows.{Entered, entry_columns}
-use Rattle.store_facts.specs.Rows.{begun, installed_as, ranged, entered, opening_row}
-use Rattle.store_facts.specs.Recording.{Records, IsNext}
-use Rattle.store_facts.proofs.Opened.{opening_recorded}
+use Rattle.office_store.specs.Rows.{begun, installed_as, ranged, entered, opening_row}
+use Rattle.office_store.specs.Recording.{Records, IsNext}
+use Rattle.office_store.proofs.MeterOpened.{opening_recorded}
 use Rattle.office_store.proofs.BookingsLemmas.Leaving.{Then}
 
 abbrev pub AddsInstallation : (meter register : List ℕ) → InstallationRow → Content → Content → Type 0

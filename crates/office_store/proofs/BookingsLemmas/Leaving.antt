@@ -8,8 +8,8 @@ use Rattle.store_tables.specs.declared.faults.RowFault.{RowFault}
 use Rattle.store_tables.specs.Asking.{AsksInside}
 use Rattle.store_tables.specs.Content.{Content}
 use Rattle.store_tables.specs.Steps.{Steps}
-use Rattle.store_facts.specs.Going.{Goes}
-use Rattle.store_facts.proofs.GoingLemmas as going
+use Rattle.office_store.specs.Going.{Goes}
+use Rattle.office_store.proofs.GoingLemmas as going
 use Rattle.office_store.specs.Bookings.Places.{Answered}
 
 -- If the query in a sequence of calls fails, the sequence ends with an error.

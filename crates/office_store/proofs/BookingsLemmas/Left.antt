@@ -32,31 +32,31 @@ use Rattle.office_events.specs.declared.facts.Opening.{Opening}
 use Rattle.office_events.specs.declared.facts.VoidedEntry.{VoidedEntry}
 use Rattle.office_events.specs.declared.facts.Fact.{Fact}
 use Rattle.office_events.specs.declared.facts.Fact.TheVariants as fact
-use Rattle.office_rules.specs.Facts.{same, openings_in, opening_of}
-use Rattle.office_rules.specs.Intervals.{rows_of_opening, rows_of_installed, rows_of_meter}
-use Rattle.office_rules.specs.Lawful.{AreLawful}
-use Rattle.office_rules.specs.Laws.{IsRecorded, MetersAreKept}
-use Rattle.office_rules.specs.Meters.{opened, installed, journal_of, rows_of, installation_of}
-use Rattle.office_rules.specs.Ranges.{InstallationsAreInRange}
-use Rattle.office_rules.specs.Steps.{OtherMetersStay}
-use Rattle.office_rules.proofs.Journals.{installed_fits, well}
-use Rattle.office_rules.proofs.Lookups.{same_text}
-use Rattle.office_rules.proofs.Stepping.{installation_by, named, own_line, installed_so, line_after}
+use Rattle.office_books.specs.Facts.{same, openings_in, opening_of}
+use Rattle.office_books.specs.Intervals.{rows_of_opening, rows_of_installed, rows_of_meter}
+use Rattle.office_books.specs.Lawful.{AreLawful}
+use Rattle.office_books.specs.Laws.{IsRecorded, MetersAreKept}
+use Rattle.office_books.specs.Meters.{opened, installed, journal_of, rows_of, installation_of}
+use Rattle.office_books.specs.Ranges.{InstallationsAreInRange}
+use Rattle.office_books.specs.Steps.{OtherMetersStay}
+use Rattle.office_books.proofs.Journals.{installed_fits, well}
+use Rattle.office_books.proofs.Lookups.{same_text}
+use Rattle.office_books.proofs.Stepping.{installation_by, named, own_line, installed_so, line_after}
 use Rattle.store_tables.specs.Content.{Content, HasRows, Edits, changed_where}
 use Rattle.store_tables.specs.declared.meters.rows.LastRow.{LastRow}
 use Rattle.store_tables.specs.Entries.Trees as entry_tree
 use Rattle.store_tables.specs.Entries.Rows.{Entered, entry_columns, is_entry, is_of as is_entry_of, rolled as with_rollovers}
-use Rattle.store_facts.specs.Intervals.Trees as interval_tree
-use Rattle.store_facts.specs.Intervals.Rows.{Interval, interval_columns, is_of as is_interval_of}
-use Rattle.store_facts.specs.Intervals.StepShares.{EditsIf, AreSmall, with_shares}
-use Rattle.store_facts.specs.Rows.{installed_as, installed_row, last_row, interval_of, rolls_of, entered_rows, entries_at, entries_of}
-use Rattle.store_facts.specs.Tables.{AreEntries, AreIntervals}
-use Rattle.store_facts.proofs.Booked.{AreApart, AreRowsOf}
-use Rattle.store_facts.proofs.Energy.{found_recorded, opening_apart, rows_small}
-use Rattle.store_facts.proofs.Entered.{SparesOthers, other_entries, other_intervals}
-use Rattle.store_facts.proofs.Passing.{filter_edited, filter_spared}
-use Rattle.store_queries.proofs.MeteringLemmas.Shapes.{FoundThere, found_there}
-use Rattle.store_facts.specs.Voids.Withdrawal.{TakesShares}
+use Rattle.office_store.specs.Intervals.Trees as interval_tree
+use Rattle.office_store.specs.Intervals.Rows.{Interval, interval_columns, is_of as is_interval_of}
+use Rattle.office_store.specs.Intervals.StepShares.{EditsIf, AreSmall, with_shares}
+use Rattle.office_store.specs.Rows.{installed_as, installed_row, last_row, interval_of, rolls_of, entered_rows, entries_at, entries_of}
+use Rattle.office_store.specs.Tables.{AreEntries, AreIntervals}
+use Rattle.office_store.proofs.Booked.{AreApart, AreRowsOf}
+use Rattle.office_store.proofs.Energy.{found_recorded, opening_apart, rows_small}
+use Rattle.office_store.proofs.Entered.{SparesOthers, other_entries, other_intervals}
+use Rattle.office_store.proofs.Passing.{filter_edited, filter_spared}
+use Rattle.office_store.proofs.MeteringLemmas.Shapes.{FoundThere, found_there}
+use Rattle.office_store.specs.Voids.Withdrawal.{TakesShares}
 use Rattle.office_store.specs.Bookings.Corrections.{energy_out, energy_put, gone_from}
 use Rattle.office_store.specs.Bookings.MeterState.{stands_at, settled}
 use Rattle.office_store.specs.Bookings.Voids.{RollsNext, TakesNext, PutsNext, ExchangesRows}

@@ -15,11 +15,11 @@ use Rattle.office_events.specs.declared.facts.Opening.{Opening}
 use Rattle.office_events.specs.declared.facts.BookedEntry.{BookedEntry}
 use Rattle.office_events.specs.declared.facts.Fact.{Fact}
 use Rattle.office_events.specs.declared.facts.Fact.TheVariants as fact
-use Rattle.office_rules.specs.Facts.{same, openings_in, opening_of}
-use Rattle.office_rules.specs.Meters.{installed, journal_of, rows_of, installation_of}
-use Rattle.office_rules.specs.Laws.{MetersAreKept, VoidsLeaveNoTrace}
-use Rattle.office_rules.specs.Ranges.{InstallationsAreInRange}
-use Rattle.office_rules.specs.Steps.{OtherMetersStay, EntriesMoveOn, MovesOn, moved_by, step_from}
+use Rattle.office_books.specs.Facts.{same, openings_in, opening_of}
+use Rattle.office_books.specs.Meters.{installed, journal_of, rows_of, installation_of}
+use Rattle.office_books.specs.Laws.{MetersAreKept, VoidsLeaveNoTrace}
+use Rattle.office_books.specs.Ranges.{InstallationsAreInRange}
+use Rattle.office_books.specs.Steps.{OtherMetersStay, EntriesMoveOn, MovesOn, moved_by, step_from}
 use Rattle.store_tables.specs.Content.{Content, HasRows, Edits, with_row, changed_where}
 use Rattle.store_tables.specs.Meters.Trees as meter_tree
 use Rattle.store_tables.specs.declared.meters.rows.LastRow.{LastRow}
@@ -27,12 +27,12 @@ use Rattle.store_tables.specs.Meters.Rows.{installed_columns, ranged_columns, is
 use Rattle.store_tables.specs.Entries.Trees as entry_tree
 use Rattle.store_tables.specs.declared.entries.rows.EntryRow.{EntryRow}
 use Rattle.store_tables.specs.Entries.Rows.{Entered, entry_columns, entry_place, is_of}
-use Rattle.store_facts.specs.Intervals.StepShares.{BooksShares}
-use Rattle.store_facts.specs.Rows.{placed, installed_as, installed_row, last_row, ranged, entered, entry_row, scale_after, entered_rows, entries_at}
-use Rattle.store_facts.specs.Recording.{Records, IsNext}
-use Rattle.store_facts.proofs.Energy.{found_recorded}
-use Rattle.store_facts.proofs.EntryRecorded.{entries_count, entry_recorded}
-use Rattle.store_facts.proofs.Standing.{stands_found, range_found}
+use Rattle.office_store.specs.Intervals.StepShares.{BooksShares}
+use Rattle.office_store.specs.Rows.{placed, installed_as, installed_row, last_row, ranged, entered, entry_row, scale_after, entered_rows, entries_at}
+use Rattle.office_store.specs.Recording.{Records, IsNext}
+use Rattle.office_store.proofs.Energy.{found_recorded}
+use Rattle.office_store.proofs.EntryRecorded.{entries_count, entry_recorded}
+use Rattle.office_store.proofs.Standing.{stands_found, range_found}
 use Rattle.office_store.specs.declared.bookings.meter_state.Standing.{Standing}
 use Rattle.office_store.specs.declared.bookings.meter_entries.Advance.{Advance}
 use Rattle.office_store.specs.Bookings.Places.{IsSeenIn, StandsThere}

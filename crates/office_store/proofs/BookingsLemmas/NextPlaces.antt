@@ -13,9 +13,9 @@ use Rattle.store_tables.specs.Limits.{greatest_place}
 use Rattle.store_tables.specs.Answer.{AreFound, IsLast, LastFirst}
 use Rattle.store_tables.specs.Asking.{AsksInside, ReportsAnswer, ShowsFirst}
 use Rattle.store_tables.proofs.Selects.{found_none, last_some}
-use Rattle.store_facts.specs.Going.{Goes, Reported}
-use Rattle.store_facts.specs.Recording.{next_place, IsNext}
-use Rattle.store_facts.proofs.GoingLemmas.{of_answer, reported_less, then_refused}
+use Rattle.office_store.specs.Going.{Goes, Reported}
+use Rattle.office_store.specs.Recording.{next_place, IsNext}
+use Rattle.office_store.proofs.GoingLemmas.{of_answer, reported_less, then_refused}
 use Rattle.office_store.specs.Bookings.Places.{one_on, next_in, Answered}
 
 on_by : (b : Bool) (place n : ℕ) → (let r : Result ℕ RowFault = cond b (Err Damaged) (Ok (place + 1)) in r) ≡ Ok n → n ≡ place + 1

@@ -29,22 +29,22 @@ use Rattle.office_events.specs.declared.facts.Opening.{Opening}
 use Rattle.office_events.specs.declared.facts.VoidedEntry.{VoidedEntry}
 use Rattle.office_events.specs.declared.facts.Fact.{Fact}
 use Rattle.office_events.specs.declared.facts.Fact.TheVariants as fact
-use Rattle.office_rules.specs.Facts.{openings_in, opening_of, voids_in}
-use Rattle.office_rules.specs.Lawful.{AreLawful}
-use Rattle.office_rules.specs.Meters.{opened, installed, journal_of, rows_of, installation_of}
-use Rattle.office_rules.proofs.Journals.{installed_fits, well}
-use Rattle.office_rules.proofs.Lookups.{same_itself}
-use Rattle.office_rules.proofs.Stepping.{named, own_line, installed_so}
+use Rattle.office_books.specs.Facts.{openings_in, opening_of, voids_in}
+use Rattle.office_books.specs.Lawful.{AreLawful}
+use Rattle.office_books.specs.Meters.{opened, installed, journal_of, rows_of, installation_of}
+use Rattle.office_books.proofs.Journals.{installed_fits, well}
+use Rattle.office_books.proofs.Lookups.{same_itself}
+use Rattle.office_books.proofs.Stepping.{named, own_line, installed_so}
 use Rattle.store_tables.specs.Content.{Content}
 use Rattle.store_tables.specs.declared.meters.rows.LastRow.{LastRow}
 use Rattle.store_tables.specs.Meters.Rows.{HasRange}
 use Rattle.store_tables.specs.Entries.Rows.{Entered, Voided, is_of}
 use Rattle.store_tables.specs.declared.entries.rows.EntryRow as stored
-use Rattle.store_facts.specs.Rows.{counter_after, placed, installed_row, last_row, ranged, voided, rolls_of, raw_of, entry_row, entered_rows, entries_at}
-use Rattle.store_facts.specs.Tables.{AreOf}
-use Rattle.store_facts.proofs.Standing.{stands_found, range_found}
-use Rattle.store_queries.proofs.MeteringLemmas.Shapes.{HasShape, IsPlain, plain}
-use Rattle.store_facts.specs.Voids.Places.{AreVoided, names}
+use Rattle.office_store.specs.Rows.{counter_after, placed, installed_row, last_row, ranged, voided, rolls_of, raw_of, entry_row, entered_rows, entries_at}
+use Rattle.office_store.specs.Tables.{AreOf}
+use Rattle.office_store.proofs.Standing.{stands_found, range_found}
+use Rattle.office_store.proofs.MeteringLemmas.Shapes.{HasShape, IsPlain, plain}
+use Rattle.office_store.specs.Voids.Places.{AreVoided, names}
 use Rattle.office_store.specs.Bookings.Corrections.{IsReadingOf, RejoinsNext, Corrects, energy_out, energy_put, gone_from}
 use Rattle.office_store.specs.Bookings.MeterState.{counter_of, stands_at}
 use Rattle.office_store.specs.Bookings.Places.{StandsThere}
@@ -53,7 +53,7 @@ use Rattle.office_store.specs.declared.bookings.corrections.Correction.{Correcti
 use Rattle.office_store.specs.declared.bookings.corrections.Rejoined.{Rejoined}
 use Rattle.office_store.specs.declared.bookings.corrections.Rollover.{Rollover}
 use Rattle.office_store.specs.declared.bookings.surroundings.Surroundings.{Surroundings}
-use Rattle.store_queries.proofs.MeteringLemmas.Around.{AtRow, IsNextRow, AreStruck, names_are, entries_at_rows, stands_after_row, stood_around, next_around, none_next, all_places, all_of_meter, opening_alone, reported_of, none_reported}
+use Rattle.office_store.proofs.MeteringLemmas.Around.{AtRow, IsNextRow, AreStruck, names_are, entries_at_rows, stands_after_row, stood_around, next_around, none_next, all_places, all_of_meter, opening_alone, reported_of, none_reported}
 use Rattle.office_store.proofs.BookingsLemmas.Left.{HasRolls, IsLeft, next_out, next_put}
 use Rattle.office_store.proofs.BookingsLemmas.Rolling as rolling
 

@@ -17,11 +17,11 @@ use Rattle.meter_journal.specs.Lists.{AreNumbered}
 use Rattle.meter_journal.specs.Voids.{changed_by, is_next}
 use Rattle.meter_journal.proofs.Keeping.{entries_standing, entries_struck}
 use Rattle.office_events.specs.declared.facts.Opening.{Opening}
-use Rattle.office_rules.specs.Meters.{opened}
-use Rattle.office_rules.proofs.Lookups.{same_itself}
+use Rattle.office_books.specs.Meters.{opened}
+use Rattle.office_books.proofs.Lookups.{same_itself}
 use Rattle.store_tables.specs.Entries.Rows.{Entered, is_entry, rolled as with_rollovers}
-use Rattle.store_facts.specs.Rows.{rolls_of, entry_row, entered, opening_row, scale_after, entered_rows}
-use Rattle.store_queries.proofs.MeteringLemmas.Shapes.{IsBelow, below, FoundThere, found_rest, found_there}
+use Rattle.office_store.specs.Rows.{rolls_of, entry_row, entered, opening_row, scale_after, entered_rows}
+use Rattle.office_store.proofs.MeteringLemmas.Shapes.{IsBelow, below, FoundThere, found_rest, found_there}
 
 -- ---- the next meter entry of a journal that is not voided
 

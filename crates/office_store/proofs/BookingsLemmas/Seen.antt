@@ -9,8 +9,8 @@ use Rattle.store_tables.specs.Answer.{AnyOrder}
 use Rattle.store_tables.specs.Asking.{AsksInside, ReportsAnswer, ShowsFirst, ReadsRow}
 use Rattle.store_tables.specs.Content.{Content}
 use Rattle.store_tables.proofs.Selects.{found_some}
-use Rattle.store_facts.specs.Going.{Goes, Reported}
-use Rattle.store_facts.proofs.GoingLemmas.{of_answer, reported_less}
+use Rattle.office_store.specs.Going.{Goes, Reported}
+use Rattle.office_store.proofs.GoingLemmas.{of_answer, reported_less}
 use Rattle.office_store.specs.Bookings.Places.{Answered, IsSeenIn}
 
 -- If a call fails after one query, it commits nothing.

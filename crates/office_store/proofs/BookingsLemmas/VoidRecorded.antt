@@ -7,24 +7,24 @@ use Rattle.meter_journal.specs.Voids.{VoidsChangeTwoRows}
 use Rattle.office_events.specs.declared.facts.VoidedEntry.{VoidedEntry}
 use Rattle.office_events.specs.declared.facts.Fact.{Fact}
 use Rattle.office_events.specs.declared.facts.Fact.TheVariants as fact
-use Rattle.office_rules.specs.Facts.{devices_in, registers_in, openings_in, opening_of, holds_in, voids_in, replies_in, polls_in, ended_in}
-use Rattle.office_rules.specs.Laws.{MetersAreKept}
-use Rattle.office_rules.specs.Ranges.{InstallationsAreInRange}
-use Rattle.office_rules.specs.Steps.{OtherMetersStay}
+use Rattle.office_books.specs.Facts.{devices_in, registers_in, openings_in, opening_of, holds_in, voids_in, replies_in, polls_in, ended_in}
+use Rattle.office_books.specs.Laws.{MetersAreKept}
+use Rattle.office_books.specs.Ranges.{InstallationsAreInRange}
+use Rattle.office_books.specs.Steps.{OtherMetersStay}
 use Rattle.store_tables.specs.Content.{Content, HasRows}
-use Rattle.store_devices.specs.Devices.Trees as list_tree
-use Rattle.store_devices.specs.Devices.Rows.{device_columns, register_columns}
+use Rattle.store_tables.specs.Devices.Trees as list_tree
+use Rattle.store_tables.specs.Devices.Rows.{device_columns, register_columns}
 use Rattle.store_tables.specs.Meters.Trees as meter_tree
 use Rattle.store_tables.specs.Meters.Rows.{installed_columns, ranged_columns}
 use Rattle.store_tables.specs.Entries.Trees as entry_tree
 use Rattle.store_tables.specs.Entries.Rows.{voided_columns}
-use Rattle.store_devices.specs.Polls.Trees as poll_tree
-use Rattle.store_devices.specs.Polls.Rows.{poll_columns, outcome_columns, hold_columns, reply_columns}
-use Rattle.store_facts.specs.Rows.{placed, added, registered, installed_row, ranged, voided, started, outcome_row, held_row, kept}
-use Rattle.store_facts.specs.Tables.{meta_tree, meta_columns, AreOf}
-use Rattle.store_facts.specs.Recording.{Records}
-use Rattle.store_facts.proofs.Entered.{installations_changed}
-use Rattle.store_facts.proofs.Recorded.{stay, points_stay, entries_stay, intervals_stay}
+use Rattle.store_tables.specs.Polls.Trees as poll_tree
+use Rattle.store_tables.specs.Polls.Rows.{poll_columns, outcome_columns, hold_columns, reply_columns}
+use Rattle.office_store.specs.Rows.{placed, added, registered, installed_row, ranged, voided, started, outcome_row, held_row, kept}
+use Rattle.office_store.specs.Tables.{meta_tree, meta_columns, AreOf}
+use Rattle.office_store.specs.Recording.{Records}
+use Rattle.office_store.proofs.Entered.{installations_changed}
+use Rattle.office_store.proofs.Recorded.{stay, points_stay, entries_stay, intervals_stay}
 use Rattle.office_store.specs.Bookings.Corrections.{Corrects}
 use Rattle.office_store.specs.Bookings.MeterState.{settled}
 use Rattle.office_store.specs.Bookings.Surroundings.{IsAround}

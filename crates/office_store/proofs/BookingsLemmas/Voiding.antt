@@ -8,10 +8,10 @@ use Rattle.store_tables.specs.Content.{Edits, changed_where}
 use Rattle.store_tables.specs.Steps.{Steps}
 use Rattle.store_tables.specs.Entries.Trees.{entries}
 use Rattle.store_tables.specs.Entries.Rows.{entry_columns, is_entry, rolled}
-use Rattle.store_facts.specs.Going.{Goes}
-use Rattle.store_facts.specs.Intervals.StepShares.{BooksShares}
-use Rattle.store_facts.proofs.GoingLemmas.{nothing_done}
-use Rattle.store_facts.specs.Voids.Withdrawal.{TakesShares}
+use Rattle.office_store.specs.Going.{Goes}
+use Rattle.office_store.specs.Intervals.StepShares.{BooksShares}
+use Rattle.office_store.proofs.GoingLemmas.{nothing_done}
+use Rattle.office_store.specs.Voids.Withdrawal.{TakesShares}
 use Rattle.office_store.specs.Bookings.Voids.{RollsNext, TakesNext, PutsNext}
 use Rattle.office_store.specs.declared.bookings.corrections.Rejoined.{Rejoined}
 use Rattle.office_store.proofs.BookingsLemmas.Leaving.{completed_alone}

@@ -13,17 +13,17 @@ use Rattle.poll_core.specs.declared.outcome.Malformation.TheVariants as malforma
 use Rattle.poll_core.specs.declared.outcome.LostCause.TheVariants as lost
 use Rattle.poll_core.specs.Outcomes.{outcome_number, outcome_code}
 use Rattle.store_tables.specs.Columns.{function_of}
-use Rattle.store_devices.specs.declared.devices.rows.RegisterScale.{RegisterScale}
-use Rattle.store_devices.specs.declared.devices.rows.RegisterScale.TheVariants as scale
-use Rattle.store_devices.specs.Devices.Rows.{device_columns, point_columns, register_columns, scale_kind, scale_number}
+use Rattle.store_tables.specs.declared.devices.rows.RegisterScale.{RegisterScale}
+use Rattle.store_tables.specs.declared.devices.rows.RegisterScale.TheVariants as scale
+use Rattle.store_tables.specs.Devices.Rows.{device_columns, point_columns, register_columns, scale_kind, scale_number}
 use Rattle.store_tables.specs.Meters.Rows.{installed_columns, ranged_columns, ended_number, flag_of}
 use Rattle.store_tables.specs.declared.entries.rows.EntryKind.{EntryKind}
 use Rattle.store_tables.specs.declared.entries.rows.EntryKind.TheVariants as kind
 use Rattle.store_tables.specs.Entries.Rows.{entry_columns, voided_columns, kind_number, kind_of}
 use Rattle.office_events.specs.declared.answers.CommandKind.{CommandKind}
 use Rattle.office_events.specs.declared.answers.CommandKind.TheVariants as reply
-use Rattle.store_devices.specs.Polls.Rows.{Started, Held, Kept, poll_columns, outcome_columns, hold_columns, reply_columns, outcome_of, kind_word}
-use Rattle.store_devices.specs.Polls.Rows as polls
+use Rattle.store_tables.specs.Polls.Rows.{Started, Held, Kept, poll_columns, outcome_columns, hold_columns, reply_columns, outcome_of, kind_word}
+use Rattle.store_tables.specs.Polls.Rows as polls
 use Rattle.office_store.proofs.LawsLemmas.Lists.{IsInjective, undone}
 
 -- ---- the numbers and the words that encode enums in columns

@@ -4,22 +4,22 @@ use Rattle.std.proofs.lemmas.List.Sorted.{IsPermutation-sym, IsPermutation-trans
 use Rattle.sqlite.specs.Order.{Row}
 use Rattle.sqlite.specs.Effect.{Database}
 use Rattle.office_events.specs.declared.facts.Fact.{Fact}
-use Rattle.office_rules.specs.Facts.{devices_in, registers_in, openings_in, holds_in, voids_in, replies_in, polls_in, ended_in}
+use Rattle.office_books.specs.Facts.{devices_in, registers_in, openings_in, holds_in, voids_in, replies_in, polls_in, ended_in}
 use Rattle.store_tables.specs.Schema.{books_schema, meta_table, devices_table, points_table, registers_table, installations_table, entries_table, polls_table, holds_table, outcomes_table, intervals_table, replies_table, ranges_table, voids_table}
 use Rattle.store_tables.specs.Content.{Content, HasTree, AreTables, HasRows}
 use Rattle.store_tables.proofs.Frames.{tree_at}
-use Rattle.store_devices.specs.Devices.Trees as list_tree
-use Rattle.store_devices.specs.Devices.Rows.{device_columns, point_columns, register_columns}
+use Rattle.store_tables.specs.Devices.Trees as list_tree
+use Rattle.store_tables.specs.Devices.Rows.{device_columns, point_columns, register_columns}
 use Rattle.store_tables.specs.Meters.Trees as meter_tree
 use Rattle.store_tables.specs.Meters.Rows.{installed_columns, ranged_columns}
 use Rattle.store_tables.specs.Entries.Trees as entry_tree
 use Rattle.store_tables.specs.Entries.Rows.{entry_columns, voided_columns}
-use Rattle.store_facts.specs.Intervals.Trees as interval_tree
-use Rattle.store_facts.specs.Intervals.Rows.{interval_columns}
-use Rattle.store_devices.specs.Polls.Trees as poll_tree
-use Rattle.store_devices.specs.Polls.Rows.{poll_columns, outcome_columns, hold_columns, reply_columns}
-use Rattle.store_facts.specs.Rows.{placed, added, registered, installed_row, ranged, voided, started, outcome_row, held_row, kept}
-use Rattle.store_facts.specs.Tables.{meta_tree, meta_columns, AreOf}
+use Rattle.office_store.specs.Intervals.Trees as interval_tree
+use Rattle.office_store.specs.Intervals.Rows.{interval_columns}
+use Rattle.store_tables.specs.Polls.Trees as poll_tree
+use Rattle.store_tables.specs.Polls.Rows.{poll_columns, outcome_columns, hold_columns, reply_columns}
+use Rattle.office_store.specs.Rows.{placed, added, registered, installed_row, ranged, voided, started, outcome_row, held_row, kept}
+use Rattle.office_store.specs.Tables.{meta_tree, meta_columns, AreOf}
 use Rattle.office_store.specs.Laws.Laws.{TablesTellTheirFacts, DatabasesTellTheirFacts}
 
 -- Proofs about two contents of one database's tables. The contents have the same rows, possibly in

@@ -13,11 +13,11 @@ use Rattle.meter_journal.specs.Lists.{AreNumbered}
 use Rattle.meter_journal.specs.Standing.{is_voided}
 use Rattle.meter_journal.proofs.Keeping.{entries_standing}
 use Rattle.office_events.specs.declared.facts.Opening.{Opening}
-use Rattle.office_rules.specs.Meters.{opened}
+use Rattle.office_books.specs.Meters.{opened}
 use Rattle.store_tables.specs.declared.entries.rows.EntryKind.{EntryKind}
 use Rattle.store_tables.specs.declared.entries.rows.EntryKind.TheVariants as kind
 use Rattle.store_tables.specs.Entries.Rows.{Entered, entry_place}
-use Rattle.store_facts.specs.Rows.{kind_as, raw_of, rolls_of, after_of, entry_row, opening_row, entered, scale_after, entered_rows}
+use Rattle.office_store.specs.Rows.{kind_as, raw_of, rolls_of, after_of, entry_row, opening_row, entered, scale_after, entered_rows}
 use Rattle.office_store.proofs.LawsLemmas.Lists.{Among, InOrder, undone}
 use Rattle.office_store.proofs.LawsLemmas.Journals.{is_change, sets, IsFormed, StandsBy}
 use Rattle.office_store.proofs.LawsLemmas.Placed.{Falls}

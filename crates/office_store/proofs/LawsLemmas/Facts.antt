@@ -16,12 +16,12 @@ use Rattle.office_events.specs.declared.facts.Poll.{Poll}
 use Rattle.office_events.specs.declared.facts.VoidedEntry.{VoidedEntry}
 use Rattle.office_events.specs.declared.facts.Fact.{Fact}
 use Rattle.office_events.specs.declared.facts.Fact.TheVariants as fact
-use Rattle.office_rules.specs.Facts.{same, lists_in, openings_in, opening_of, polls_in, voids_in}
-use Rattle.office_rules.specs.Lawful.{AreLawful}
-use Rattle.office_rules.specs.Meters.{held_line, installed, journal_of, rows_of}
-use Rattle.office_rules.proofs.Lookups.{each_found}
-use Rattle.office_rules.proofs.Openings.{openings_apart}
-use Rattle.office_rules.proofs.Journals.{installed_fits, well}
+use Rattle.office_books.specs.Facts.{same, lists_in, openings_in, opening_of, polls_in, voids_in}
+use Rattle.office_books.specs.Lawful.{AreLawful}
+use Rattle.office_books.specs.Meters.{held_line, installed, journal_of, rows_of}
+use Rattle.office_books.proofs.Lookups.{each_found}
+use Rattle.office_books.proofs.FoundOpenings.{openings_apart}
+use Rattle.office_books.proofs.Journals.{installed_fits, well}
 use Rattle.office_store.proofs.LawsLemmas.Lists.{InOrder, found_has}
 use Rattle.office_store.proofs.LawsLemmas.Placed.{Falls}
 use Rattle.office_store.proofs.LawsLemmas.Journals.{IsFormed, StandsBy, rows_are_formed, rows_stand_by}

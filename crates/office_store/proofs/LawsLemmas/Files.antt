@@ -10,25 +10,25 @@ use Rattle.sqlite.specs.Table.{Table}
 use Rattle.sqlite.specs.Effect.{Database}
 use Rattle.office_events.specs.declared.facts.Opening.{Opening}
 use Rattle.office_events.specs.declared.facts.Fact.{Fact}
-use Rattle.office_rules.specs.Facts.{devices_in, registers_in, openings_in, holds_in, voids_in, replies_in, polls_in, ended_in}
+use Rattle.office_books.specs.Facts.{devices_in, registers_in, openings_in, holds_in, voids_in, replies_in, polls_in, ended_in}
 use Rattle.store_tables.specs.Content.{Content, HasRows, HasTree}
 use Rattle.store_tables.specs.Schema.{books_schema}
-use Rattle.store_devices.specs.Devices.Trees as list_tree
-use Rattle.store_devices.specs.Devices.Rows.{device_columns, point_columns, register_columns}
+use Rattle.store_tables.specs.Devices.Trees as list_tree
+use Rattle.store_tables.specs.Devices.Rows.{device_columns, point_columns, register_columns}
 use Rattle.store_tables.specs.Meters.Trees as meter_tree
 use Rattle.store_tables.specs.Meters.Rows.{installed_columns, ranged_columns}
 use Rattle.store_tables.specs.Entries.Trees as entry_tree
 use Rattle.store_tables.specs.Entries.Rows.{entry_columns, voided_columns}
-use Rattle.store_facts.specs.Intervals.Trees as interval_tree
-use Rattle.store_facts.specs.Intervals.Rows.{interval_columns}
-use Rattle.store_devices.specs.Polls.Trees as poll_tree
-use Rattle.store_devices.specs.Polls.Rows.{poll_columns, outcome_columns, hold_columns, reply_columns}
-use Rattle.store_files.specs.declared.layouts.Layout.{Layout}
-use Rattle.store_files.specs.declared.layouts.Layout.TheVariants.{First, Second, Third}
-use Rattle.store_files.specs.Layouts.{first_tables, schema_of}
-use Rattle.store_files.specs.Upgrade.{full_range, IsBrought}
-use Rattle.store_facts.specs.Rows.{placed, added, registered, installed_row, ranged, voided, started, outcome_row, held_row, kept}
-use Rattle.store_facts.proofs.Recorded.{stay, points_stay, entries_stay, intervals_stay}
+use Rattle.office_store.specs.Intervals.Trees as interval_tree
+use Rattle.office_store.specs.Intervals.Rows.{interval_columns}
+use Rattle.store_tables.specs.Polls.Trees as poll_tree
+use Rattle.store_tables.specs.Polls.Rows.{poll_columns, outcome_columns, hold_columns, reply_columns}
+use Rattle.store_tables.specs.declared.layouts.Layout.{Layout}
+use Rattle.store_tables.specs.declared.layouts.Layout.TheVariants.{First, Second, Third}
+use Rattle.store_tables.specs.Layouts.{first_tables, schema_of}
+use Rattle.store_tables.specs.Upgrade.{full_range, IsBrought}
+use Rattle.office_store.specs.Rows.{placed, added, registered, installed_row, ranged, voided, started, outcome_row, held_row, kept}
+use Rattle.office_store.proofs.Recorded.{stay, points_stay, entries_stay, intervals_stay}
 use Rattle.office_store.specs.Laws.Files.{HasFullRange, HasFactsIn, NewFilesHaveNone, NewestFilesHaveTheirs, OpenedFilesKeepTheirs}
 
 none : {X : Type 0} (tree : ℕ) (columns : X → Row) (content : Content) → content tree ≡ [] → HasRows tree columns [] content

@@ -5,7 +5,7 @@ use Rattle.sqlite.specs.Schema.{Schema}
 use Rattle.sqlite.specs.Effect.{Database}
 use Rattle.sqlite_catalog.specs.Listing.{IsSound}
 use Rattle.sqlite_catalog.proofs.ReadLemmas.{reads, read_once}
-use Rattle.store_facts.specs.Holding.{HasFacts}
+use Rattle.office_store.specs.Holding.{HasFacts}
 use Rattle.office_store.specs.Laws.Laws.{LeftFactsAreFound}
 use Rattle.office_store.specs.Laws.Files.{HasFactsIn, FoundFilesKeepTheirs}
 

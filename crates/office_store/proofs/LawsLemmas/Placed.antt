@@ -3,7 +3,7 @@ use Rattle.std.proofs.Common.{◌≡◌, ℕ, ◌+◌, ◌<◌, ◌≤◌, List,
 use Rattle.std.specs.List.{AllByRecursion, AllZip}
 use Rattle.std.proofs.lemmas.List.Elements.{same_from_all_zip}
 use Rattle.sqlite_keyed.proofs.ListLemmas.{all_weaker}
-use Rattle.store_facts.specs.Rows.{placed, placed_on}
+use Rattle.office_store.specs.Rows.{placed, placed_on}
 use Rattle.office_store.proofs.LawsLemmas.Lists.{InOrder, same_in_order}
 
 -- True if the row `a` has a greater index than the row `b`.

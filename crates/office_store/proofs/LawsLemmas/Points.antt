@@ -17,10 +17,10 @@ use Rattle.point_list.proofs.WrittenFields.{type-read, scale-read}
 use Rattle.read_plan.specs.PlannedLists.{ListsArePlannedOnce}
 use Rattle.read_plan.specs.PlannedLists.{Planned, IsPlanned}
 use Rattle.office_events.specs.declared.facts.DeviceList.{DeviceList}
-use Rattle.office_rules.specs.Facts.{if_some}
-use Rattle.office_rules.proofs.Lookups.{find_passes}
-use Rattle.store_devices.specs.Devices.Rows.{point_place}
-use Rattle.store_facts.specs.Rows.{placed_on, listed, points_put}
+use Rattle.office_books.specs.Facts.{if_some}
+use Rattle.office_books.proofs.Lookups.{find_passes}
+use Rattle.store_tables.specs.Devices.Rows.{point_place}
+use Rattle.office_store.specs.Rows.{placed_on, listed, points_put}
 use Rattle.office_store.proofs.LawsLemmas.Lists.{same_by_parts, found_has}
 use Rattle.office_store.proofs.LawsLemmas.Placed.{placed_on_alike}
 

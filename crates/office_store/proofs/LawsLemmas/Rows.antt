@@ -8,9 +8,9 @@ use Rattle.office_events.specs.declared.facts.Register.{Register}
 use Rattle.office_events.specs.declared.facts.ScaleSource.{ScaleSource}
 use Rattle.office_events.specs.declared.facts.ScaleSource.TheVariants as source
 use Rattle.office_events.specs.declared.facts.HeldReading.{HeldReading}
-use Rattle.store_devices.specs.declared.devices.rows.RegisterScale.{RegisterScale}
-use Rattle.store_devices.specs.declared.devices.rows.RegisterScale.TheVariants as scale
-use Rattle.store_facts.specs.Rows.{added, scale_as, registered, voided, started, outcome_row, held_row, kept}
+use Rattle.store_tables.specs.declared.devices.rows.RegisterScale.{RegisterScale}
+use Rattle.store_tables.specs.declared.devices.rows.RegisterScale.TheVariants as scale
+use Rattle.office_store.specs.Rows.{added, scale_as, registered, voided, started, outcome_row, held_row, kept}
 use Rattle.office_store.proofs.LawsLemmas.Lists.{IsInjective, undone}
 
 pub one_device : (m n : ℕ) (a b : Device) → added m a ≡ added n b → a ≡ b

@@ -8,20 +8,20 @@ use Rattle.meter_journal.specs.Laws.{RowsStand}
 use Rattle.read_plan.specs.PlannedLists.{ListsArePlannedOnce}
 use Rattle.office_events.specs.declared.facts.Opening.{Opening}
 use Rattle.office_events.specs.declared.facts.Fact.{Fact}
-use Rattle.office_rules.specs.Facts.{devices_in, registers_in, openings_in, opening_of, holds_in, voids_in, polls_in, ended_in, replies_in, list_of}
-use Rattle.office_rules.specs.Meters.{journal_of, rows_of}
+use Rattle.office_books.specs.Facts.{devices_in, registers_in, openings_in, opening_of, holds_in, voids_in, polls_in, ended_in, replies_in, list_of}
+use Rattle.office_books.specs.Meters.{journal_of, rows_of}
 use Rattle.office_books.specs.Same.{AreSame}
 use Rattle.store_tables.specs.Content.{Content}
-use Rattle.store_devices.specs.Devices.Trees as list_tree
-use Rattle.store_devices.specs.Devices.Rows.{device_columns, point_columns, register_columns, device_place, register_place, is_point_of}
+use Rattle.store_tables.specs.Devices.Trees as list_tree
+use Rattle.store_tables.specs.Devices.Rows.{device_columns, point_columns, register_columns, device_place, register_place, is_point_of}
 use Rattle.store_tables.specs.Meters.Trees as meter_tree
 use Rattle.store_tables.specs.Meters.Rows.{installed_columns, installed_place, ranged_columns}
 use Rattle.store_tables.specs.Entries.Trees as entry_tree
 use Rattle.store_tables.specs.Entries.Rows.{entry_columns, entry_place, voided_columns, is_of}
-use Rattle.store_devices.specs.Polls.Trees as poll_tree
-use Rattle.store_devices.specs.Polls.Rows.{poll_columns, outcome_columns, hold_columns, hold_place, reply_columns}
-use Rattle.store_facts.specs.Rows.{placed, added, registered, installed_row, ranged, entered, opening_row, entered_rows, entries_at, entries_of, voided, started, outcome_row, held_row, kept}
-use Rattle.store_facts.specs.Tables.{meta_tree, meta_columns, AreOf}
+use Rattle.store_tables.specs.Polls.Trees as poll_tree
+use Rattle.store_tables.specs.Polls.Rows.{poll_columns, outcome_columns, hold_columns, hold_place, reply_columns}
+use Rattle.office_store.specs.Rows.{placed, added, registered, installed_row, ranged, entered, opening_row, entered_rows, entries_at, entries_of, voided, started, outcome_row, held_row, kept}
+use Rattle.office_store.specs.Tables.{meta_tree, meta_columns, AreOf}
 use Rattle.office_store.specs.Laws.Laws.{TablesTellTheirFacts}
 use Rattle.office_store.proofs.LawsLemmas.Lists.{Among, all_among, among_contained, among_permuted, among_map, same_in_order, IsInjective, permuted_back, one_table, same_by_parts, of_passing}
 use Rattle.office_store.proofs.LawsLemmas.Columns as columns

@@ -11,7 +11,7 @@ use Rattle.sqlite.specs.Held.{Held, AreDatabases}
 use Rattle.sqlite.specs.Files.{over_files}
 use Rattle.sqlite.proofs.Theorems.{opens_again}
 use Rattle.office_events.specs.declared.facts.Fact.{Fact}
-use Rattle.store_facts.specs.Holding.{IsLeft, LeavesFacts}
+use Rattle.office_store.specs.Holding.{IsLeft, LeavesFacts}
 use Rattle.office_store.specs.Laws.Laws.{LeftFactsAreFound}
 use Rattle.office_store.specs.Stops.Stops.{HasOneOf, LeaveInFiles, StopsLeaveFacts, OpenedFilesAreFound}
 

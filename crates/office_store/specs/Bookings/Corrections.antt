@@ -13,7 +13,7 @@ use Rattle.store_tables.specs.Meters.Rows.{IsSoundLast, greatest_total}
 use Rattle.store_tables.specs.declared.meters.rows.LastRow.{LastRow}
 use Rattle.store_tables.specs.declared.entries.rows.EntryRow.{EntryRow}
 use Rattle.store_tables.specs.declared.entries.rows.EntryKind.TheVariants as kind
-use Rattle.store_facts.specs.Rows.{counter_after, rolls_of}
+use Rattle.office_store.specs.Rows.{counter_after, rolls_of}
 use Rattle.office_store.specs.declared.bookings.corrections.Correction.{Correction}
 use Rattle.office_store.specs.declared.bookings.corrections.Rejoined.{Rejoined}
 use Rattle.office_store.specs.declared.bookings.surroundings.Surroundings.{Surroundings}

@@ -13,9 +13,9 @@ use Rattle.store_tables.specs.Meters.Rows.{Installed, Ranged, installed_columns,
 use Rattle.store_tables.specs.Entries.Trees as entry_tree
 use Rattle.store_tables.specs.declared.entries.rows.EntryRow.{EntryRow}
 use Rattle.store_tables.specs.Entries.Rows.{entry_columns, entry_place, is_of}
-use Rattle.store_facts.specs.Intervals.StepShares.{BooksShares}
-use Rattle.store_facts.specs.Rows.{entered}
-use Rattle.store_facts.specs.Recording.{IsAfter}
+use Rattle.office_store.specs.Intervals.StepShares.{BooksShares}
+use Rattle.office_store.specs.Rows.{entered}
+use Rattle.office_store.specs.Recording.{IsAfter}
 use Rattle.office_store.specs.declared.bookings.meter_state.Standing.{Standing}
 use Rattle.office_store.specs.declared.bookings.meter_entries.Advance.{Advance}
 use Rattle.office_store.specs.Bookings.Places.{StandsThere}

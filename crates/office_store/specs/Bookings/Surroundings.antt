@@ -6,7 +6,7 @@ use Rattle.store_tables.specs.Content.{Content, HasRows}
 use Rattle.store_tables.specs.Entries.Rows.{Entered, Voided, entry_columns, voided_columns, is_entry, IsRow}
 use Rattle.store_tables.specs.Entries.Trees.{entries, voids}
 use Rattle.store_tables.specs.declared.entries.rows.EntryRow.{EntryRow}
-use Rattle.store_facts.specs.Voids.Places.{IsBefore, IsAfter}
+use Rattle.office_store.specs.Voids.Places.{IsBefore, IsAfter}
 use Rattle.office_store.specs.declared.bookings.surroundings.Neighbours.{Neighbours}
 use Rattle.office_store.specs.declared.bookings.surroundings.Surroundings.{Surroundings}
 use Rattle.office_store.specs.Bookings.MeterState.{IsStanding}

@@ -5,8 +5,8 @@ use Rattle.interval_core.specs.Share.{shares_of}
 use Rattle.store_tables.specs.Content.{Content, Edits, with_row, changed_where}
 use Rattle.store_tables.specs.Entries.Trees.{entries, voids}
 use Rattle.store_tables.specs.Entries.Rows.{Entered, entry_columns, is_entry, rolled, voided_at, voided_columns}
-use Rattle.store_facts.specs.Intervals.StepShares.{BooksShares}
-use Rattle.store_facts.specs.Voids.Withdrawal.{TakesShares, DropsRows}
+use Rattle.office_store.specs.Intervals.StepShares.{BooksShares}
+use Rattle.office_store.specs.Voids.Withdrawal.{TakesShares, DropsRows}
 use Rattle.office_store.specs.declared.bookings.corrections.Correction.{Correction}
 use Rattle.office_store.specs.declared.bookings.corrections.Rejoined.{Rejoined}
 use Rattle.office_store.specs.Bookings.MeterState.{Settles}

@@ -3,16 +3,16 @@ use Rattle.std.specs.Prelude.{◌≡◌, ◌≢◌, ◌↔◌, ◌^◌, ⊤, ℕ
 use Rattle.sqlite.specs.Effect.{Database, IsDatabase}
 use Rattle.office_events.specs.declared.facts.Opening.{Opening}
 use Rattle.office_events.specs.declared.facts.Fact.{Fact}
-use Rattle.office_rules.specs.Facts.{openings_in, voids_in}
+use Rattle.office_books.specs.Facts.{openings_in, voids_in}
 use Rattle.store_tables.specs.Content.{Content, HasTree}
-use Rattle.store_files.specs.declared.layouts.Layout.{Layout}
-use Rattle.store_files.specs.declared.layouts.Layout.TheVariants.{First, Second, Third}
-use Rattle.store_files.specs.Layouts.{schema_of}
-use Rattle.store_files.specs.Meta.{meta}
-use Rattle.store_files.specs.NewFile.{IsNew}
-use Rattle.store_files.specs.Upgrade.{IsFile, IsBrought}
-use Rattle.store_facts.specs.Tables.{AreOf}
-use Rattle.store_facts.specs.Holding.{HasFacts}
+use Rattle.store_tables.specs.declared.layouts.Layout.{Layout}
+use Rattle.store_tables.specs.declared.layouts.Layout.TheVariants.{First, Second, Third}
+use Rattle.store_tables.specs.Layouts.{schema_of}
+use Rattle.store_tables.specs.Meta.{meta}
+use Rattle.store_tables.specs.NewFile.{IsNew}
+use Rattle.store_tables.specs.Upgrade.{IsFile, IsBrought}
+use Rattle.office_store.specs.Tables.{AreOf}
+use Rattle.office_store.specs.Holding.{HasFacts}
 
 -- Theorem: if a file was just created, its tables encode no records.
 abbrev pub NewFilesHaveNone : Type 0

@@ -6,8 +6,8 @@ use Rattle.sqlite.specs.Effect.{Database, IsDatabase}
 use Rattle.office_events.specs.declared.facts.Fact.{Fact}
 use Rattle.office_books.specs.Same.{AreSame}
 use Rattle.store_tables.specs.Content.{Content}
-use Rattle.store_facts.specs.Tables.{AreOf}
-use Rattle.store_facts.specs.Holding.{HasFacts, IsLeft}
+use Rattle.office_store.specs.Tables.{AreOf}
+use Rattle.office_store.specs.Holding.{HasFacts, IsLeft}
 
 -- Theorem: if two lists of records have the same tables, they are equal up to order, and have the
 -- same time zone.

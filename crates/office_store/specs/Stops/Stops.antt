@@ -10,7 +10,7 @@ use Rattle.sqlite.specs.Files.{HoldsDatabase, IsOpened, file_state}
 use Rattle.sqlite.specs.Held.{Held}
 use Rattle.sqlite.specs.Start.{FindsIn}
 use Rattle.office_events.specs.declared.facts.Fact.{Fact}
-use Rattle.store_facts.specs.Holding.{HasFacts, IsLeft, IsOneOf}
+use Rattle.office_store.specs.Holding.{HasFacts, IsLeft, IsOneOf}
 
 -- True if a database encodes the records of one of the lists in `left`.
 pub record HasOneOf (zone : List ℕ) (left : List (List Fact)) (db : Database) : Type 0 where

@@ -2,9 +2,9 @@
 ghost use Rattle.std.specs.Prelude.{◌≡◌, ℕ, List, false};
 ghost use Rattle.sqlite.specs.Held.{state};
 ghost use Rattle.store_tables.specs.Steps.{IsSameBorrow};
-ghost use Rattle.store_facts.specs.Going.{Goes, Commits};
-ghost use Rattle.store_facts.specs.Holding.{BooksFacts};
-ghost use Rattle.store_facts.specs.Recording.{Records, RecordsAll};
+ghost use Rattle.office_store.specs.Going.{Goes, Commits};
+ghost use Rattle.office_store.specs.Holding.{BooksFacts};
+ghost use Rattle.office_store.specs.Recording.{Records, RecordsAll};
 
 use crate::bookings::devices::enter_device;
 use crate::bookings::lists::enter_list;

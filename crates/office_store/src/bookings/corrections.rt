@@ -5,7 +5,7 @@ ghost use Rattle.energy_core.specs.Account.{step_to};
 ghost use Rattle.meter_journal.specs.Journal.{with_rolls};
 ghost use Rattle.store_tables.specs.Limits.{latest_moment};
 ghost use Rattle.store_tables.specs.Meters.Rows.{IsSoundLast, greatest_total};
-ghost use Rattle.store_facts.specs.Rows.{rolls_of};
+ghost use Rattle.office_store.specs.Rows.{rolls_of};
 ghost use Rattle.office_store.specs.Bookings.Corrections.{IsReadingOf, CanBeShared};
 ghost use Rattle.office_store.specs.Bookings.Corrections.{CanBeRejoined, CanBeBooked, Rejoins};
 ghost use Rattle.office_store.specs.Bookings.Corrections.{RejoinsNext, energy_out, energy_put};
@@ -14,7 +14,7 @@ ghost use Rattle.office_store.specs.Bookings.Corrections.{StandsAt, gone_from, C
 use crate::bookings::meter_entries::is_sound;
 use crate::bookings::surroundings::Surroundings;
 use energy_core::{Entry, Last, MAX_TOTAL, Ranged, Step, Terms};
-use store_facts::{counter_after, is_scale, last_row};
+use crate::{counter_after, is_scale, last_row};
 use store_tables::{EntryKind, EntryRow, GREATEST_PLACE, LATEST_MOMENT, LastRow, RowFault};
 
 /// The number of rollovers of a counter between the meter entry at index `place` and the entry

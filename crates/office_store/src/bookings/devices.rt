@@ -2,15 +2,14 @@
 ghost use Rattle.sqlite.specs.Held.{state};
 ghost use Rattle.store_tables.specs.Steps.{IsSameBorrow};
 ghost use Rattle.office_events.specs.declared.facts.Fact.TheVariants as fact;
-ghost use Rattle.store_facts.specs.Going.{Goes};
-ghost use Rattle.store_facts.specs.Recording.{Records};
+ghost use Rattle.office_store.specs.Going.{Goes};
+ghost use Rattle.office_store.specs.Recording.{Records};
 
 use crate::bookings::places::next_device;
 use office_events::Device;
 use sqlite::{Alter, Transaction};
-use store_devices::insert_device;
-use store_facts::{device_row, text};
-use store_tables::RowFault;
+use store_tables::{RowFault, insert_device};
+use crate::{device_row, text};
 
 /// Writes a device with the index after the last device.
 pub fn enter_device<S: Alter>(tx: &mut Transaction<'_, S>, device: &Device) -> Result<(), RowFault>

@@ -2,15 +2,14 @@
 ghost use Rattle.sqlite.specs.Held.{state};
 ghost use Rattle.store_tables.specs.Steps.{IsSameBorrow};
 ghost use Rattle.office_events.specs.declared.facts.Fact.TheVariants as fact;
-ghost use Rattle.store_facts.specs.Going.{Goes};
-ghost use Rattle.store_facts.specs.Recording.{Records};
+ghost use Rattle.office_store.specs.Going.{Goes};
+ghost use Rattle.office_store.specs.Recording.{Records};
 
 use office_events::DeviceList;
 use sqlite::{Alter, Transaction};
 use std::alloc::Global;
-use store_devices::replace_points;
-use store_facts::{points_at, text};
-use store_tables::RowFault;
+use store_tables::{RowFault, replace_points};
+use crate::{points_at, text};
 
 /// Replaces the point list of a device.
 pub fn enter_list<S: Alter>(

@@ -8,19 +8,19 @@ ghost use Rattle.store_tables.specs.Limits.{latest_moment};
 ghost use Rattle.store_tables.specs.Meters.Rows.{IsSoundLast, greatest_total};
 ghost use Rattle.store_tables.specs.Entries.Rows.{IsSoundEntry};
 ghost use Rattle.store_tables.specs.Steps.{IsSameBorrow};
-ghost use Rattle.store_facts.specs.Going.{Goes};
-ghost use Rattle.store_facts.specs.Recording.{Records};
+ghost use Rattle.office_store.specs.Going.{Goes};
+ghost use Rattle.office_store.specs.Recording.{Records};
 ghost use Rattle.office_store.specs.Bookings.MeterState.{Advances, EntersEntry, Settles};
 
 use crate::bookings::meter_state::{Standing, standing_of};
 use energy_core::{Entry, Last, MAX_INTERVALS, Ranged, Step, Terms};
 use office_events::BookedEntry;
-use office_rules::{
+use office_books::{
     entries_move_on, installations_are_in_range, meters_are_kept, other_meters_stay,
     voids_leave_no_trace,
 };
 use sqlite::{Alter, Transaction};
-use store_facts::{book_step, entry_row, is_scale, last_row, text};
+use crate::{book_step, entry_row, is_scale, last_row, text};
 use store_tables::{
     EntryRow, LATEST_MOMENT, LastRow, RowFault, close_installation, insert_entry, update_last,
 };

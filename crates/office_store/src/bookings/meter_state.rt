@@ -6,7 +6,7 @@ ghost use Rattle.store_tables.specs.Meters.Rows.{is_range_of, HasRange, IsRange,
 ghost use Rattle.store_tables.specs.Meters.Trees as meter_tree;
 ghost use Rattle.store_tables.specs.Limits.{IsPlace};
 ghost use Rattle.store_tables.specs.Steps.{IsSameBorrow};
-ghost use Rattle.store_facts.specs.Going.{Goes};
+ghost use Rattle.office_store.specs.Going.{Goes};
 ghost use Rattle.office_store.specs.Bookings.Places.{Answered, IsSeenIn, StandsThere};
 ghost use Rattle.office_store.specs.Bookings.MeterState.{IsStanding};
 

@@ -2,14 +2,14 @@
 ghost use Rattle.sqlite.specs.Held.{state};
 ghost use Rattle.store_tables.specs.Steps.{IsSameBorrow};
 ghost use Rattle.office_events.specs.declared.facts.Fact.TheVariants as fact;
-ghost use Rattle.store_facts.specs.Going.{Goes};
-ghost use Rattle.store_facts.specs.Recording.{Records};
+ghost use Rattle.office_store.specs.Going.{Goes};
+ghost use Rattle.office_store.specs.Recording.{Records};
 
 use crate::bookings::places::next_installation;
 use office_events::Opening;
-use office_rules::openings_begin;
+use office_books::openings_begin;
 use sqlite::{Alter, Transaction};
-use store_facts::{begun_row, is_sound_opening, opening_row, text};
+use crate::{begun_row, is_sound_opening, opening_row, text};
 use store_tables::{RowFault, insert_entry, insert_installation, insert_range};
 
 /// Writes a new meter with its opening, the first entry. Inserts its installation with the index

@@ -5,21 +5,23 @@ ghost use Rattle.store_tables.specs.Answer.{every};
 ghost use Rattle.store_tables.specs.Limits.{IsPlace};
 ghost use Rattle.store_tables.specs.Entries.Rows.{entry_columns, entry_place, is_of};
 ghost use Rattle.store_tables.specs.Entries.Trees as entry_tree;
-ghost use Rattle.store_devices.specs.Devices.Rows.{device_columns, device_place, register_columns};
-ghost use Rattle.store_devices.specs.Devices.Rows.{register_place};
-ghost use Rattle.store_devices.specs.Devices.Trees as list_tree;
+ghost use Rattle.store_tables.specs.Devices.Rows.{device_columns, device_place, register_columns};
+ghost use Rattle.store_tables.specs.Devices.Rows.{register_place};
+ghost use Rattle.store_tables.specs.Devices.Trees as list_tree;
 ghost use Rattle.store_tables.specs.Meters.Rows.{installed_columns, installed_place};
 ghost use Rattle.store_tables.specs.Meters.Trees as meter_tree;
 ghost use Rattle.store_tables.specs.Steps.{IsSameBorrow};
-ghost use Rattle.store_devices.specs.Polls.Rows.{hold_columns, hold_place};
-ghost use Rattle.store_devices.specs.Polls.Trees as poll_tree;
-ghost use Rattle.store_facts.specs.Going.{Goes};
-ghost use Rattle.store_facts.specs.Recording.{IsNext};
+ghost use Rattle.store_tables.specs.Polls.Rows.{hold_columns, hold_place};
+ghost use Rattle.store_tables.specs.Polls.Trees as poll_tree;
+ghost use Rattle.office_store.specs.Going.{Goes};
+ghost use Rattle.office_store.specs.Recording.{IsNext};
 ghost use Rattle.office_store.specs.Bookings.Places.{following_place, next_in, Answered};
 
 use sqlite::{Alter, Row, Transaction};
-use store_devices::{last_device_rows, last_hold_rows, last_register_rows};
-use store_tables::{GREATEST_PLACE, RowFault, last_entry_rows, last_installation_rows, whole};
+use store_tables::{
+    GREATEST_PLACE, RowFault, last_device_rows, last_entry_rows, last_hold_rows,
+    last_installation_rows, last_register_rows, whole,
+};
 
 /// Returns the index that follows the index in a row. Reports an index past the greatest index as
 /// damage.

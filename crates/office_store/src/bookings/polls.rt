@@ -2,16 +2,18 @@
 ghost use Rattle.sqlite.specs.Held.{state};
 ghost use Rattle.store_tables.specs.Steps.{IsSameBorrow};
 ghost use Rattle.office_events.specs.declared.facts.Fact.TheVariants as fact;
-ghost use Rattle.store_facts.specs.Going.{Goes};
-ghost use Rattle.store_facts.specs.Recording.{Records};
+ghost use Rattle.office_store.specs.Going.{Goes};
+ghost use Rattle.office_store.specs.Recording.{Records};
 
 use crate::bookings::places::next_hold;
 use office_events::{EndedPoll, HeldReading, MAX_REQUEST, Poll, Reply};
-use office_rules::holds_change_nothing;
+use office_books::holds_change_nothing;
 use sqlite::{Alter, Transaction};
-use store_devices::{insert_kept_request, insert_outcome, insert_poll, insert_rejected};
-use store_facts::{hold_row, outcome_row, poll_row, text};
-use store_tables::{GREATEST_PLACE, LATEST_MOMENT, RowFault};
+use store_tables::{
+    GREATEST_PLACE, LATEST_MOMENT, RowFault, insert_kept_request, insert_outcome, insert_poll,
+    insert_rejected,
+};
+use crate::{hold_row, outcome_row, poll_row, text};
 
 /// Writes a poll that was started.
 pub fn enter_poll<S: Alter>(tx: &mut Transaction<'_, S>, poll: &Poll) -> Result<(), RowFault>

@@ -3,17 +3,16 @@ ghost use Rattle.std.specs.Prelude.{◌≡◌, true};
 ghost use Rattle.sqlite.specs.Held.{state};
 ghost use Rattle.office_events.specs.declared.facts.Fact.TheVariants as fact;
 ghost use Rattle.store_tables.specs.Steps.{IsSameBorrow};
-ghost use Rattle.store_devices.specs.Devices.Rows.{IsSoundScale, fits_a_read};
-ghost use Rattle.store_facts.specs.Going.{Goes};
-ghost use Rattle.store_facts.specs.Recording.{Records};
-ghost use Rattle.store_facts.specs.Rows.{scale_as};
+ghost use Rattle.store_tables.specs.Devices.Rows.{IsSoundScale, fits_a_read};
+ghost use Rattle.office_store.specs.Going.{Goes};
+ghost use Rattle.office_store.specs.Recording.{Records};
+ghost use Rattle.office_store.specs.Rows.{scale_as};
 
 use crate::bookings::places::next_register;
 use office_events::{LAST_COUNTER, Register, ScaleSource};
 use sqlite::{Alter, Transaction};
-use store_devices::insert_register;
-use store_facts::{is_scale, register_row, text};
-use store_tables::RowFault;
+use store_tables::{RowFault, insert_register};
+use crate::{is_scale, register_row, text};
 
 /// Returns true if the table `registers` allows the scale of an accounting register.
 fn is_sound_scale(source: ScaleSource) -> bool
@@ -31,7 +30,7 @@ fn is_narrow(register: &Register) -> bool
     ensures { result ≡ fits_a_read register.now.address (scale_as register.now.scale) }
 {
     let row = register_row(*register, 1);
-    store_devices::fits_a_read(row.address, row.scale)
+    store_tables::fits_a_read(row.address, row.scale)
 }
 
 /// Writes an accounting register with the index after the last register.

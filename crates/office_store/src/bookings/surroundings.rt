@@ -4,14 +4,14 @@ ghost use Rattle.sqlite.specs.Held.{state};
 ghost use Rattle.store_tables.specs.Limits.{greatest_place};
 ghost use Rattle.store_tables.specs.Meters.Rows.{greatest_total};
 ghost use Rattle.store_tables.specs.Steps.{IsSameBorrow};
-ghost use Rattle.store_facts.specs.Going.{Goes};
+ghost use Rattle.office_store.specs.Going.{Goes};
 ghost use Rattle.office_store.specs.Bookings.Places.{Answered};
 ghost use Rattle.office_store.specs.Bookings.Surroundings.{FindsEntry, FindsBefore, FindsAfter};
 ghost use Rattle.office_store.specs.Bookings.Surroundings.{AreNear, OpenedAt, IsAround};
 
 use crate::bookings::meter_state::{Standing, standing_of};
 use sqlite::{Alter, Transaction};
-use store_facts::{entry_at, place_after, place_before};
+use crate::{entry_at, place_after, place_before};
 use store_tables::{EntryRow, RowFault};
 
 /// An entry of a meter and the nearest entries that are not voided. `before` may be the opening.

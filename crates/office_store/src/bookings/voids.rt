@@ -5,8 +5,8 @@ ghost use Rattle.sqlite.specs.Held.{state};
 ghost use Rattle.office_events.specs.declared.facts.Fact.TheVariants as fact;
 ghost use Rattle.store_tables.specs.Limits.{IsPlace, latest_moment};
 ghost use Rattle.store_tables.specs.Steps.{IsSameBorrow};
-ghost use Rattle.store_facts.specs.Going.{Goes};
-ghost use Rattle.store_facts.specs.Recording.{Records};
+ghost use Rattle.office_store.specs.Going.{Goes};
+ghost use Rattle.office_store.specs.Recording.{Records};
 ghost use Rattle.office_store.specs.Bookings.Corrections.{CanBeRejoined, CanBeBooked, CanBeShared};
 ghost use Rattle.office_store.specs.Bookings.Voids.{RollsNext, TakesNext, PutsNext, ExchangesRows};
 ghost use Rattle.office_store.specs.Bookings.Voids.{MarksVoid, TakesSteps, EntersVoid};
@@ -18,9 +18,9 @@ use energy_core::Step;
 use interval_core::shares_add_up;
 use meter_journal::{rows_are_kept, rows_lie_within, voids_change_two_rows};
 use office_events::VoidedEntry;
-use office_rules::{installations_are_in_range, journals_fit, meters_are_kept, other_meters_stay};
+use office_books::{installations_are_in_range, journals_fit, meters_are_kept, other_meters_stay};
 use sqlite::{Alter, Transaction};
-use store_facts::{book_step, drop_rows_from, take_step, text};
+use crate::{book_step, drop_rows_from, take_step, text};
 use store_tables::{GREATEST_PLACE, LATEST_MOMENT, RowFault, insert_void, set_rollovers};
 
 /// Sets the rollovers of the next meter entry to the new rollovers in `next`. If there is no next

@@ -4,7 +4,7 @@ ghost use Rattle.sqlite.specs.Files.{over_files};
 ghost use Rattle.sqlite_store.specs.FileStore.{view};
 ghost use Rattle.sqlite_trees.specs.View.{IsClean};
 ghost use Rattle.office_events.specs.declared.facts.Fact.{Fact};
-ghost use Rattle.store_facts.specs.Holding.{LeavesFacts};
+ghost use Rattle.office_store.specs.Holding.{LeavesFacts};
 ghost use Rattle.office_store.specs.Stops.Stops.{LeaveInFiles};
 
 use crate::stops::laws::stops_leave_facts;

@@ -16,11 +16,11 @@ use Rattle.meter_journal.proofs.Keeping.{journals_are_kept}
 use Rattle.meter_journal.proofs.Merging.{Rising, has_rows}
 use Rattle.office_events.specs.declared.facts.Opening.{Opening}
 use Rattle.office_events.specs.declared.facts.Fact.{Fact}
-use Rattle.office_rules.specs.Facts.{opening_of}
-use Rattle.office_rules.specs.Intervals.{rows_of_installed, rows_of_meter, rows_of_opening}
-use Rattle.office_rules.specs.Lawful.{AreLawful}
-use Rattle.office_rules.specs.Meters.{installation_of, installed, journal_of, opened}
-use Rattle.office_rules.proofs.Journals.{installed_fits, well}
+use Rattle.office_books.specs.Facts.{opening_of}
+use Rattle.office_books.specs.Intervals.{rows_of_installed, rows_of_meter, rows_of_opening}
+use Rattle.office_books.specs.Lawful.{AreLawful}
+use Rattle.office_books.specs.Meters.{installation_of, installed, journal_of, opened}
+use Rattle.office_books.proofs.Journals.{installed_fits, well}
 use Rattle.office_books.specs.Spans.{rows_within}
 use Rattle.office_books.specs.declared.spans.Span.TheVariants.{Between}
 use Rattle.office_core.specs.Asking.{rows_in}

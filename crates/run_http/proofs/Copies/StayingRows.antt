@@ -25,13 +25,13 @@ use Rattle.meter_journal.proofs.Merging.{has_rows}
 use Rattle.office_events.specs.declared.facts.Opening.{Opening}
 use Rattle.office_events.specs.declared.facts.Fact.{Fact}
 use Rattle.office_events.specs.declared.facts.Fact.TheVariants as fact
-use Rattle.office_rules.specs.Facts.{same, moment_limit, openings_in, opening_of, latest_in}
-use Rattle.office_rules.specs.Intervals.{rows_of_installed, rows_of_meter}
-use Rattle.office_rules.specs.Lawful.{AreLawful}
-use Rattle.office_rules.specs.Meters.{held_line, line_of, opened, installed, journal_of}
-use Rattle.office_rules.proofs.InTurn.{last_is_recorded}
-use Rattle.office_rules.proofs.Journals.{by_name, none_and_some, installed_fits, well}
-use Rattle.office_rules.proofs.Lookups.{same_text, find_passes}
+use Rattle.office_books.specs.Facts.{same, moment_limit, openings_in, opening_of, latest_in}
+use Rattle.office_books.specs.Intervals.{rows_of_installed, rows_of_meter}
+use Rattle.office_books.specs.Lawful.{AreLawful}
+use Rattle.office_books.specs.Meters.{held_line, line_of, opened, installed, journal_of}
+use Rattle.office_books.proofs.InTurn.{last_is_recorded}
+use Rattle.office_books.proofs.Journals.{by_name, none_and_some, installed_fits, well}
+use Rattle.office_books.proofs.Lookups.{same_text, find_passes}
 use Rattle.office_books.specs.Spans.{rows_within}
 use Rattle.office_books.specs.declared.spans.Span.TheVariants.{Between}
 use Rattle.run_http.specs.Copies.{rows_before, entries_before, next_place, quarter_of, changes_of, changes_from, VoidsFrom, StaysBefore, RowsBeforeStay, EntriesComeAfter}

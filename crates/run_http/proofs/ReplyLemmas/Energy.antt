@@ -16,7 +16,7 @@ use Rattle.office_core.specs.Standing.{books_in}
 use Rattle.office_core.specs.Taking.{failures_of}
 use Rattle.office_core.specs.declared.office.Office.{Office}
 use Rattle.office_events.specs.declared.refusals.Refusal.{Refusal}
-use Rattle.office_rules.specs.History.{History, facts_of}
+use Rattle.office_books.specs.History.{History, facts_of}
 use Rattle.run_http.specs.RegisterReplies.{AsksEnergy, IsReport, PutsLast, RepliesEnergy, ReportsDaysReport, with_energy_reply}
 
 -- If a report receives some days and then more days, then it has received all these days in order.

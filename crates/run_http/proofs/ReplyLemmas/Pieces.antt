@@ -6,7 +6,7 @@ use Rattle.std.specs.declared.alloc.Global.{Global}
 use Rattle.std.specs.declared.vec.Vec.{Vec}
 use Rattle.std.proofs.lemmas.Bool.{cases_lt}
 use Rattle.std.proofs.lemmas.List.Concat.{flat_map-append}
-use Rattle.http_answer.specs.Sending.Replies.{text_head}
+use Rattle.http_messages.specs.Sending.Replies.{text_head}
 use Rattle.interval_core.specs.Account.{SharesAddUp}
 use Rattle.interval_core.specs.Lines.{end_line, intervals_text, share_line}
 use Rattle.interval_core.specs.declared.shares.Share.{Share}
@@ -25,12 +25,12 @@ use Rattle.office_events.specs.declared.facts.Fact.{Fact}
 use Rattle.office_events.specs.declared.facts.Opening.{Opening}
 use Rattle.office_events.specs.declared.questions.Installation.{Installation}
 use Rattle.office_events.specs.declared.refusals.Refusal.{Refusal}
-use Rattle.office_rules.specs.Facts.{opening_of}
-use Rattle.office_rules.specs.History.{History, facts_of}
-use Rattle.office_rules.specs.Intervals.{rows_of_opening}
-use Rattle.office_rules.specs.Lawful.{AreLawful}
-use Rattle.office_rules.specs.Lawfulness.{FactsAreLawful}
-use Rattle.office_rules.specs.Meters.{installation_of, meter_of}
+use Rattle.office_books.specs.Facts.{opening_of}
+use Rattle.office_books.specs.History.{History, facts_of}
+use Rattle.office_books.specs.Intervals.{rows_of_opening}
+use Rattle.office_books.specs.Lawful.{AreLawful}
+use Rattle.office_books.specs.Lawfulness.{FactsAreLawful}
+use Rattle.office_books.specs.Meters.{installation_of, meter_of}
 use Rattle.run_http.specs.Copies.{quarter_of}
 use Rattle.run_http.specs.MeterReplies.{AsksRows}
 use Rattle.run_http.specs.Pieces.{ArePieces, AreSizes, BeginsReply, IsBegun, IsSettled, Piece, PiecesAreWhole, SizesRow, SizesRows, MovesOn, ReportsOn, ReportsRest, TextStays, body_size, last_quarter, left_after, rows_between, rows_left, text_after, text_left, with_all_rows, with_head, with_rows}

@@ -6,7 +6,7 @@ use Rattle.interval_core.specs.declared.shares.Share.{Share}
 use Rattle.office_events.specs.declared.facts.Fact.{Fact}
 use Rattle.office_events.specs.declared.refusals.Refusal.{Refusal}
 use Rattle.office_events.specs.declared.refusals.Refusal.TheVariants as refusal
-use Rattle.office_rules.specs.History.{facts_of}
+use Rattle.office_books.specs.History.{facts_of}
 use Rattle.office_books.specs.Ledgers.{Ledger}
 use Rattle.office_books.specs.Rows.{TakesAll}
 use Rattle.office_books.specs.declared.failures.Failures.{Failures}

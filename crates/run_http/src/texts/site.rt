@@ -1,6 +1,6 @@
 //! Formats the accounting registers and their meters as the JSON of `/site`.
 ghost use Rattle.std.specs.Prelude.{◌≡◌, ◌++◌, OnOk};
-ghost use Rattle.http_answer.specs.Rows.{bool_text};
+ghost use Rattle.http_messages.specs.Rows.{bool_text};
 ghost use Rattle.run_http.specs.Texts.SiteText as json;
 
 use office_core::SiteRow;

@@ -10,9 +10,9 @@ use Rattle.office_events.specs.declared.facts.Device.{Device}
 use Rattle.office_events.specs.declared.facts.Fact.{Fact}
 use Rattle.office_events.specs.declared.facts.Register.{Register}
 use Rattle.office_events.specs.declared.questions.Installation.{Installation}
-use Rattle.office_rules.specs.Facts.{devices_in, list_of, registers_of, same}
-use Rattle.office_rules.specs.Meters.{if_open, open_at}
-use Rattle.office_rules.specs.Readings.{is_read_by}
+use Rattle.office_books.specs.Facts.{devices_in, list_of, registers_of, same}
+use Rattle.office_books.specs.Meters.{if_open, open_at}
+use Rattle.office_books.specs.Readings.{is_read_by}
 use Rattle.office_books.specs.Ledgers.{KeepsFacts, Ledger}
 use Rattle.run_status.specs.declared.advice.lacks.Lack.{Lack}
 use Rattle.run_status.specs.declared.advice.lacks.Lack.TheVariants.{NoDevice, NoList, NoRegister, NotInList, NoMeter}

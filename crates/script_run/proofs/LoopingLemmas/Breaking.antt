@@ -8,7 +8,7 @@ use Rattle.memory_books.specs.Listed.{ledger_of}
 use Rattle.memory_books.specs.declared.list_books.ListBooks.{ListBooks}
 use Rattle.office_core.specs.Standing.{Stands}
 use Rattle.office_core.specs.declared.office.Office.{Office}
-use Rattle.office_rules.specs.History.{History}
+use Rattle.office_books.specs.History.{History}
 use Rattle.script_run.specs.Looping.Standings.{Begins, Carries, CarriesOut, LoopStage, LoopState, stage_on}
 use Rattle.script_run.specs.Looping.TextRun.{LineRuns}
 use Rattle.script_run.specs.Replaying.Stages.{Stage}

@@ -7,7 +7,7 @@ use Rattle.office_core.specs.Standing.{Stands}
 use Rattle.office_core.specs.declared.office.Office.{Office}
 use Rattle.memory_books.specs.Listed.{ledger_of}
 use Rattle.memory_books.specs.declared.list_books.ListBooks.{ListBooks}
-use Rattle.office_rules.specs.History.{History}
+use Rattle.office_books.specs.History.{History}
 use Rattle.mb_device.specs.Maps.{Maps}
 use Rattle.office_events.specs.declared.events.Event.{Event}
 use Rattle.office_events.specs.declared.commands.Command.{Command}
@@ -15,7 +15,7 @@ use Rattle.office_events.specs.declared.events.Event.TheVariants as event
 use Rattle.office_events.specs.declared.refusals.Refusal.{Refusal}
 use Rattle.poll_core.specs.declared.outcome.Closing.{Closing}
 use Rattle.office_events.specs.declared.events.Asked.{Asked}
-use Rattle.script_lines.specs.declared.script.ScriptLine.{ScriptLine}
+use Rattle.script_text.specs.declared.script.ScriptLine.{ScriptLine}
 use Rattle.script_run.specs.Looping.Lines.{AlikePrints, CommandPrints, HappensPrints, PlainPrints, SaidPrints, round_of}
 use Rattle.script_run.specs.Replaying.Lines.{LinePrints}
 use Rattle.script_run.specs.Replaying.Events.{EventPrints}

@@ -14,8 +14,8 @@ use Rattle.office_events.specs.declared.events.Event.{Event}
 use Rattle.office_events.specs.declared.refusals.Refusal.{Refusal}
 use Rattle.memory_books.specs.Listed.{ledger_of}
 use Rattle.memory_books.specs.declared.list_books.ListBooks.{ListBooks}
-use Rattle.office_rules.specs.History.{History}
-use Rattle.office_rules.specs.Refusals.{IsAccepted, with_answer}
+use Rattle.office_books.specs.History.{History}
+use Rattle.office_books.specs.Refusals.{IsAccepted, with_answer}
 use Rattle.script_run.proofs.ReplayingLemmas.Replies.{right_or_fails, same_stage}
 use Rattle.script_run.specs.Replaying.Events.{EventPrints, IsReply, reply_text}
 use Rattle.script_run.specs.Replaying.TextRun.{stage_of}

@@ -9,7 +9,7 @@ use Rattle.command_io.specs.declared.status.ExitStatus.TheVariants.{Fine, Refuse
 use Rattle.interval_core.specs.declared.zone.Zone.{Zone}
 use Rattle.office_core.specs.Standing.{Stands}
 use Rattle.memory_books.specs.Listed.{ledger_of}
-use Rattle.office_rules.specs.History.{History}
+use Rattle.office_books.specs.History.{History}
 use Rattle.script_run.specs.Bank.Settings.{AreUnset}
 use Rattle.mb_device.specs.Maps.{Maps}
 use Rattle.office_core.specs.declared.office.Office.{Office}
@@ -19,7 +19,7 @@ use Rattle.memory_books.specs.declared.list_books.ListBooks.{ListBooks}
 use Rattle.script_run.specs.Replaying.TextRun.{stage_of}
 use Rattle.script_run.specs.Replaying.Stages.{Stage, beginning}
 use Rattle.script_text.specs.AnswerText.{bad_line, refused_line}
-use Rattle.script_lines.specs.LineWords.Words.{words_of}
+use Rattle.script_text.specs.LineWords.Words.{words_of}
 use Rattle.script_run.specs.Looping.Lines.{AreWrong, WordsPrint}
 use Rattle.script_run.specs.Looping.Loops.{InputBegins, InputPrints, LineBegins, LoopBegins, LoopPrints, TextPrints}
 use Rattle.script_run.specs.Looping.TextRun.{InputRuns, LinesRun, ReportsText, TextRuns}

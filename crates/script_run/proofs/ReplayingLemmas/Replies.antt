@@ -11,8 +11,8 @@ use Rattle.office_events.specs.declared.refusals.StoreCause.TheVariants as store
 use Rattle.office_books.specs.declared.failures.Failures.{Failures}
 use Rattle.memory_books.specs.Listed.{ledger_of}
 use Rattle.memory_books.specs.declared.list_books.ListBooks.{ListBooks}
-use Rattle.office_rules.specs.History.{History}
-use Rattle.office_rules.specs.Refusals.{IsAccepted, with_answer}
+use Rattle.office_books.specs.History.{History}
+use Rattle.office_books.specs.Refusals.{IsAccepted, with_answer}
 use Rattle.office_core.specs.Failing.{FailsOutside}
 use Rattle.office_core.specs.Standing.{Stands, is_stopped}
 use Rattle.office_core.specs.Taking.{Ends, IsAnswer, IsQuiet, SettlesNothing, failures_of}

@@ -8,7 +8,7 @@ use Rattle.std.specs.declared.io.Error.{Error}
 use Rattle.office_events.specs.declared.refusals.Refusal.{Refusal}
 use Rattle.memory_books.specs.Listed.{ledger_of}
 use Rattle.memory_books.specs.declared.list_books.ListBooks.{ListBooks}
-use Rattle.office_rules.specs.History.{History, facts_of}
+use Rattle.office_books.specs.History.{History, facts_of}
 use Rattle.office_core.specs.Asking.{HandsDays, HandsRows, IsFound, IsRowFound, OnlyAsks, rows_in}
 use Rattle.office_books.specs.Rows.{TakesAll}
 use Rattle.interval_core.specs.declared.totals.DayTotal.{DayTotal}

@@ -10,8 +10,8 @@ use Rattle.office_events.specs.declared.refusals.Refusal.{Refusal}
 use Rattle.office_events.specs.declared.refusals.Refusal.TheVariants as refusal
 use Rattle.memory_books.specs.Listed.{AreListed, ledger_of}
 use Rattle.memory_books.specs.declared.list_books.ListBooks.{ListBooks}
-use Rattle.office_rules.specs.History.{History, Opened, facts_of}
-use Rattle.office_rules.specs.Refusals.{opening_refusal_of}
+use Rattle.office_books.specs.History.{History, Opened, facts_of}
+use Rattle.office_books.specs.Refusals.{opening_refusal_of}
 use Rattle.office_core.specs.Failing.{IsNotStopped, IsOutside}
 use Rattle.office_core.specs.Leaving.{BooksStand, MayBeLeft}
 use Rattle.office_core.specs.Reopening.{IsNotOpened}
@@ -19,15 +19,15 @@ use Rattle.office_books.specs.Ledgers.{Ledger}
 use Rattle.std.specs.Prelude.{Result, Ok, Err, IfSome, length, ◌<◌, ◌≤◌}
 use Rattle.std.specs.declared.io.Error.{Error}
 use Rattle.std.proofs.KnownBytes.{Appends-nil, Appends-trans}
-use Rattle.script_lines.specs.Forms.{IsLine}
-use Rattle.script_lines.specs.declared.script.ScriptLine.{ScriptLine}
+use Rattle.script_text.specs.Forms.{IsLine}
+use Rattle.script_text.specs.declared.script.ScriptLine.{ScriptLine}
 use Rattle.command_io.specs.Input.{EndsUnread, ReportsTooLong, most_bytes, too_long}
 use Rattle.script_text.specs.AnswerText.{bad_line}
 use Rattle.sun_points.specs.Writing.{GotPart}
 use Rattle.script_run.proofs.ReplayingLemmas.Replies.{fails_in_memory}
 use Rattle.office_core.specs.Standing.{Stands}
 use Rattle.office_core.specs.declared.office.Office.{Office}
-use Rattle.script_lines.specs.LineWords.Words.{words_of}
+use Rattle.script_text.specs.LineWords.Words.{words_of}
 use Rattle.script_run.specs.Replaying.Lines.{BadPrints, LineBegins, LinePrints, WordsPrint}
 use Rattle.script_run.specs.Replaying.TextRun.{InputRuns, LineRan, LineRuns, MayCarryOut, TextRuns, stage_of}
 use Rattle.script_run.specs.Replaying.Scripts.{ReplayBegins, ReplayPrints, ScriptBegins, ScriptPrints, TextBegins, TextPrints}

@@ -3,13 +3,13 @@
 use Rattle.std.specs.Prelude.{◌≡◌, ◌⊎◌, ℕ, List, [], Option, Ok, Err, IfSome}
 use Rattle.std.specs.Io.KnownBytes.{Appends}
 use Rattle.std.specs.declared.result.Result.{Result}
-use Rattle.script_lines.specs.Bank.Forms.{IsBankLine}
-use Rattle.script_lines.specs.declared.bank.bank.BankLine.{BankLine}
+use Rattle.script_text.specs.Bank.Forms.{IsBankLine}
+use Rattle.script_text.specs.declared.bank.bank.BankLine.{BankLine}
 use Rattle.command_io.specs.Lines.{Line, speaking_lines}
 use Rattle.command_io.specs.declared.status.ExitStatus.{ExitStatus}
 use Rattle.command_io.specs.declared.status.ExitStatus.TheVariants.{Fine, Refused, Failed}
 use Rattle.script_text.specs.AnswerText.{bad_line}
-use Rattle.script_lines.specs.LineWords.Words.{words_of}
+use Rattle.script_text.specs.LineWords.Words.{words_of}
 use Rattle.script_run.specs.Bank.Settings.{Setting, after_line, IsUnset, takes}
 use Rattle.script_run.specs.Bank.Texts.{InputBegins, InputSetsUp, IsBad, LineBegins, SetUpBegins, SetsUp, taken_text}
 use Rattle.sun_points.specs.Writing.{GotPart}

@@ -6,10 +6,10 @@ use Rattle.mb_device.specs.Maps.{HasAllAddresses, Maps, kept, table_of, value_at
 use Rattle.mb_device.specs.declared.kinds.Area.{Area}
 use Rattle.mb_device.specs.declared.kinds.Kind.{Kind}
 use Rattle.mb_device.specs.declared.trick.Trick.{Trick}
-use Rattle.script_lines.specs.declared.bank.bank.BankLine.{BankLine}
-use Rattle.script_lines.specs.declared.bank.bank.BankLine.TheVariants as line
-use Rattle.script_lines.specs.declared.bank.bank.GivenArea.{GivenArea}
-use Rattle.script_lines.specs.declared.bank.bank.GivenCell.{GivenCell}
+use Rattle.script_text.specs.declared.bank.bank.BankLine.{BankLine}
+use Rattle.script_text.specs.declared.bank.bank.BankLine.TheVariants as line
+use Rattle.script_text.specs.declared.bank.bank.GivenArea.{GivenArea}
+use Rattle.script_text.specs.declared.bank.bank.GivenCell.{GivenCell}
 
 -- The configuration of a simulated device. It has a register map and a list of pairs, each of a
 -- frame's number and the fault to inject into the response to that frame.

@@ -1,15 +1,15 @@
 -- Defines the output of the lines that set up a simulated device, and the resulting configuration.
 use Rattle.std.specs.Prelude.{◌≡◌, ◌⊎◌, ◌<◌, ◌≤◌, ℕ, Bool, true, false, List, [], ◌∷◌, ◌++◌, length, Ok, Err}
 use Rattle.std.specs.declared.result.Result.{Result}
-use Rattle.script_lines.specs.Bank.Forms.{IsBankLine}
-use Rattle.script_lines.specs.declared.bank.bank.BankLine.{BankLine}
+use Rattle.script_text.specs.Bank.Forms.{IsBankLine}
+use Rattle.script_text.specs.declared.bank.bank.BankLine.{BankLine}
 use Rattle.command_io.specs.Input.{most_bytes, too_long}
 use Rattle.command_io.specs.Lines.{Line, speaking_lines}
 use Rattle.command_io.specs.declared.status.ExitStatus.{ExitStatus}
 use Rattle.command_io.specs.declared.status.ExitStatus.TheVariants.{Refused}
 use Rattle.office_events.specs.declared.refusals.Refusal.TheVariants.{Limit}
 use Rattle.script_text.specs.AnswerText.{bad_line, refused_line}
-use Rattle.script_lines.specs.LineWords.Words.{words_of}
+use Rattle.script_text.specs.LineWords.Words.{words_of}
 use Rattle.script_run.specs.Bank.Settings.{Setting, after_line, takes}
 use Rattle.script_run.specs.Replaying.Lines.{BeginsText}
 

@@ -5,8 +5,8 @@ use Rattle.office_events.specs.declared.answers.Answer.{Answer}
 use Rattle.office_events.specs.declared.events.Event.{Event}
 use Rattle.office_events.specs.declared.events.Event.TheVariants as event
 use Rattle.office_events.specs.declared.refusals.Refusal.{Refusal}
-use Rattle.office_rules.specs.History.{History}
-use Rattle.office_rules.specs.Notes.{notes_after}
+use Rattle.office_books.specs.History.{History}
+use Rattle.office_books.specs.Notes.{notes_after}
 use Rattle.script_run.specs.declared.looping.answers.Came.{Came}
 use Rattle.script_run.specs.declared.looping.answers.Came.TheVariants as came
 use Rattle.script_run.specs.declared.looping.wires.TheConstants.{MOST_TAKES}

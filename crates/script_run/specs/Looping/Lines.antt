@@ -1,9 +1,9 @@
 -- Defines the output of each line of a loop (a script over simulated devices), and the loop's state
 -- after the line.
 use Rattle.std.specs.Prelude.{◌≡◌, ◌⊎◌, ◌++◌, ℕ, Bool, true, false, List, Option, Some, None, Result, Ok, Err, codes}
-use Rattle.script_lines.specs.Bank.Forms.{IsBankLine}
-use Rattle.script_lines.specs.declared.bank.bank.BankLine.{BankLine}
-use Rattle.script_lines.specs.declared.bank.bank.BankLine.TheVariants as bank
+use Rattle.script_text.specs.Bank.Forms.{IsBankLine}
+use Rattle.script_text.specs.declared.bank.bank.BankLine.{BankLine}
+use Rattle.script_text.specs.declared.bank.bank.BankLine.TheVariants as bank
 use Rattle.script_run.specs.Bank.Settings.{takes, with_area, with_cell}
 use Rattle.mb_device.specs.Maps.{Maps}
 use Rattle.mb_wire.specs.Spans.{IsSpan}
@@ -15,10 +15,10 @@ use Rattle.office_events.specs.declared.events.Event.{Event}
 use Rattle.office_events.specs.declared.events.Event.TheVariants as event
 use Rattle.office_events.specs.declared.refusals.Refusal.{Refusal}
 use Rattle.office_events.specs.declared.refusals.Refusal.TheVariants as refusal
-use Rattle.script_lines.specs.Forms.{IsLine}
-use Rattle.script_lines.specs.declared.script.GivenStart.{GivenStart}
-use Rattle.script_lines.specs.declared.script.ScriptLine.{ScriptLine}
-use Rattle.script_lines.specs.declared.script.ScriptLine.TheVariants as line
+use Rattle.script_text.specs.Forms.{IsLine}
+use Rattle.script_text.specs.declared.script.GivenStart.{GivenStart}
+use Rattle.script_text.specs.declared.script.ScriptLine.{ScriptLine}
+use Rattle.script_text.specs.declared.script.ScriptLine.TheVariants as line
 use Rattle.script_run.specs.Replaying.Events.{EventPrints, IsRefused, IsReply, IsSpanOf, reply_text, start_event}
 use Rattle.script_run.specs.Replaying.Lines.{LinePrints}
 use Rattle.script_run.specs.Replaying.Stages.{after_reply}

@@ -11,7 +11,7 @@ use Rattle.script_run.specs.Replaying.Lines.{BeginsText}
 use Rattle.script_run.specs.Replaying.Scripts.{no_office}
 use Rattle.script_run.specs.Replaying.Stages.{beginning}
 use Rattle.script_text.specs.AnswerText.{bad_line}
-use Rattle.script_lines.specs.LineWords.Words.{words_of}
+use Rattle.script_text.specs.LineWords.Words.{words_of}
 use Rattle.script_run.specs.Looping.Lines.{AreWrong, WordsPrint}
 use Rattle.script_run.specs.Looping.Standings.{LoopStage}
 

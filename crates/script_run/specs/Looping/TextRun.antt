@@ -9,7 +9,7 @@ use Rattle.command_io.specs.declared.status.ExitStatus.TheVariants.{Fine, Refuse
 use Rattle.interval_core.specs.declared.zone.Zone.{Zone}
 use Rattle.memory_books.specs.Listed.{ledger_of}
 use Rattle.office_events.specs.declared.events.Event.{Event}
-use Rattle.office_rules.specs.History.{History}
+use Rattle.office_books.specs.History.{History}
 use Rattle.office_core.specs.Standing.{Stands}
 use Rattle.script_run.specs.Looping.Lines.{AreWrong, StartsPrint, WordsPrint}
 use Rattle.script_run.specs.Looping.Loops.{InputBegins, InputPrints, LoopBegins, LoopPrints, TextBegins, TextPrints}

@@ -7,10 +7,10 @@ use Rattle.interval_core.specs.declared.shares.Share.{Share}
 use Rattle.interval_core.specs.declared.totals.DayTotal.{DayTotal}
 use Rattle.office_events.specs.declared.facts.Fact.{Fact}
 use Rattle.office_events.specs.declared.refusals.Refusal.{Refusal}
-use Rattle.office_rules.specs.Facts.{register_of}
-use Rattle.office_rules.specs.History.{facts_of}
-use Rattle.office_rules.specs.Meters.{meter_of}
-use Rattle.office_rules.specs.Readings.{poll_row_of}
+use Rattle.office_books.specs.Facts.{register_of}
+use Rattle.office_books.specs.History.{facts_of}
+use Rattle.office_books.specs.Meters.{meter_of}
+use Rattle.office_books.specs.Readings.{poll_row_of}
 use Rattle.office_core.specs.Asking.{AreDaysNamed, intervals_of, is_there, or_not_found, rows_in}
 use Rattle.script_text.specs.RowLines.Rows.{day_line, end_line, share_line}
 use Rattle.script_run.specs.Replaying.Stages.{Stage, Fails, ReportsStop}

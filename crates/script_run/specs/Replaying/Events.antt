@@ -11,13 +11,13 @@ use Rattle.office_events.specs.declared.events.Event.{Event}
 use Rattle.office_events.specs.declared.events.Event.TheVariants.{Command}
 use Rattle.office_events.specs.declared.refusals.Refusal.{Refusal}
 use Rattle.office_events.specs.declared.refusals.Refusal.TheVariants as refusal
-use Rattle.office_rules.specs.History.{History}
-use Rattle.office_rules.specs.Notes.{notes_after, outgoing_after}
-use Rattle.office_rules.specs.Refusals.{decision_of}
+use Rattle.office_books.specs.History.{History}
+use Rattle.office_books.specs.Notes.{notes_after, outgoing_after}
+use Rattle.office_books.specs.Refusals.{decision_of}
 use Rattle.office_core.specs.Failing.{is_failure}
 use Rattle.office_core.specs.Taking.{SettlesNothing}
-use Rattle.script_lines.specs.declared.script.GivenList.{GivenList}
-use Rattle.script_lines.specs.declared.script.GivenStart.{GivenStart}
+use Rattle.script_text.specs.declared.script.GivenList.{GivenList}
+use Rattle.script_text.specs.declared.script.GivenStart.{GivenStart}
 use Rattle.script_run.specs.Replaying.Stages.{Stage, Fails, ReportsStop, after_reply}
 use Rattle.script_text.specs.AnswerText.{accepted_text, fault_line, refused_line}
 

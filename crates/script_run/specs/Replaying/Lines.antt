@@ -2,10 +2,10 @@
 -- state of the script's run after the line.
 use Rattle.std.specs.Prelude.{◌≡◌, ◌⊎◌, ℕ, List, [], ◌++◌}
 use Rattle.command_io.specs.Lines.{Line}
-use Rattle.script_lines.specs.Forms.{IsLine}
-use Rattle.script_lines.specs.declared.script.ScriptLine.{ScriptLine}
-use Rattle.script_lines.specs.declared.script.ScriptLine.TheVariants as line
-use Rattle.script_lines.specs.LineWords.Words.{words_of}
+use Rattle.script_text.specs.Forms.{IsLine}
+use Rattle.script_text.specs.declared.script.ScriptLine.{ScriptLine}
+use Rattle.script_text.specs.declared.script.ScriptLine.TheVariants as line
+use Rattle.script_text.specs.LineWords.Words.{words_of}
 use Rattle.script_run.specs.Replaying.Stages.{Stage}
 use Rattle.script_run.specs.Replaying.Events.{EventPrints, ListPrints, StartPrints}
 use Rattle.script_run.specs.Replaying.Asked.{DaysPrint, IntervalsPrint, MeterPrints, PollPrints}

@@ -7,7 +7,7 @@ use Rattle.command_io.specs.declared.status.ExitStatus.{ExitStatus}
 use Rattle.command_io.specs.declared.status.ExitStatus.TheVariants.{Fine, Refused}
 use Rattle.interval_core.specs.declared.zone.Zone.{Zone}
 use Rattle.office_events.specs.declared.refusals.Refusal.TheVariants as refusal
-use Rattle.script_lines.specs.LineWords.Words.{words_of}
+use Rattle.script_text.specs.LineWords.Words.{words_of}
 use Rattle.script_run.specs.Replaying.Lines.{BadPrints, BeginsText, LineBegins, WordsPrint}
 use Rattle.script_run.specs.Replaying.Stages.{Stage, beginning}
 use Rattle.script_text.specs.AnswerText.{refused_line}

@@ -6,8 +6,8 @@ use Rattle.office_events.specs.declared.answers.Answer.{Answer}
 use Rattle.office_events.specs.declared.events.Event.{Event}
 use Rattle.office_events.specs.declared.refusals.Refusal.{Refusal}
 use Rattle.office_events.specs.declared.refusals.Refusal.TheVariants as refusal
-use Rattle.office_rules.specs.History.{History, Opened}
-use Rattle.office_rules.specs.Refusals.{with_answer}
+use Rattle.office_books.specs.History.{History, Opened}
+use Rattle.office_books.specs.Refusals.{with_answer}
 use Rattle.office_core.specs.Failing.{stops}
 
 -- The state of a script's run: the accepted events, whether a failure has stopped the office (the

@@ -9,13 +9,13 @@ use Rattle.command_io.specs.declared.status.ExitStatus.TheVariants.{Fine, Refuse
 use Rattle.interval_core.specs.declared.zone.Zone.{Zone}
 use Rattle.memory_books.specs.Listed.{ledger_of}
 use Rattle.memory_books.specs.declared.list_books.ListBooks.{ListBooks}
-use Rattle.office_rules.specs.History.{History}
+use Rattle.office_books.specs.History.{History}
 use Rattle.office_core.specs.Standing.{Stands, books_in, is_stopped}
 use Rattle.office_core.specs.declared.office.Office.{Office}
 use Rattle.script_run.specs.Replaying.Lines.{BadPrints, LineBegins, WordsPrint}
 use Rattle.script_run.specs.Replaying.Scripts.{ReplayBegins, ReplayPrints, TextBegins, TextPrints}
 use Rattle.script_run.specs.Replaying.Stages.{Stage}
-use Rattle.script_lines.specs.LineWords.Words.{words_of}
+use Rattle.script_text.specs.LineWords.Words.{words_of}
 use Rattle.sun_points.specs.Writing.{GotText}
 
 -- The modeled state of a script's run, from the history of accepted events and the running `Office`

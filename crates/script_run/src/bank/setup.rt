@@ -3,7 +3,7 @@ ghost use Rattle.std.specs.Prelude.{◌≡◌, IfOk, OnErr};
 ghost use Rattle.script_run.specs.Bank.Settings as setting;
 
 use mb_device::{Area, Bank, Trick};
-use script_lines::{BankLine, GivenArea, GivenCell};
+use script_text::{BankLine, GivenArea, GivenCell};
 use std::alloc::{AllocError, Global};
 use std::marker::Model;
 

@@ -4,8 +4,7 @@ ghost use Rattle.script_run.specs.Bank.Running as running;
 use crate::bank::setup::Setup;
 use command_io::{ExitStatus, InputLines, read_input};
 use office_events::Refusal;
-use script_lines::BankLine;
-use script_text::{write_bad_line, write_refusal};
+use script_text::{BankLine, write_bad_line, write_refusal};
 use std::alloc::Global;
 use std::io::{Read, Write};
 

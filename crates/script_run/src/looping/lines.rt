@@ -5,7 +5,7 @@ ghost use Rattle.script_run.specs.Looping.Lines as form;
 ghost use Rattle.script_run.specs.Looping.Lines.{BankPrints, SaidPrints};
 ghost use Rattle.script_run.specs.Looping.TextRun.{LineRuns, WordsRun};
 ghost use Rattle.script_run.specs.Looping.Standings.{CarriesOut, loop_state};
-ghost use Rattle.script_lines.specs.LineWords.Words.{words_of};
+ghost use Rattle.script_text.specs.LineWords.Words.{words_of};
 ghost use Rattle.sun_points.specs.Writing.{GotText};
 
 use crate::bank::{add_in, set_in};
@@ -18,8 +18,7 @@ use mb_wire::Link;
 use memory_books::ListBooks;
 use office_core::Office;
 use office_events::{Command, Event, Name, Refusal, StartPoll};
-use script_lines::{BankLine, GivenStart, LineFault, ScriptLine};
-use script_text::write_refusal;
+use script_text::{BankLine, GivenStart, LineFault, ScriptLine, write_refusal};
 use std::alloc::Global;
 use std::io::{self, ErrorKind, Write};
 

@@ -14,8 +14,7 @@ use mb_device::{Bank, Trick};
 use memory_books::ListBooks;
 use office_core::Office;
 use office_events::{Event, Refusal};
-use script_lines::{BankLine, LineFault, ScriptLine};
-use script_text::{write_bad_line, write_refusal};
+use script_text::{BankLine, LineFault, ScriptLine, write_bad_line, write_refusal};
 use std::alloc::{AllocError, Global};
 use std::io::{Read, Write};
 

@@ -2,7 +2,7 @@
 ghost use Rattle.std.specs.Prelude.{◌++◌, flat_map};
 ghost use Rattle.office_events.specs.declared.refusals.Refusal.TheVariants as refusal;
 ghost use Rattle.memory_books.specs.Listed.{ledger_of};
-ghost use Rattle.office_rules.specs.History.{History};
+ghost use Rattle.office_books.specs.History.{History};
 ghost use Rattle.office_core.specs.Standing.{Stands};
 ghost use Rattle.script_run.specs.Replaying.Events.{EventPrints, ListPrints, StartPrints};
 ghost use Rattle.script_run.specs.Replaying.TextRun.{CarriesOut, MayCarryOut};
@@ -13,8 +13,7 @@ use memory_books::ListBooks;
 use office_core::Office;
 use office_events::{Command, Event, PlannedList, PutList, Refusal, StartPoll};
 use point_list::{FaultyRow, ListFault, read_list};
-use script_lines::{GivenList, GivenStart};
-use script_text::{write_accepted, write_faults, write_refusal};
+use script_text::{GivenList, GivenStart, write_accepted, write_faults, write_refusal};
 use std::alloc::Global;
 use std::io::{self, ErrorKind, Write};
 

@@ -1,6 +1,6 @@
 //! Executes the lines of a script over a store in memory.
 ghost use Rattle.memory_books.specs.Listed.{ledger_of};
-ghost use Rattle.office_rules.specs.History.{History};
+ghost use Rattle.office_books.specs.History.{History};
 ghost use Rattle.office_core.specs.Standing.{Stands};
 ghost use Rattle.script_run.specs.Replaying.Lines.{LinePrints};
 ghost use Rattle.script_run.specs.Replaying.TextRun.{LineRuns, MayCarryOut};
@@ -10,8 +10,7 @@ use crate::replaying::questions::{append_meter_lines, print_days, print_interval
 use command_io::ExitStatus;
 use memory_books::ListBooks;
 use office_core::Office;
-use script_lines::{LineFault, ScriptLine};
-use script_text::write_bad_line;
+use script_text::{LineFault, ScriptLine, write_bad_line};
 use std::alloc::Global;
 use std::io::{self, Write};
 

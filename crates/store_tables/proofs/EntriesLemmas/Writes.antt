@@ -10,7 +10,7 @@ use Rattle.store_tables.specs.Content.{Edits, with_row, changed_where}
 use Rattle.store_tables.specs.Steps.{Turns}
 use Rattle.store_tables.proofs.Scans.{text_is, number_is, and_true}
 use Rattle.store_tables.proofs.Updates.{updates}
-use Rattle.store_tables.proofs.Tables.{cast_int, cast_null, rowid_stays}
+use Rattle.store_tables.proofs.OtherTables.{cast_int, cast_null, rowid_stays}
 use Rattle.store_tables.proofs.Inserts.{plainly, inserts, chosen_rowid}
 use Rattle.store_tables.specs.Entries.Rows.{Entered, entry_columns, is_entry, rolled, Voided, voided_columns}
 use Rattle.store_tables.specs.Entries.Trees.{entries, voids}

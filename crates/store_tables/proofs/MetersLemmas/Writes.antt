@@ -10,7 +10,7 @@ use Rattle.store_tables.specs.Content.{Edits, with_row, changed_where}
 use Rattle.store_tables.specs.Steps.{Turns}
 use Rattle.store_tables.proofs.Scans.{text_is, and_true}
 use Rattle.store_tables.proofs.Updates.{updates}
-use Rattle.store_tables.proofs.Tables.{cast_int, cast_null, rowid_stays}
+use Rattle.store_tables.proofs.OtherTables.{cast_int, cast_null, rowid_stays}
 use Rattle.store_tables.proofs.Inserts.{plainly, inserts, chosen_rowid, given_rowid}
 use Rattle.store_tables.specs.declared.meters.rows.LastRow.{LastRow}
 use Rattle.store_tables.specs.Meters.Rows.{Installed, installed_columns, installed_shown, is_meter, moved, ended, Ranged, ranged_columns}

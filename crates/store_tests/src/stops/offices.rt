@@ -7,7 +7,7 @@ use office_core::Office;
 use office_events::{Command, Event, Refusal, StartPoll, StoreCause};
 use office_http::handle;
 use office_store::SqlBooks;
-use script_lines::{GivenStart, ScriptLine};
+use script_text::{GivenStart, ScriptLine};
 use sqlite::{Alter, Connection};
 use std::alloc::Global;
 use std::process::Abort;

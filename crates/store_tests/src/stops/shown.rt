@@ -2,7 +2,7 @@
 use interval_core::Zone;
 use sqlite::{Alter, Connection};
 use std::process::Abort;
-use store_files::OpenFault;
+use store_tables::OpenFault;
 
 /// Returns the number of the fault with which a database could not be opened, or 0 if it was
 /// opened.

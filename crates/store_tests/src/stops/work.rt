@@ -3,7 +3,7 @@ use crate::stops::day::{DAY, FIRST, NEW, OLD, READ, ROWS};
 use crate::stops::shown::{fault, number, shows};
 use sqlite::{Alter, Connection};
 use std::process::Abort;
-use store_files::{create, open};
+use store_tables::{create, open};
 
 /// Creates a file of version 1 in an empty database. Returns 1, the count of its steps, and the
 /// store.

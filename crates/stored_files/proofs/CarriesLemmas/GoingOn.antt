@@ -6,13 +6,13 @@ use Rattle.sqlite.specs.Store.{Ghosts}
 use Rattle.sqlite.specs.Held.{Held, state}
 use Rattle.sqlite.specs.State.{HasCleanDisk}
 use Rattle.office_events.specs.declared.facts.Fact.{Fact}
-use Rattle.office_rules.specs.History.{Opened}
+use Rattle.office_books.specs.History.{Opened}
 use Rattle.office_books.specs.Ledgers.{Ledger}
 use Rattle.office_core.specs.declared.office.Office.{Office}
 use Rattle.office_core.specs.Standing.{StandsIfClean}
 use Rattle.store_tables.specs.Content.{Content}
-use Rattle.store_files.specs.declared.layouts.Layout.{Layout}
-use Rattle.store_files.specs.Upgrade.{IsFile}
+use Rattle.store_tables.specs.declared.layouts.Layout.{Layout}
+use Rattle.store_tables.specs.Upgrade.{IsFile}
 use Rattle.office_store.specs.Laws.Files.{HasFactsIn}
 use Rattle.office_store.specs.Database.{HasFile, HoldsAlone}
 use Rattle.office_store.specs.declared.books.SqlBooks.{SqlBooks}

@@ -11,10 +11,10 @@ use Rattle.sqlite.specs.Listing.{understood, reads_listing}
 use Rattle.sqlite.proofs.Callers.{IsPlain, command_of, reads_as, one_permutation}
 use Rattle.store_tables.specs.Content.{Content, HasTree, AreTablesIn, reported}
 use Rattle.store_tables.proofs.Scans.{scan, no_limit, asked, passes, shows}
-use Rattle.store_files.specs.declared.layouts.Layout.{Layout}
-use Rattle.store_files.specs.declared.layouts.Layout.TheVariants.{First, Second, Third}
-use Rattle.store_files.specs.Layouts.{schema_of}
-use Rattle.store_files.specs.Meta.{Meta, meta_columns, IsMarked}
+use Rattle.store_tables.specs.declared.layouts.Layout.{Layout}
+use Rattle.store_tables.specs.declared.layouts.Layout.TheVariants.{First, Second, Third}
+use Rattle.store_tables.specs.Layouts.{schema_of}
+use Rattle.store_tables.specs.Meta.{Meta, meta_columns, IsMarked}
 use Rattle.stored_files.specs.Carries.ReportedZone.{zone_shown}
 
 abbrev pub zone_rows : List ℕ

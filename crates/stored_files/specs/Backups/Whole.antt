@@ -8,9 +8,9 @@ use Rattle.sqlite.specs.Tree.{Trees}
 use Rattle.sqlite.specs.Effect.{Database, IsDatabase}
 use Rattle.sqlite.specs.Files.{HoldsDatabase, image_of}
 use Rattle.sqlite.specs.Closing.{HoldsAlone}
-use Rattle.office_rules.specs.History.{History, facts_of}
-use Rattle.office_rules.specs.Lawfulness.{IsPast}
-use Rattle.store_files.specs.declared.layouts.Layout.{Layout}
+use Rattle.office_books.specs.History.{History, facts_of}
+use Rattle.office_books.specs.Lawfulness.{IsPast}
+use Rattle.store_tables.specs.declared.layouts.Layout.{Layout}
 use Rattle.office_store.specs.Laws.Files.{HasFactsIn}
 
 -- States that opening a database with these B-trees finds the records of the history `past`. Any

@@ -4,7 +4,7 @@ use Rattle.sqlite.specs.declared.types.Value.TheVariants.{Text}
 use Rattle.sqlite.specs.Order.{Row}
 use Rattle.sqlite.specs.State.{State, IsUnchanged}
 use Rattle.store_tables.specs.Content.{Content}
-use Rattle.store_files.specs.Meta.{Meta, IsMarked}
+use Rattle.store_tables.specs.Meta.{Meta, IsMarked}
 
 -- The result row of the query for the time zone in the table `meta`.
 abbrev pub zone_shown : Meta → Row

@@ -3,9 +3,9 @@ ghost use Rattle.std.specs.Prelude.{◌≡◌, Err, IfOk};
 ghost use Rattle.sqlite_wal.specs.Files.{image_at};
 ghost use Rattle.sqlite_wal.specs.Reads.{AreClean};
 ghost use Rattle.sqlite.specs.Files.{over_files};
-ghost use Rattle.office_rules.specs.History.{History};
-ghost use Rattle.store_files.specs.declared.layouts.Layout.{Layout as TheLayout};
-ghost use Rattle.store_files.specs.Layouts.{IsNamedAs};
+ghost use Rattle.office_books.specs.History.{History};
+ghost use Rattle.store_tables.specs.declared.layouts.Layout.{Layout as TheLayout};
+ghost use Rattle.store_tables.specs.Layouts.{IsNamedAs};
 ghost use Rattle.stored_files.specs.BooksFound.{HasPast};
 ghost use Rattle.stored_files.specs.Backups.Whole.{HasPastIn, HasPastAlone};
 
@@ -13,7 +13,7 @@ use crate::backups::faults::{CopyFault, close_fault_of, copy_fault_of};
 use crate::files::{check_beside, connect};
 use sqlite::{Connection, FileFrom, FileStore, Files, Start};
 use sqlite_disk::Disk;
-use store_files::layout_of;
+use store_tables::layout_of;
 
 // Merges the log of a database into its file, closes the database, and returns both files.
 fn close_alone<D: Disk + Drop>(connection: Connection<FileStore<D>>) -> Result<Files<D>, CopyFault>

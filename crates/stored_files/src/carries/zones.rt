@@ -3,15 +3,14 @@ ghost use Rattle.std.specs.Prelude.{◌≡◌, ◌∷◌, [], ℕ, List, false, 
 ghost use Rattle.sqlite.specs.Held.{state};
 ghost use Rattle.sqlite.specs.State.{HasCleanDisk, IsUnchanged};
 ghost use Rattle.store_tables.specs.Content.{Content, AreTablesIn};
-ghost use Rattle.store_files.specs.declared.layouts.Layout.{Layout as TheLayout};
-ghost use Rattle.store_files.specs.Layouts.{schema_of, IsNamedAs};
-ghost use Rattle.store_files.specs.Meta.{Meta};
-ghost use Rattle.store_files.specs.Upgrade.{IsFile};
+ghost use Rattle.store_tables.specs.declared.layouts.Layout.{Layout as TheLayout};
+ghost use Rattle.store_tables.specs.Layouts.{schema_of, IsNamedAs};
+ghost use Rattle.store_tables.specs.Meta.{Meta};
+ghost use Rattle.store_tables.specs.Upgrade.{IsFile};
 ghost use Rattle.stored_files.specs.Carries.ReportedZone.{ShowsZone, ReportsZone, zone_shown};
 
 use sqlite::{Alter, Connection, Error, ErrorCode, Row};
-use store_files::{OpenFault, layout_of};
-use store_tables::{RowFault, check_open, text};
+use store_tables::{OpenFault, RowFault, check_open, layout_of, text};
 
 // Maps an SQL error of the query for the time zone to an `OpenFault`.
 fn fault_of(error: Error) -> OpenFault {

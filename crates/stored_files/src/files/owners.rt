@@ -1,10 +1,10 @@
 //! Checks whether a database has the tables of `sunreg`.
 ghost use Rattle.std.specs.Prelude.{◌↔◌, ◌≡◌, false, IsTrue};
-ghost use Rattle.store_files.specs.declared.layouts.Layout.{Layout as TheLayout};
-ghost use Rattle.store_files.specs.Layouts.{no_schema, IsNamedAs};
+ghost use Rattle.store_tables.specs.declared.layouts.Layout.{Layout as TheLayout};
+ghost use Rattle.store_tables.specs.Layouts.{no_schema, IsNamedAs};
 
 use sqlite::{Alter, Connection};
-use store_files::layout_of;
+use store_tables::layout_of;
 
 /// Returns whether a database has no table, index or view.
 pub fn is_bare<S: Alter>(connection: &Connection<S>) -> bool

@@ -1,9 +1,9 @@
 //! Merges the reports on several successive database files, with one file open at a time.
 ghost use Rattle.std.specs.Prelude.{◌≡◌, ◌≢◌, ◌↔◌, ℕ, List, Err, IfErr, IfOk, IsTrue, string_bytes};
 ghost use Rattle.office_events.specs.declared.facts.Fact.{Fact};
-ghost use Rattle.office_rules.specs.History.{History, facts_of};
-ghost use Rattle.store_files.specs.declared.layouts.Layout.{Layout as TheLayout};
-ghost use Rattle.store_files.specs.Layouts.{IsNamedAs};
+ghost use Rattle.office_books.specs.History.{History, facts_of};
+ghost use Rattle.store_tables.specs.declared.layouts.Layout.{Layout as TheLayout};
+ghost use Rattle.store_tables.specs.Layouts.{IsNamedAs};
 ghost use Rattle.office_store.specs.Database.{HasFile};
 ghost use Rattle.stored_files.specs.BooksFound.{HasPast};
 ghost use Rattle.stored_files.specs.Joins.Stored.{AreBefore, IsOfZone, JoinsBooks, JoinsFile};

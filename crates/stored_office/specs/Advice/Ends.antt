@@ -6,8 +6,8 @@ use Rattle.office_program.specs.declared.port_round.PollEnd.{PollEnd}
 use Rattle.office_program.specs.declared.port_round.PollEnd.TheVariants.{Polled, Unopened, Unconnected}
 use Rattle.office_program.specs.declared.http_port.ServeEnd.{ServeEnd}
 use Rattle.office_program.specs.declared.http_port.ServeEnd.TheVariants as serving
-use Rattle.office_rounds.specs.declared.fault.RoundFault.{RoundFault}
-use Rattle.office_rounds.specs.declared.fault.RoundFault.TheVariants.{Refused}
+use Rattle.office_program.specs.declared.fault.RoundFault.{RoundFault}
+use Rattle.office_program.specs.declared.fault.RoundFault.TheVariants.{Refused}
 use Rattle.stored_office.specs.declared.tasks.tasks.Done.{Done}
 use Rattle.stored_office.specs.declared.tasks.tasks.Done.TheVariants as task
 

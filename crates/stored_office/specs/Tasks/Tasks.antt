@@ -1,9 +1,9 @@
 -- Defines what each task does to the store in a database, what it prints, and its results.
 use Rattle.std.specs.Prelude.{ℕ, List, Option}
 use Rattle.sqlite.specs.Store.{Ghosts}
-use Rattle.office_rules.specs.History.{History}
+use Rattle.office_books.specs.History.{History}
 use Rattle.office_books.specs.Ledgers.{Ledger}
-use Rattle.http_request.specs.Hosts.{texts}
+use Rattle.http_messages.specs.Hosts.{texts}
 use Rattle.office_program.specs.Report.{ReportsReport}
 use Rattle.office_program.specs.RangedReport.{AnswersRange}
 use Rattle.office_program.specs.Statement.{ReportsStatement}

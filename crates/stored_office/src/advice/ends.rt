@@ -4,8 +4,7 @@ ghost use Rattle.stored_office.specs.Advice.Ends as ends;
 
 use crate::tasks::Done;
 use command_io::ExitStatus;
-use office_program::{PollEnd, ServeEnd};
-use office_rounds::RoundFault;
+use office_program::{PollEnd, RoundFault, ServeEnd};
 
 /// Returns whether explanations follow a round of polls. They follow only if the round was
 /// completed, or if the office (the part that checks and records events) refused to open or to

@@ -1,7 +1,7 @@
 //! Finds the lines printed by a round that need an explanation, and writes the explanations. A
 //! round is one poll for each read of a device's plan.
 ghost use Rattle.std.specs.Prelude.{◌≡◌, OnOk, option_map};
-ghost use Rattle.script_lines.specs.LineWords.Words.{words_of};
+ghost use Rattle.script_text.specs.LineWords.Words.{words_of};
 ghost use Rattle.run_status.specs.Advice.Sentences.{with_meaning, with_subject};
 ghost use Rattle.stored_office.specs.Advice.Remarks as remarks;
 ghost use Rattle.stored_office.specs.Advice.Remarks.{MayMean, Says};
@@ -9,7 +9,7 @@ ghost use Rattle.stored_office.specs.Advice.Remarks.{MayMean, Says};
 use office_events::Name;
 use printed_numbers::{Kind, Meaning, meaning_of};
 use run_status::append_bytes;
-use script_lines::{Words, end_of_words, next_name, next_number};
+use script_text::{Words, end_of_words, next_name, next_number};
 use std::alloc::AllocError;
 
 /// The content of a line that a round of polls printed and that needs an explanation.

@@ -2,8 +2,8 @@
 //! database. Their contracts are the main theorem about an office.
 ghost use Rattle.std.specs.Prelude.{ℕ, List, [], IfErr, IfOk, IfSome};
 ghost use Rattle.office_core.specs.EventRun.{HandsBack, IsCleanOnlyIfWas, RecordsIfClean};
-ghost use Rattle.office_rules.specs.Lawfulness.{IsPast};
-ghost use Rattle.office_rules.specs.History.{History, facts_of};
+ghost use Rattle.office_books.specs.Lawfulness.{IsPast};
+ghost use Rattle.office_books.specs.History.{History, facts_of};
 ghost use Rattle.office_store.specs.Database.{HoldsAlone};
 
 use office_books::Books;

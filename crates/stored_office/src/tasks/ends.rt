@@ -6,8 +6,7 @@ ghost use Rattle.stored_files.specs.Ends.Endings.{ending_number};
 ghost use Rattle.stored_office.specs.Tasks.Ends.{done_number, polling_number, run_number, serving_number};
 
 use crate::tasks::tasks::Done;
-use office_program::{PollEnd, ServeEnd};
-use office_rounds::RoundFault;
+use office_program::{PollEnd, RoundFault, ServeEnd};
 use office_running::RunFault;
 use stored_files::{Ending, Failure, ending_of};
 

@@ -1,9 +1,9 @@
 //! The tasks of commands that work on a database file, and their execution.
 ghost use Rattle.std.specs.Prelude.{◌≡◌, Err, IfOk, IfErr};
-ghost use Rattle.office_rules.specs.History.{History};
+ghost use Rattle.office_books.specs.History.{History};
 ghost use Rattle.office_core.specs.Leaving.{BooksStand};
-ghost use Rattle.store_files.specs.declared.layouts.Layout.{Layout as TheLayout};
-ghost use Rattle.store_files.specs.Layouts.{IsNamedAs};
+ghost use Rattle.store_tables.specs.declared.layouts.Layout.{Layout as TheLayout};
+ghost use Rattle.store_tables.specs.Layouts.{IsNamedAs};
 ghost use Rattle.office_program.specs.Entering.Lines.{reporting_of};
 ghost use Rattle.stored_files.specs.BooksFound.{HasPast};
 ghost use Rattle.stored_office.specs.Tasks.Tasks.{IsOf, Does, DoesOver};

@@ -6,8 +6,8 @@ use Rattle.std.specs.declared.result.Result.{Result}
 use Rattle.mb_wire.specs.Bytes.{words_of as words_spelled}
 use Rattle.sun_chain.specs.Image.{Words, add_words}
 use Rattle.command_io.specs.Lines.{Line}
-use Rattle.script_lines.specs.LineWords.Words.{words_of}
-use Rattle.script_lines.specs.LineWords.Values.{bytes_of, number_of}
+use Rattle.script_text.specs.LineWords.Words.{words_of}
+use Rattle.script_text.specs.LineWords.Values.{bytes_of, number_of}
 
 -- The content of a line `ADDRESS HEX`: the 16-bit words of some Modbus registers, and the address
 -- of the first register.

@@ -8,7 +8,7 @@ ghost use Rattle.sunspec_text.specs.Chains.Seen.{ExplainsLine, ExplainsText, Rep
 
 use command_io::{InputLine, InputLines};
 use device_scan::words_of_bytes;
-use script_lines::{Words, hex_bytes, number};
+use script_text::{Words, hex_bytes, number};
 use std::alloc::{AllocError, Global};
 use sun_chain::{Image, ImageFault};
 

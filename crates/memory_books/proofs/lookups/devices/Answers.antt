@@ -1,5 +1,5 @@
 use Rattle.std.proofs.Common.{◌∙◌}
-use Rattle.office_rules.specs.Facts.{as_device}
+use Rattle.office_books.specs.Facts.{as_device}
 use Rattle.memory_books.proofs.TablesLemmas.Turned.{turned}
 use Rattle.memory_books.proofs.lookups.devices.Goals as goal
 

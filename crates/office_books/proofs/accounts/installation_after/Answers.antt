@@ -5,7 +5,7 @@ use Rattle.meter_journal.specs.declared.lines.Installed.{Installed}
 use Rattle.meter_journal.specs.Journal.{entries_in}
 use Rattle.meter_journal.specs.Lists.{latest_first}
 use Rattle.office_events.specs.declared.facts.Opening.{Opening}
-use Rattle.office_rules.specs.Meters.{opened, installed}
+use Rattle.office_books.specs.Meters.{opened, installed}
 use Rattle.office_books.specs.Sound.{HasNumbers}
 use Rattle.office_books.proofs.accounts.installation_after.Goals as goal
 

@@ -1,5 +1,5 @@
 use Rattle.std.proofs.Common.{sym, ap, ◌∙◌}
-use Rattle.office_rules.specs.Readings.{is_read_by}
+use Rattle.office_books.specs.Readings.{is_read_by}
 use Rattle.office_books.proofs.Filtering.{taken, passed_by}
 use Rattle.office_books.proofs.readings.registers_read.Goals as goal
 use Rattle.office_books.proofs.readings.registers_read.Goals.{then-is_read_by+in_ok-push, else-is_read_by}

@@ -1,6 +1,6 @@
 use Rattle.std.proofs.Common.{rules}
 use Rattle.std.proofs.lemmas.Fn.{filter_same}
-use Rattle.office_rules.specs.Readings.{is_read_by}
+use Rattle.office_books.specs.Readings.{is_read_by}
 use Rattle.office_books.proofs.readings.retain_covered.Goals as goal
 
 pub returns : goal.returns

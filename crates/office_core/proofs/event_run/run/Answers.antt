@@ -1,6 +1,6 @@
 use Rattle.std.proofs.Common.{◌≡◌, ◌≤◌, ◌∷◌, arith, take, length}
 use Rattle.std.proofs.lemmas.List.{length-take-le}
-use Rattle.office_rules.specs.History.{Opened}
+use Rattle.office_books.specs.History.{Opened}
 use Rattle.office_core.specs.EventRun.{in_turn, history_after}
 use Rattle.office_core.proofs.AddingUp.{headline}
 use Rattle.office_core.proofs.Runs.{with_result, turn_more, further, all_fed}

@@ -1,5 +1,5 @@
 use Rattle.office_core.proofs.Ranged.{days_within}
-use Rattle.office_rules.specs.Intervals.{rows_of_register}
+use Rattle.office_books.specs.Intervals.{rows_of_register}
 use Rattle.office_core.proofs.questions.days_in.Goals as goal
 
 pub returns-clause-days : goal.returns-clause-days

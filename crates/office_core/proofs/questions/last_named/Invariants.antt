@@ -1,5 +1,5 @@
 use Rattle.std.proofs.Common.{◌≡◌, reverse, take, find}
-use Rattle.office_rules.specs.Facts.{same}
+use Rattle.office_books.specs.Facts.{same}
 use Rattle.office_core.proofs.questions.last_named.Given as goal
 
 abbrev pub invariant-loop-device : goal.invariant-loop-device

@@ -1,6 +1,6 @@
 use Rattle.std.proofs.Common.{◌≡◌, None, rules}
-use Rattle.office_rules.specs.History.{facts_of}
-use Rattle.office_rules.specs.Refusals.{opening_refusal_of}
+use Rattle.office_books.specs.History.{facts_of}
+use Rattle.office_books.specs.Refusals.{opening_refusal_of}
 use Rattle.office_core.proofs.Reopened.{not_booked}
 use Rattle.office_core.proofs.reopened_office.reopen.Goals as goal
 

@@ -1,11 +1,11 @@
 use Rattle.std.proofs.Common.{refl, subst}
-use Rattle.http_request.specs.Routing.Routes.{routes}
-use Rattle.http_answer.specs.Replies.{poll_reply, refused, reply_bytes, row_reply}
-use Rattle.http_answer.specs.Rows.{poll_text}
-use Rattle.http_answer.specs.Whole.{IsReply}
+use Rattle.http_messages.specs.Routing.Routes.{routes}
+use Rattle.http_messages.specs.Replies.{poll_reply, refused, reply_bytes, row_reply}
+use Rattle.http_messages.specs.Rows.{poll_text}
+use Rattle.http_messages.specs.WholeResponses.{IsReply}
 use Rattle.office_events.specs.declared.refusals.Refusal.TheVariants as refusal
-use Rattle.office_rules.specs.History.{facts_of}
-use Rattle.office_rules.specs.Readings.{poll_row_of}
+use Rattle.office_books.specs.History.{facts_of}
+use Rattle.office_books.specs.Readings.{poll_row_of}
 use Rattle.office_http.proofs.Served.{lasts_asked, lasts_same, row_reported, still, reported_off}
 use Rattle.office_http.proofs.answers.write_poll_asked.Goals as goal
 

@@ -1,14 +1,14 @@
 use Rattle.std.proofs.Common.{sym, subst}
 use Rattle.std.specs.Option.{option_and_then}
-use Rattle.http_request.specs.Routing.Routes.{routes}
-use Rattle.http_request.specs.Routing.Targets.{name_of}
-use Rattle.http_request.specs.declared.routing.routes.Route.{Route}
-use Rattle.http_answer.specs.Replies.{lines_reply, poll_reply, question_reply, reply_bytes, row_reply}
-use Rattle.http_answer.specs.Rows.{meter_text}
-use Rattle.http_answer.specs.Whole.{IsReply}
+use Rattle.http_messages.specs.Routing.Routes.{routes}
+use Rattle.http_messages.specs.Routing.Targets.{name_of}
+use Rattle.http_messages.specs.declared.routing.routes.Route.{Route}
+use Rattle.http_messages.specs.Replies.{lines_reply, poll_reply, question_reply, reply_bytes, row_reply}
+use Rattle.http_messages.specs.Rows.{meter_text}
+use Rattle.http_messages.specs.WholeResponses.{IsReply}
 use Rattle.interval_core.specs.Lines.{days_text, intervals_text}
-use Rattle.office_rules.specs.History.{facts_of}
-use Rattle.office_rules.specs.Meters.{meter_of}
+use Rattle.office_books.specs.History.{facts_of}
+use Rattle.office_books.specs.Meters.{meter_of}
 use Rattle.office_http.proofs.Served.{lasts_asked, row_reported, still}
 use Rattle.office_http.proofs.answers.write_question.Goals as goal
 

@@ -1,6 +1,6 @@
 use Rattle.std.proofs.Common.{ℕ}
 use Rattle.office_core.specs.Leaving.{BooksStand}
-use Rattle.office_rules.specs.History.{History}
+use Rattle.office_books.specs.History.{History}
 use Rattle.office_program.specs.Texts.Passing.{Lasts}
 use Rattle.office_running.proofs.lacking.lacks_in.Given as goal
 

@@ -1,5 +1,5 @@
 use Rattle.std.proofs.Common.{rules, ◌≡◌, true, Some, sym, ◌∙◌}
-use Rattle.office_rules.specs.Meters.{meter_of}
+use Rattle.office_books.specs.Meters.{meter_of}
 use Rattle.carried_books.specs.Carrying.Standings.{is_until}
 use Rattle.carried_books.proofs.CarryingLemmas.Lasts.{where_it_stands}
 use Rattle.carried_books.proofs.carrying.standings.last_until.Goals as goal

@@ -3,7 +3,7 @@ use Rattle.energy_report.specs.Energies.{AddsShare}
 use Rattle.office_books.specs.declared.spans.Span.{Span}
 use Rattle.office_books.specs.Rows.{TakesAll}
 use Rattle.office_books.specs.Spans.{rows_within}
-use Rattle.office_rules.specs.Intervals.{rows_of_meter}
+use Rattle.office_books.specs.Intervals.{rows_of_meter}
 use Rattle.carried_books.proofs.JoiningLemmas.KeptMeters.{energy_reported}
 use Rattle.carried_books.proofs.joining.kept_meters.energy.Goals as goal
 

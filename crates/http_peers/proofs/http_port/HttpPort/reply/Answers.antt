@@ -1,5 +1,5 @@
 use Rattle.std.proofs.Common.{Some, None}
-use Rattle.http_request.specs.Hosts.{texts}
+use Rattle.http_messages.specs.Hosts.{texts}
 use Rattle.http_peers.proofs.ServingClients.{begun_serves, executes}
 use Rattle.http_peers.proofs.http_port.HttpPort.reply.Goals as goal
 

@@ -1,4 +1,4 @@
-use Rattle.http_request.specs.Hosts.{texts}
+use Rattle.http_messages.specs.Hosts.{texts}
 use Rattle.http_peers.proofs.ServingClients.{queries_serve}
 use Rattle.http_peers.proofs.http_port.HttpPort.serve_client.Goals as goal
 

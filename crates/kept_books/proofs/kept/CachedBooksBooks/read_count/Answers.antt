@@ -1,5 +1,5 @@
 use Rattle.std.proofs.Common.{◌≡◌, Some, sym}
-use Rattle.office_rules.specs.Facts.{list_of}
+use Rattle.office_books.specs.Facts.{list_of}
 use Rattle.office_books.specs.Plans.{read_count_of}
 use Rattle.kept_books.proofs.Answering.{some_so}
 use Rattle.kept_books.proofs.kept.CachedBooksBooks.read_count.Goals as goal

@@ -1,5 +1,5 @@
 use Rattle.std.proofs.Common.{◌≡◌, Ok, ◌∙◌}
-use Rattle.office_rules.specs.Facts.{registers_of}
+use Rattle.office_books.specs.Facts.{registers_of}
 use Rattle.kept_books.proofs.Answering.{some_so}
 use Rattle.kept_books.proofs.Reading.{asked}
 use Rattle.kept_books.proofs.kept.CachedBooksBooks.registers.Goals as goal

@@ -1,7 +1,7 @@
 use Rattle.std.proofs.Common.{◌≡◌, Ok, ap, ◌∙◌}
 use Rattle.std.specs.List.{filter}
-use Rattle.office_rules.specs.Facts.{registers_of}
-use Rattle.office_rules.specs.Readings.{is_read_by}
+use Rattle.office_books.specs.Facts.{registers_of}
+use Rattle.office_books.specs.Readings.{is_read_by}
 use Rattle.kept_books.proofs.Answering.{some_so}
 use Rattle.kept_books.proofs.Reading.{answered_with, asked}
 use Rattle.kept_books.proofs.kept.CachedBooksBooks.registers_read.Goals as goal

@@ -1,6 +1,6 @@
 use Rattle.std.proofs.Common.{List, take}
 use Rattle.office_events.specs.declared.facts.Fact.{Fact}
-use Rattle.office_rules.specs.Lawful.{AreLawful}
+use Rattle.office_books.specs.Lawful.{AreLawful}
 use Rattle.office_books.specs.Ledgers.{with_facts}
 use Rattle.kept_books.specs.Known.{AreTrue}
 use Rattle.kept_books.proofs.known.Known.add_all.Given as goal

@@ -1,5 +1,5 @@
 use Rattle.std.proofs.Common.{◌≡◌, Some}
-use Rattle.office_rules.specs.Facts.{list_of}
+use Rattle.office_books.specs.Facts.{list_of}
 use Rattle.kept_books.proofs.Answering.{kept_too, same_found}
 use Rattle.kept_books.proofs.known.Known.keep_list.Goals as goal
 

@@ -1,5 +1,5 @@
 use Rattle.std.proofs.Common.{◌≡◌, ◌∙◌}
-use Rattle.office_rules.specs.Facts.{registers_of}
+use Rattle.office_books.specs.Facts.{registers_of}
 use Rattle.kept_books.proofs.Answering.{kept_too}
 use Rattle.kept_books.proofs.known.Known.keep_registers.Goals as goal
 

@@ -1,4 +1,4 @@
-use Rattle.office_rules.specs.Intervals.{rows_of_meter}
+use Rattle.office_books.specs.Intervals.{rows_of_meter}
 use Rattle.memory_books.specs.Listed.{ledger_of}
 use Rattle.memory_books.proofs.Handed.{handed_on}
 use Rattle.memory_books.proofs.list_books.ListBooksBooks.intervals.Goals as goal

@@ -1,5 +1,5 @@
 use Rattle.std.proofs.Common.{◌∙◌, ap}
-use Rattle.office_rules.specs.Intervals.{rows_of_register}
+use Rattle.office_books.specs.Intervals.{rows_of_register}
 use Rattle.memory_books.specs.Listed.{ledger_of}
 use Rattle.memory_books.proofs.Handed.{handed_on}
 use Rattle.memory_books.proofs.list_books.ListBooksBooks.register_intervals.Goals as goal

@@ -2,7 +2,7 @@ use Rattle.std.proofs.Common.{◌∙◌, List, reverse, refl, sym, ap, subst}
 use Rattle.std.proofs.lemmas.List.{reverse-reverse}
 use Rattle.std.proofs.lemmas.List.Sorted.{IsPermutation-refl}
 use Rattle.office_events.specs.declared.facts.Fact.{Fact}
-use Rattle.office_rules.specs.Facts.{holds_in, voids_in, ended_in, replies_in}
+use Rattle.office_books.specs.Facts.{holds_in, voids_in, ended_in, replies_in}
 use Rattle.office_books.specs.Same.{AreSame}
 use Rattle.memory_books.proofs.list_books.ListBooksBooks.tables_are_known.Goals as goal
 

@@ -1,7 +1,7 @@
 use Rattle.std.proofs.Common.{List, refl, sym, subst, ◌∙◌}
-use Rattle.office_rules.specs.History.{facts_of, slots_of, next_poll}
-use Rattle.office_booking.specs.declared.sessions.slots.Slot.{Slot}
-use Rattle.office_booking.specs.Sessions.Keeping.{KeepsSlots}
+use Rattle.office_books.specs.History.{facts_of, slots_of, next_poll}
+use Rattle.office_core.specs.declared.sessions.slots.Slot.{Slot}
+use Rattle.office_core.specs.Sessions.Keeping.{KeepsSlots}
 use Rattle.office_core.proofs.Taken.{taken, not_taken, unnoted}
 use Rattle.office_core.proofs.office.Office.obey.Goals as goal
 

@@ -1,5 +1,5 @@
 use Rattle.std.proofs.Common.{◌≡◌, false, rules, sym, subst}
-use Rattle.office_rules.specs.Refusals.{IsAccepted}
+use Rattle.office_books.specs.Refusals.{IsAccepted}
 use Rattle.office_core.specs.Events.{is_command}
 use Rattle.office_core.specs.Taking.{MayTake, Takes}
 use Rattle.office_core.proofs.office.Office.process_event.Goals as goal

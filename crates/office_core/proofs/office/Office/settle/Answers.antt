@@ -1,7 +1,7 @@
 use Rattle.std.proofs.Common.{◌≡◌, ◌∷◌, true, false, List, length, rules, refl, sym, subst, ◌∙◌}
-use Rattle.office_rules.specs.History.{Fed, facts_of, slots_of, next_poll}
-use Rattle.office_booking.specs.declared.sessions.slots.Slot.{Slot}
-use Rattle.office_booking.specs.Sessions.Keeping.{KeepsSlots}
+use Rattle.office_books.specs.History.{Fed, facts_of, slots_of, next_poll}
+use Rattle.office_core.specs.declared.sessions.slots.Slot.{Slot}
+use Rattle.office_core.specs.Sessions.Keeping.{KeepsSlots}
 use Rattle.std.proofs.lemmas.List.{with_items_is}
 use Rattle.office_core.proofs.Taken.{taken, not_taken, noted, unsent, goes_on_unsettling, unsettling}
 use Rattle.office_core.proofs.office.Office.settle.Goals as goal

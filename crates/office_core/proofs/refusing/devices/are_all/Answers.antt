@@ -1,5 +1,5 @@
 use Rattle.std.proofs.Common.{ap, nat_le}
-use Rattle.office_booking.proofs.SessionsLemmas.Keeping.{same_length}
+use Rattle.office_core.proofs.SessionsLemmas.Keeping.{same_length}
 use Rattle.office_core.proofs.refusing.devices.are_all.Goals as goal
 
 pub returns : goal.returns

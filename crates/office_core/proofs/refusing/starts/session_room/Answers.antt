@@ -1,5 +1,5 @@
 use Rattle.std.proofs.Common.{subst}
-use Rattle.office_booking.specs.Sessions.Keeping.{KeepsPresent}
+use Rattle.office_core.specs.Sessions.Keeping.{KeepsPresent}
 use Rattle.office_core.proofs.RefusingLemmas.Rooms.{room_kept}
 use Rattle.office_core.proofs.refusing.starts.session_room.Goals as goal
 

@@ -1,7 +1,7 @@
 use Rattle.std.proofs.Common.{◌≡◌, Option, sym, ◌∙◌}
 use Rattle.std.proofs.lemmas.Result.{IfOk-weaker}
 use Rattle.office_events.specs.declared.questions.EntryContext.{EntryContext}
-use Rattle.office_rules.specs.Meters.{entry_at}
+use Rattle.office_books.specs.Meters.{entry_at}
 use Rattle.office_core.specs.Refusing.Spots.{IsJudgedAs}
 use Rattle.office_core.proofs.RefusingLemmas.Judging.{judged_near, judged_itself}
 use Rattle.office_core.proofs.refusing.voids.entry_of.Goals as goal

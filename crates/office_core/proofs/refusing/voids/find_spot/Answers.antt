@@ -1,5 +1,5 @@
 use Rattle.std.proofs.Common.{◌≤◌, List, ℕ, Option, sym, subst, ◌∙◌, arith}
-use Rattle.office_rules.specs.Meters.{entry_at}
+use Rattle.office_books.specs.Meters.{entry_at}
 use Rattle.office_core.specs.Refusing.Spots.{IsAt, IsJudgedAs}
 use Rattle.office_core.specs.declared.refusing.voids.Spot.TheVariants as spot
 use Rattle.office_core.proofs.RefusingLemmas.Places.{nothing_at_0, opening_at_1, nothing_at, entry_at_place}

@@ -1,8 +1,8 @@
 use Rattle.std.proofs.Common.{rules, ◌∙◌, ◌≢◌, Err, ap, drop, sym, take}
-use Rattle.http_answer.specs.declared.commands.fault.CommandFault.TheVariants.{Memory}
-use Rattle.http_request.specs.HeadTests.{start_at}
-use Rattle.http_request.specs.Tests.{post_headers_of}
-use Rattle.http_answer.specs.Replies.{asked_with}
+use Rattle.http_messages.specs.declared.commands.fault.CommandFault.TheVariants.{Memory}
+use Rattle.http_messages.specs.HeadTests.{start_at}
+use Rattle.http_messages.specs.Tests.{post_headers_of}
+use Rattle.http_messages.specs.Replies.{asked_with}
 use Rattle.office_http.proofs.WantsLemmas.Outcomes.{a_command, found_out, kept_same, no_command}
 use Rattle.office_http.proofs.wants.requests.wanted_command.Goals as goal
 

@@ -1,6 +1,6 @@
 use Rattle.std.proofs.Common.{sym, ◌∙◌}
 use Rattle.office_core.specs.Taking.{failures_of}
-use Rattle.office_rounds.specs.Rounds.{round_state}
+use Rattle.office_program.specs.Rounds.{round_state}
 use Rattle.office_program.proofs.EnteringLemmas.Asked.{doubted, undecided, undoubted}
 use Rattle.office_program.proofs.EnteringLemmas.Doubts.{reported_so, reported_why}
 use Rattle.office_program.proofs.entering.asking.ask.Goals as goal

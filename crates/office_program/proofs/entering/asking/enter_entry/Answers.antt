@@ -1,5 +1,5 @@
 use Rattle.std.proofs.Common.{refl}
-use Rattle.office_rounds.specs.Between.{desk_of}
+use Rattle.office_program.specs.Between.{desk_of}
 use Rattle.office_program.specs.Entering.Lines.{reporting_of}
 use Rattle.office_program.proofs.EnteringLemmas.Asked.{asked_come, faulty}
 use Rattle.office_program.proofs.entering.asking.enter_entry.Goals as goal

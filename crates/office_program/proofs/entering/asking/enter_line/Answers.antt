@@ -1,6 +1,6 @@
 use Rattle.std.proofs.Common.{refl}
 use Rattle.command_io.specs.Lines.{seen_line}
-use Rattle.office_rounds.specs.Between.{desk_of}
+use Rattle.office_program.specs.Between.{desk_of}
 use Rattle.office_program.specs.Entering.Lines.{reporting_of}
 use Rattle.office_program.proofs.EnteringLemmas.Asked.{line_cut, line_faulty, line_taken}
 use Rattle.office_program.proofs.entering.asking.enter_line.Goals as goal

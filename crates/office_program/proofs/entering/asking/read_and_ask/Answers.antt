@@ -1,6 +1,6 @@
 use Rattle.std.proofs.Common.{◌≡◌, Option, Ok, None, Some, subst, ◌∙◌}
 use Rattle.office_core.specs.Taking.{failures_of}
-use Rattle.office_rounds.specs.Rounds.{RoundState, round_state}
+use Rattle.office_program.specs.Rounds.{RoundState, round_state}
 use Rattle.office_program.specs.Entering.Asking.{HasAsked}
 use Rattle.office_program.specs.Entering.Lines.{reporting_of}
 use Rattle.office_program.proofs.EnteringLemmas.Asked.{read_come, unknown, unread}

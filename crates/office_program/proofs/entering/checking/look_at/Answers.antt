@@ -1,5 +1,5 @@
 use Rattle.std.proofs.Common.{Err, pos, refl, subst}
-use Rattle.script_lines.specs.declared.line_fault.LineFault.{LineFault}
+use Rattle.script_text.specs.declared.line_fault.LineFault.{LineFault}
 use Rattle.office_program.specs.declared.entering.entries.Entry.{Entry}
 use Rattle.office_program.specs.declared.entering.entries.Entry.TheVariants.{Ask, Read}
 use Rattle.office_program.specs.Entering.Lines.{IsEntry, ReadsEntry, reporting_of}

@@ -1,7 +1,7 @@
 use Rattle.std.proofs.Common.{◌≡◌, inl, inr, refl, false, not, List, ℕ, Ok, ap, sym, ◌∙◌}
 use Rattle.std.specs.Prelude.{is_some}
 use Rattle.std.specs.Option.{option_and_then}
-use Rattle.office_rules.specs.History.{corrected_at, facts_of}
+use Rattle.office_books.specs.History.{corrected_at, facts_of}
 use Rattle.office_books.specs.Repeats.{repeat_of}
 use Rattle.office_program.specs.Entering.Doubts.{doubted_in}
 use Rattle.office_program.specs.Entering.Marks.{is_marked}

@@ -1,5 +1,5 @@
 use Rattle.std.proofs.Common.{inl, inr, Ok, ap, sym, ◌∙◌}
-use Rattle.office_rules.specs.History.{facts_of}
+use Rattle.office_books.specs.History.{facts_of}
 use Rattle.office_program.proofs.EnteringLemmas.Doubts.{found_doubt, no_doubt_there, row_failed, row_found, row_missing, sound_there}
 use Rattle.office_program.proofs.entering.doubts.doubted_in.Goals as goal
 

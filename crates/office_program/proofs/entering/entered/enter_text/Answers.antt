@@ -1,6 +1,6 @@
 use Rattle.std.proofs.Common.{refl, ◌∙◌}
 use Rattle.command_io.specs.Lines.{seen_line, speaking_lines}
-use Rattle.office_rounds.specs.Between.{desk_of}
+use Rattle.office_program.specs.Between.{desk_of}
 use Rattle.office_program.specs.Entering.Course.{history_with}
 use Rattle.office_program.specs.Entering.Lines.{reporting_of}
 use Rattle.office_program.proofs.EnteringLemmas.Course.{begins, ends_early, ends_whole, one_more}

@@ -1,8 +1,8 @@
 use Rattle.std.proofs.Common.{length}
 use Rattle.command_io.specs.Lines.{speaking_lines}
 use Rattle.office_core.specs.Standing.{After}
-use Rattle.office_rounds.specs.Between.{desk_of}
-use Rattle.office_rounds.specs.Passing.{Lasts}
+use Rattle.office_program.specs.Between.{desk_of}
+use Rattle.office_program.specs.Passing.{Lasts}
 use Rattle.office_program.specs.Entering.Lines.{reporting_of}
 use Rattle.office_program.proofs.EnteringLemmas.Course.{Underway}
 use Rattle.office_program.proofs.entering.entered.enter_text.Given as goal

@@ -1,6 +1,6 @@
 use Rattle.std.proofs.Common.{sym}
 use Rattle.office_program.specs.Entering.FileLines.{seen_line}
-use Rattle.script_lines.specs.LineWords.Words.{words_of}
+use Rattle.script_text.specs.LineWords.Words.{words_of}
 use Rattle.office_program.specs.Entering.Lines.{reporting_of}
 use Rattle.office_program.proofs.EnteringLemmas.Entries.{named_reads, unnamed_reads}
 use Rattle.office_program.proofs.EnteringLemmas.FileWords.{none_of, spelled_of}

@@ -1,8 +1,8 @@
 use Rattle.std.proofs.Common.{Bool, Err, List, ℕ, Result, ap, subst, ◌∙◌}
-use Rattle.script_lines.specs.LineWords.Words.{words_of}
-use Rattle.script_lines.specs.Seen.{IsOnly, Reads}
-use Rattle.script_lines.specs.declared.line_fault.LineFault.{LineFault}
-use Rattle.script_lines.specs.declared.script.ScriptLine.{ScriptLine}
+use Rattle.script_text.specs.LineWords.Words.{words_of}
+use Rattle.script_text.specs.Seen.{IsOnly, Reads}
+use Rattle.script_text.specs.declared.line_fault.LineFault.{LineFault}
+use Rattle.script_text.specs.declared.script.ScriptLine.{ScriptLine}
 use Rattle.office_program.specs.Entering.Lines.{wanted_in}
 use Rattle.office_program.proofs.EnteringLemmas.Entries.{no_script, script_reads}
 use Rattle.office_program.proofs.entering.entries.script_entry.Goals as goal

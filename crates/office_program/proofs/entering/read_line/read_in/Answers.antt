@@ -1,5 +1,5 @@
 use Rattle.std.proofs.Common.{List, ℕ, Bool, ap, sym, ◌∙◌}
-use Rattle.script_lines.specs.LineWords.Words.{words_of}
+use Rattle.script_text.specs.LineWords.Words.{words_of}
 use Rattle.office_program.specs.Entering.ReadLines.{may_end, read_said}
 use Rattle.office_program.proofs.EnteringLemmas.ReadWords.{may_not, no_read, read_so}
 use Rattle.office_program.proofs.entering.read_line.read_in.Goals as goal

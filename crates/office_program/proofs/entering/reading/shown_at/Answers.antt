@@ -1,5 +1,5 @@
 use Rattle.std.proofs.Common.{inl, inr}
-use Rattle.office_rules.specs.History.{facts_of}
+use Rattle.office_books.specs.History.{facts_of}
 use Rattle.office_program.specs.Entering.Lines.{reporting_of}
 use Rattle.office_program.proofs.EnteringLemmas.Doubts.{row_failed, row_found, row_missing}
 use Rattle.office_program.proofs.EnteringLemmas.Reading.{counter_reported}

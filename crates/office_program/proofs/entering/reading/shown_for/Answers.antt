@@ -1,6 +1,6 @@
 use Rattle.std.proofs.Common.{◌≡◌, inl, List, ℕ, Option, ap, sym, ◌∙◌}
 use Rattle.std.specs.Option.{option_and_then}
-use Rattle.office_rules.specs.History.{facts_of}
+use Rattle.office_books.specs.History.{facts_of}
 use Rattle.office_books.specs.Repeats.{repeat_of}
 use Rattle.office_program.specs.Entering.Lines.{reporting_of}
 use Rattle.office_program.proofs.EnteringLemmas.Doubts.{row_failed, row_found, row_missing}

@@ -1,5 +1,5 @@
 use Rattle.office_store.proofs.BookingsLemmas.Booking.{not_begun, some_facts}
-use Rattle.store_facts.proofs.Committed.{books}
+use Rattle.office_store.proofs.Committed.{books}
 use Rattle.office_store.proofs.bookings.books.book_facts.Goals as goal
 
 pub returns-in_err-check_open-clause-books : goal.returns-in_err-check_open-clause-books

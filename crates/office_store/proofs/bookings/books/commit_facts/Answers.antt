@@ -1,9 +1,9 @@
 use Rattle.std.proofs.Common.{◌≡◌, Ok, Err, subst, rules}
 use Rattle.sqlite.specs.Held.{state}
 use Rattle.store_tables.specs.declared.faults.RowFault.{RowFault}
-use Rattle.store_facts.specs.Going.{Commits}
-use Rattle.store_facts.specs.Recording.{RecordsAll}
-use Rattle.store_facts.proofs.GoingLemmas.{committed}
+use Rattle.office_store.specs.Going.{Commits}
+use Rattle.office_store.specs.Recording.{RecordsAll}
+use Rattle.office_store.proofs.GoingLemmas.{committed}
 use Rattle.office_store.proofs.BookingsLemmas.Booking.{commit_done, commit_failed, left_off}
 use Rattle.office_store.proofs.bookings.books.commit_facts.Goals as goal
 

@@ -1,6 +1,6 @@
 use Rattle.std.proofs.Common.{◌∙◌, refl, take}
 use Rattle.sqlite.specs.Held.{state}
-use Rattle.store_facts.specs.Recording.{Records, RecordsAll}
+use Rattle.office_store.specs.Recording.{Records, RecordsAll}
 use Rattle.office_store.proofs.BookingsLemmas.Leaving.{broken}
 use Rattle.office_store.proofs.BookingsLemmas.Booking.{begun, came}
 use Rattle.office_store.proofs.bookings.books.enter_facts.Goals as goal

@@ -1,8 +1,8 @@
 use Rattle.std.proofs.Common.{◌≡◌, take, Ok}
 use Rattle.sqlite.specs.Held.{state}
 use Rattle.store_tables.specs.declared.faults.RowFault.{RowFault}
-use Rattle.store_facts.specs.Going.{Goes}
-use Rattle.store_facts.specs.Recording.{RecordsAll}
+use Rattle.office_store.specs.Going.{Goes}
+use Rattle.office_store.specs.Recording.{RecordsAll}
 use Rattle.office_store.proofs.bookings.books.enter_facts.Given as goal
 
 abbrev pub invariant-loop-fact : goal.invariant-loop-fact

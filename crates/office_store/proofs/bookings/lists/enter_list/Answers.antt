@@ -1,9 +1,9 @@
 use Rattle.std.proofs.Common.{ap, map, ◌∙◌}
 use Rattle.sqlite.specs.Held.{state}
 use Rattle.office_events.specs.declared.facts.Fact.TheVariants as fact
-use Rattle.store_devices.specs.Devices.Rows.{listed_at}
-use Rattle.store_facts.specs.Rows.{placed_on, listed}
-use Rattle.store_facts.specs.Recording.{Records}
+use Rattle.store_tables.specs.Devices.Rows.{listed_at}
+use Rattle.office_store.specs.Rows.{placed_on, listed}
+use Rattle.office_store.specs.Recording.{Records}
 use Rattle.office_store.proofs.BookingsLemmas.Leaving.{completed_alone}
 use Rattle.office_store.proofs.BookingsLemmas.Entering.{PutsList, list_entered}
 use Rattle.office_store.proofs.bookings.lists.enter_list.Goals as goal

@@ -1,8 +1,8 @@
 use Rattle.std.proofs.Common.{Ok}
 use Rattle.sqlite.specs.Held.{state}
 use Rattle.interval_core.specs.Share.{shares_of}
-use Rattle.store_facts.specs.Intervals.StepShares.{BooksShares}
-use Rattle.store_facts.proofs.GoingLemmas.{goes_then, of_steps}
+use Rattle.office_store.specs.Intervals.StepShares.{BooksShares}
+use Rattle.office_store.proofs.GoingLemmas.{goes_then, of_steps}
 use Rattle.sqlite.specs.declared.error.Error.{Error}
 use Rattle.office_store.specs.Bookings.MeterState.{EntersEntry, Settles}
 use Rattle.office_store.proofs.BookingsLemmas.Installing.{AddsEntry}

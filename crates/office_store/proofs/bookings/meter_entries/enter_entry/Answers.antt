@@ -1,7 +1,7 @@
 use Rattle.sqlite.specs.Held.{state}
 use Rattle.office_events.specs.declared.facts.Fact.TheVariants as fact
-use Rattle.store_facts.specs.Recording.{Records}
-use Rattle.store_facts.proofs.GoingLemmas.{goes_then}
+use Rattle.office_store.specs.Recording.{Records}
+use Rattle.office_store.proofs.GoingLemmas.{goes_then}
 use Rattle.office_store.specs.Bookings.MeterState.{IsStanding, EntersEntry}
 use Rattle.office_store.proofs.BookingsLemmas.Leaving.{turned_down}
 use Rattle.office_store.proofs.BookingsLemmas.Moves.{entry_booked}

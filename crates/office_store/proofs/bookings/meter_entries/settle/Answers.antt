@@ -5,8 +5,8 @@ use Rattle.store_tables.specs.declared.faults.RowFault.{RowFault}
 use Rattle.store_tables.specs.Content.{Edits, changed_where}
 use Rattle.store_tables.specs.Meters.Trees as meter_tree
 use Rattle.store_tables.specs.Meters.Rows.{installed_columns, is_meter, moved, ended}
-use Rattle.store_facts.specs.Going.{Goes}
-use Rattle.store_facts.proofs.GoingLemmas.{of_steps}
+use Rattle.office_store.specs.Going.{Goes}
+use Rattle.office_store.proofs.GoingLemmas.{of_steps}
 use Rattle.office_store.specs.Bookings.MeterState.{Settles}
 use Rattle.office_store.proofs.BookingsLemmas.Leaving.{completed, completed_alone}
 use Rattle.office_store.proofs.BookingsLemmas.Moves.{settles_closed}

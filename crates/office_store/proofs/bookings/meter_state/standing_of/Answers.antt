@@ -4,13 +4,13 @@ use Rattle.store_tables.specs.Entries.Trees as entry_tree
 use Rattle.store_tables.specs.Entries.Rows.{entry_columns, entry_place, is_of}
 use Rattle.store_tables.specs.Meters.Trees as meter_tree
 use Rattle.store_tables.specs.Meters.Rows.{installed_columns, ranged_columns, is_meter, is_range_of, HasRange}
-use Rattle.store_facts.specs.Recording.{IsNext}
+use Rattle.office_store.specs.Recording.{IsNext}
 use Rattle.office_store.specs.Bookings.Places.{IsSeenIn, StandsThere}
 use Rattle.office_store.specs.Bookings.MeterState.{IsStanding}
 use Rattle.office_store.specs.declared.bookings.meter_state.Standing.{Standing}
 use Rattle.office_store.proofs.BookingsLemmas.Leaving.{Then, broken}
 use Rattle.office_store.proofs.BookingsLemmas.Moves.{stands}
-use Rattle.store_facts.proofs.GoingLemmas.{goes_then, reported_less}
+use Rattle.office_store.proofs.GoingLemmas.{goes_then, reported_less}
 use Rattle.office_store.proofs.bookings.meter_state.standing_of.Goals as goal
 
 pub returns-in_err-last-clause-does : goal.returns-in_err-last-clause-does

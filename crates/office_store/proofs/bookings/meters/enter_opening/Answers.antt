@@ -1,6 +1,6 @@
 use Rattle.sqlite.specs.Held.{state}
 use Rattle.office_events.specs.declared.facts.Fact.TheVariants as fact
-use Rattle.store_facts.specs.Recording.{Records}
+use Rattle.office_store.specs.Recording.{Records}
 use Rattle.office_store.proofs.BookingsLemmas.Leaving.{stopped, completed, went_on, Then}
 use Rattle.office_store.proofs.BookingsLemmas.Installing.{AddsInstallation, AddsRange, AddsEntry, IsNextInstallation, opening_entered}
 use Rattle.office_store.proofs.bookings.meters.enter_opening.Goals as goal

@@ -1,7 +1,7 @@
 use Rattle.std.proofs.Common.{ap, ◌∙◌}
 use Rattle.store_tables.specs.Answer.{every}
-use Rattle.store_devices.specs.Devices.Rows.{register_columns, register_place}
-use Rattle.store_devices.specs.Devices.Trees as tree
+use Rattle.store_tables.specs.Devices.Rows.{register_columns, register_place}
+use Rattle.store_tables.specs.Devices.Trees as tree
 use Rattle.office_store.specs.Bookings.Places.{next_in}
 use Rattle.office_store.proofs.BookingsLemmas.Leaving.{no_answer}
 use Rattle.office_store.proofs.BookingsLemmas.NextPlaces.{next_reported}

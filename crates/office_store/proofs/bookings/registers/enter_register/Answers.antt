@@ -1,6 +1,6 @@
 use Rattle.sqlite.specs.Held.{state}
 use Rattle.office_events.specs.declared.facts.Fact.TheVariants as fact
-use Rattle.store_facts.specs.Recording.{Records}
+use Rattle.office_store.specs.Recording.{Records}
 use Rattle.office_store.proofs.BookingsLemmas.Leaving.{stopped, completed}
 use Rattle.office_store.proofs.BookingsLemmas.Entering.{AddsRegister, IsNextRegister, register_entered}
 use Rattle.office_store.proofs.bookings.registers.enter_register.Goals as goal

@@ -1,6 +1,6 @@
 use Rattle.std.proofs.Common.{Ok}
 use Rattle.sqlite.specs.Held.{state}
-use Rattle.store_facts.proofs.GoingLemmas.{goes_then, reported_less}
+use Rattle.office_store.proofs.GoingLemmas.{goes_then, reported_less}
 use Rattle.office_store.specs.declared.bookings.surroundings.Neighbours.{Neighbours}
 use Rattle.office_store.specs.Bookings.Surroundings.{FindsEntry, FindsBefore, FindsAfter, AreNear}
 use Rattle.office_store.proofs.BookingsLemmas.Finding.{nearby}

@@ -1,6 +1,6 @@
 use Rattle.sqlite.specs.Held.{state}
 use Rattle.store_tables.specs.declared.faults.RowFault.{RowFault}
-use Rattle.store_facts.proofs.GoingLemmas.{reported_less}
+use Rattle.office_store.proofs.GoingLemmas.{reported_less}
 use Rattle.std.proofs.Common.{refl}
 use Rattle.office_store.specs.Bookings.Surroundings.{FindsEntry, OpenedAt}
 use Rattle.office_store.proofs.bookings.surroundings.opened_at.Goals as goal

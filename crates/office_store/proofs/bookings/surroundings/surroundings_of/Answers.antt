@@ -1,6 +1,6 @@
 use Rattle.std.proofs.Common.{Ok}
 use Rattle.sqlite.specs.Held.{state}
-use Rattle.store_facts.proofs.GoingLemmas.{goes_then, reported_less}
+use Rattle.office_store.proofs.GoingLemmas.{goes_then, reported_less}
 use Rattle.office_store.specs.declared.bookings.surroundings.Surroundings.{Surroundings}
 use Rattle.office_store.specs.Bookings.MeterState.{IsStanding}
 use Rattle.office_store.specs.Bookings.Surroundings.{OpenedAt, AreNear, IsAround}

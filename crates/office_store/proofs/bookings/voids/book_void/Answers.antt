@@ -1,7 +1,7 @@
 use Rattle.std.proofs.Common.{Ok, false}
 use Rattle.sqlite.specs.Held.{state}
 use Rattle.store_tables.specs.declared.faults.RowFault.{RowFault}
-use Rattle.store_facts.proofs.GoingLemmas.{goes_then}
+use Rattle.office_store.proofs.GoingLemmas.{goes_then}
 use Rattle.office_store.specs.Bookings.MeterState.{Settles}
 use Rattle.office_store.specs.Bookings.Voids.{MarksVoid, ExchangesRows, EntersVoid}
 use Rattle.office_store.proofs.BookingsLemmas.Leaving.{Then, broken}

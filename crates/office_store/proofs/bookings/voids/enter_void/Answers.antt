@@ -1,8 +1,8 @@
 use Rattle.std.proofs.Common.{arith}
 use Rattle.sqlite.specs.Held.{state}
 use Rattle.office_events.specs.declared.facts.Fact.TheVariants as fact
-use Rattle.store_facts.specs.Recording.{Records}
-use Rattle.store_facts.proofs.GoingLemmas.{goes_then}
+use Rattle.office_store.specs.Recording.{Records}
+use Rattle.office_store.proofs.GoingLemmas.{goes_then}
 use Rattle.office_store.specs.Bookings.Surroundings.{IsAround}
 use Rattle.office_store.specs.Bookings.Voids.{EntersVoid}
 use Rattle.office_store.proofs.BookingsLemmas.Leaving.{turned_down}

@@ -1,8 +1,8 @@
 use Rattle.std.proofs.Common.{Ok}
 use Rattle.sqlite.specs.Held.{state}
 use Rattle.store_tables.specs.declared.faults.RowFault.{RowFault}
-use Rattle.store_facts.proofs.GoingLemmas.{goes_then}
-use Rattle.store_facts.specs.Voids.Withdrawal.{DropsRows}
+use Rattle.office_store.proofs.GoingLemmas.{goes_then}
+use Rattle.office_store.specs.Voids.Withdrawal.{DropsRows}
 use Rattle.office_store.specs.Bookings.Voids.{TakesSteps, PutsNext, ExchangesRows}
 use Rattle.office_store.proofs.BookingsLemmas.Leaving.{Then, broken, stopped, completed}
 use Rattle.office_store.proofs.bookings.voids.exchange_rows.Goals as goal

@@ -4,7 +4,7 @@ use Rattle.sqlite.specs.Held.{state}
 use Rattle.store_tables.specs.Content.{Edits, with_row}
 use Rattle.store_tables.specs.Entries.Trees.{voids}
 use Rattle.store_tables.specs.Entries.Rows.{voided_at, voided_columns}
-use Rattle.store_facts.proofs.GoingLemmas.{goes_then, of_steps}
+use Rattle.office_store.proofs.GoingLemmas.{goes_then, of_steps}
 use Rattle.office_store.specs.Bookings.Voids.{RollsNext, MarksVoid}
 use Rattle.office_store.proofs.bookings.voids.mark_void.Goals as goal
 

@@ -1,7 +1,7 @@
 use Rattle.sqlite.specs.Held.{state}
 use Rattle.interval_core.specs.Share.{shares_of}
 use Rattle.store_tables.specs.declared.faults.RowFault.{RowFault}
-use Rattle.store_facts.specs.Voids.Withdrawal.{TakesShares}
+use Rattle.office_store.specs.Voids.Withdrawal.{TakesShares}
 use Rattle.office_store.specs.Bookings.Voids.{TakesNext, TakesSteps}
 use Rattle.office_store.proofs.BookingsLemmas.Leaving.{stopped, completed}
 use Rattle.office_store.proofs.bookings.voids.take_steps.Goals as goal

@@ -1,7 +1,7 @@
 use Rattle.std.proofs.Common.{[]}
 use Rattle.std.specs.Prelude.{Option, IfSome}
 use Rattle.office_events.specs.declared.questions.Installation.{Installation}
-use Rattle.office_rules.specs.Ranges.{IsSound}
+use Rattle.office_books.specs.Ranges.{IsSound}
 use Rattle.office_store.proofs.Looking.{finds, reads, sound}
 use Rattle.office_store.proofs.tables.SqlBooksBooks.installation.Goals as goal
 

@@ -1,6 +1,6 @@
 use Rattle.office_core.specs.Standing.{Stands}
 use Rattle.memory_books.specs.Listed.{ledger_of}
-use Rattle.office_rules.specs.History.{History}
+use Rattle.office_books.specs.History.{History}
 use Rattle.script_run.proofs.LoopingLemmas.Feeding.{FedSoFar}
 use Rattle.script_run.proofs.looping.answers.feed_answers.Given as goal
 

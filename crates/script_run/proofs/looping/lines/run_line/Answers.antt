@@ -1,6 +1,6 @@
 use Rattle.std.proofs.Common.{inl, inr}
 use Rattle.std.proofs.KnownBytes.{Appends-nil}
-use Rattle.script_lines.specs.LineWords.Words.{words_of}
+use Rattle.script_text.specs.LineWords.Words.{words_of}
 use Rattle.script_run.specs.Looping.Lines.{AreWrong, BankPrints, MayNotStand, SaidPrints, SaysBytes, WordsPrint}
 use Rattle.script_run.proofs.LoopingLemmas.Carrying.{runs_as}
 use Rattle.script_run.proofs.looping.lines.run_line.Goals as goal

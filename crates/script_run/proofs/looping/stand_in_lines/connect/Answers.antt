@@ -2,7 +2,7 @@ use Rattle.std.proofs.Common.{inl, ◌∙◌, ap, refl}
 use Rattle.std.proofs.KnownBytes.{Appends-nil}
 use Rattle.std.specs.Prelude.{Ok, Err}
 use Rattle.office_events.specs.declared.events.Event.TheVariants as event
-use Rattle.office_rules.specs.Notes.{notes_after}
+use Rattle.office_books.specs.Notes.{notes_after}
 use Rattle.script_run.specs.Replaying.Events.{EventPrints}
 use Rattle.script_text.specs.AnswerText.{accepted_text, refused_line}
 use Rattle.script_run.proofs.LoopingLemmas.Breaking.{breaks}

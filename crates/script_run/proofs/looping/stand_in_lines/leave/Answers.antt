@@ -1,6 +1,6 @@
 use Rattle.std.proofs.Common.{◌∙◌, ap, refl}
 use Rattle.std.specs.Prelude.{Ok, Err}
-use Rattle.office_rules.specs.Notes.{notes_after}
+use Rattle.office_books.specs.Notes.{notes_after}
 use Rattle.script_run.specs.Replaying.Events.{EventPrints}
 use Rattle.script_text.specs.AnswerText.{accepted_text, refused_line}
 use Rattle.script_run.proofs.LoopingLemmas.Carrying.{writing}

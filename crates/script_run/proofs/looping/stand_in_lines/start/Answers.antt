@@ -2,7 +2,7 @@ use Rattle.std.proofs.Common.{List, ℕ, ◌∙◌, ap, subst}
 use Rattle.std.specs.Io.KnownBytes.{Appends}
 use Rattle.sun_points.specs.Writing.{GotPart}
 use Rattle.std.specs.Prelude.{Ok, Err}
-use Rattle.office_rules.specs.Notes.{notes_after}
+use Rattle.office_books.specs.Notes.{notes_after}
 use Rattle.script_text.specs.AnswerText.{accepted_text, refused_line}
 use Rattle.script_run.specs.Looping.Lines.{StartsPrint}
 use Rattle.script_run.specs.Looping.Standings.{loop_state}

@@ -1,5 +1,5 @@
 use Rattle.command_io.specs.Lines.{seen_line, speaking_lines}
-use Rattle.script_lines.specs.LineWords.Words.{words_of}
+use Rattle.script_text.specs.LineWords.Words.{words_of}
 use Rattle.script_run.specs.Looping.Lines.{AreWrong, WordsPrint}
 use Rattle.script_run.specs.Looping.Standings.{loop_state, stage_on}
 use Rattle.script_run.proofs.LoopingLemmas.Carrying.{line_done, line_wrong}

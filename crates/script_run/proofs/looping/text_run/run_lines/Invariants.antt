@@ -2,7 +2,7 @@ use Rattle.std.proofs.Common.{length}
 use Rattle.command_io.specs.Lines.{speaking_lines}
 use Rattle.office_core.specs.Standing.{Stands}
 use Rattle.memory_books.specs.Listed.{ledger_of}
-use Rattle.office_rules.specs.History.{History}
+use Rattle.office_books.specs.History.{History}
 use Rattle.script_run.specs.Looping.Standings.{loop_state, stage_on}
 use Rattle.script_run.proofs.LoopingLemmas.Loops.{Ran}
 use Rattle.script_run.proofs.looping.text_run.run_lines.Given as goal

@@ -1,5 +1,5 @@
 use Rattle.std.proofs.Common.{[], ◌∷◌, ◌∙◌, refl}
-use Rattle.office_rules.specs.History.{Opened}
+use Rattle.office_books.specs.History.{Opened}
 use Rattle.script_run.proofs.ReplayingLemmas.Replies.{same_stage}
 use Rattle.script_run.proofs.ReplayingLemmas.Scripts.{empty_books, refused_for_memory}
 use Rattle.script_run.proofs.LoopingLemmas.Loops.{not_opened, text_from}

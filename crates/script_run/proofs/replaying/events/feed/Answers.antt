@@ -1,6 +1,6 @@
 use Rattle.std.proofs.Common.{◌∙◌, ap}
 use Rattle.std.specs.Prelude.{Ok}
-use Rattle.office_rules.specs.Notes.{notes_after}
+use Rattle.office_books.specs.Notes.{notes_after}
 use Rattle.script_text.specs.AnswerText.{accepted_text}
 use Rattle.script_text.proofs.Got.{got_this}
 use Rattle.script_run.proofs.ReplayingLemmas.Replies.{replied}

@@ -1,6 +1,6 @@
-use Rattle.script_lines.specs.Forms.{IsLine}
-use Rattle.script_lines.specs.declared.script.ScriptLine.{ScriptLine}
-use Rattle.script_lines.specs.LineWords.Words.{words_of}
+use Rattle.script_text.specs.Forms.{IsLine}
+use Rattle.script_text.specs.declared.script.ScriptLine.{ScriptLine}
+use Rattle.script_text.specs.LineWords.Words.{words_of}
 use Rattle.script_run.proofs.ReplayingLemmas.Scripts.{bad_broken, line_broken, line_ran}
 use Rattle.script_run.proofs.replaying.lines.run_line.Goals as goal
 

@@ -1,7 +1,7 @@
 use Rattle.std.proofs.Common.{List, ℕ}
 use Rattle.std.specs.Option.{option_and_then}
-use Rattle.office_rules.specs.History.{facts_of}
-use Rattle.office_rules.specs.Meters.{meter_of}
+use Rattle.office_books.specs.History.{facts_of}
+use Rattle.office_books.specs.Meters.{meter_of}
 use Rattle.script_text.specs.AnswerText.{meter_line}
 use Rattle.script_run.proofs.ReplayingLemmas.Reported.{row_reported}
 use Rattle.script_run.proofs.replaying.questions.append_meter_lines.Goals as goal

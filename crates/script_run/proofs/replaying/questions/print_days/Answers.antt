@@ -1,8 +1,8 @@
 use Rattle.std.proofs.Common.{◌≡◌, Some, rules}
 use Rattle.std.specs.declared.io.Error.{Error}
-use Rattle.office_rules.specs.History.{facts_of}
+use Rattle.office_books.specs.History.{facts_of}
 use Rattle.std.specs.Option.{option_and_then}
-use Rattle.office_rules.specs.Facts.{register_of}
+use Rattle.office_books.specs.Facts.{register_of}
 use Rattle.office_core.specs.Asking.{is_there}
 use Rattle.script_run.specs.Replaying.TextRun.{stage_of}
 use Rattle.script_text.specs.RowLines.Rows.{day_line}

@@ -1,6 +1,6 @@
 use Rattle.std.proofs.Common.{◌≡◌, rules}
 use Rattle.std.specs.declared.io.Error.{Error}
-use Rattle.office_rules.specs.History.{facts_of}
+use Rattle.office_books.specs.History.{facts_of}
 use Rattle.office_core.specs.Asking.{intervals_of, is_there}
 use Rattle.script_text.specs.RowLines.Rows.{share_line}
 use Rattle.script_run.specs.Replaying.Asked.{AreIntervals, last_line}

@@ -1,5 +1,5 @@
-use Rattle.office_rules.specs.History.{facts_of}
-use Rattle.office_rules.specs.Readings.{poll_row_of}
+use Rattle.office_books.specs.History.{facts_of}
+use Rattle.office_books.specs.Readings.{poll_row_of}
 use Rattle.script_text.specs.AnswerText.{poll_line}
 use Rattle.script_run.proofs.ReplayingLemmas.Reported.{row_reported}
 use Rattle.script_run.proofs.replaying.questions.print_poll.Goals as goal

@@ -1,7 +1,7 @@
 use Rattle.std.proofs.Common.{[], ◌∷◌, ◌++◌, inl, inr, refl, sym, ap, ◌∙◌}
 use Rattle.std.proofs.KnownBytes.{Appends-nil, Appends-trans}
 use Rattle.command_io.specs.Lines.{seen_line, speaking_lines}
-use Rattle.office_rules.specs.History.{Opened}
+use Rattle.office_books.specs.History.{Opened}
 use Rattle.script_text.specs.AnswerText.{refused_line}
 use Rattle.script_run.specs.Replaying.TextRun.{stage_of}
 use Rattle.script_run.proofs.ReplayingLemmas.Replies.{same_stage}

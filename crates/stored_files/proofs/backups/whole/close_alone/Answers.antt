@@ -1,4 +1,4 @@
-use Rattle.office_rules.specs.History.{facts_of}
+use Rattle.office_books.specs.History.{facts_of}
 use Rattle.office_store.proofs.LawsLemmas.Found.{found_files_keep_theirs}
 use Rattle.stored_files.proofs.backups.whole.close_alone.Goals as goal
 

@@ -1,5 +1,5 @@
 use Rattle.std.proofs.Common.{◌∙◌}
-use Rattle.office_rules.specs.History.{facts_of}
+use Rattle.office_books.specs.History.{facts_of}
 use Rattle.stored_files.proofs.CarriesLemmas.GoingOn.{carried_into, is_reported, still_has}
 use Rattle.stored_files.proofs.carries.stored.carry_stored.Goals as goal
 

@@ -1,6 +1,6 @@
 use Rattle.std.proofs.Common.{◌∙◌, sym, ap}
 use Rattle.sqlite.specs.Order.{column}
-use Rattle.store_files.specs.Upgrade.{text_in}
+use Rattle.store_tables.specs.Upgrade.{text_in}
 use Rattle.stored_files.proofs.carries.zones.zone_of.Goals as goal
 
 pub returns-in-Ok : goal.returns-in-Ok

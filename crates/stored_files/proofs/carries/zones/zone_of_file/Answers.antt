@@ -1,6 +1,6 @@
 use Rattle.std.proofs.Common.{◌∙◌, sym, subst}
 use Rattle.std.proofs.lemmas.Result.{IfOk-weaker}
-use Rattle.store_files.specs.Upgrade.{IsFile}
+use Rattle.store_tables.specs.Upgrade.{IsFile}
 use Rattle.stored_files.proofs.carries.zones.zone_of_file.Goals as goal
 
 pub returns-in-Ok-clause-reports : goal.returns-in-Ok-clause-reports

@@ -1,8 +1,8 @@
 use Rattle.std.proofs.Common.{◌∙◌, sym, subst}
 use Rattle.std.proofs.lemmas.Result.{IfOk-weaker}
 use Rattle.store_tables.specs.Content.{AreTablesIn}
-use Rattle.store_files.specs.Layouts.{schema_of, version_of}
-use Rattle.store_files.specs.Meta.{Meta}
+use Rattle.store_tables.specs.Layouts.{schema_of, version_of}
+use Rattle.store_tables.specs.Meta.{Meta}
 use Rattle.stored_files.proofs.carries.zones.zone_of_open.Goals as goal
 
 pub returns-in-Ok-clause-reports : goal.returns-in-Ok-clause-reports

@@ -2,7 +2,7 @@ use Rattle.std.proofs.Common.{[]}
 use Rattle.std.proofs.lemmas.Result.{IfOk-weaker}
 use Rattle.sqlite.specs.Held.{state}
 use Rattle.store_tables.proofs.StepLemmas.{plain_in, shown_same}
-use Rattle.store_files.specs.Layouts.{schema_of}
+use Rattle.store_tables.specs.Layouts.{schema_of}
 use Rattle.stored_files.proofs.CarriesLemmas.ZoneText as text
 use Rattle.stored_files.proofs.carries.zones.zone_rows.Goals as goal
 

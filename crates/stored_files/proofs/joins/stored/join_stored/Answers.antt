@@ -1,7 +1,7 @@
 use Rattle.std.proofs.Common.{ℕ, List, sym, subst, ◌∙◌}
 use Rattle.stored_files.specs.Joins.Stored.{IsOfZone, RefusesOffice}
 use Rattle.std.specs.Prelude.{IfErr, string_bytes}
-use Rattle.office_rules.specs.History.{facts_of}
+use Rattle.office_books.specs.History.{facts_of}
 use Rattle.stored_files.proofs.CarriesLemmas.GoingOn.{is_reported, still_has}
 use Rattle.stored_files.proofs.JoinsLemmas.Stored.{elsewhere, joins_office, refuses_office}
 use Rattle.stored_files.proofs.joins.stored.join_stored.Goals as goal

@@ -1,4 +1,4 @@
-use Rattle.office_rules.specs.History.{facts_of}
+use Rattle.office_books.specs.History.{facts_of}
 use Rattle.stored_office.proofs.Found.{over}
 use Rattle.stored_office.proofs.tasks.tasks.carry_out_stored.Goals as goal
 

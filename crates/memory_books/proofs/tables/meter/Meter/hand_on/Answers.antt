@@ -9,7 +9,7 @@ use Rattle.meter_journal.specs.Lists as lists
 use Rattle.office_books.specs.Rows.{TakesAll}
 use Rattle.office_events.specs.declared.facts.Opening.{Opening}
 use Rattle.office_events.specs.declared.questions.Installation.{Installation}
-use Rattle.office_rules.specs.Meters.{installed, rows_of}
+use Rattle.office_books.specs.Meters.{installed, rows_of}
 use Rattle.office_books.specs.Sound.{HasNumbers}
 use Rattle.memory_books.specs.Tables.IntervalRows.{TakesWithin}
 use Rattle.memory_books.proofs.TablesLemmas.Known.{known}

@@ -7,7 +7,7 @@ use Rattle.meter_journal.specs.Journal.{Around, entries_in, row_at}
 use Rattle.meter_journal.specs.Lists as lists
 use Rattle.office_events.specs.declared.facts.Opening.{Opening}
 use Rattle.office_events.specs.declared.questions.Installation.{Installation}
-use Rattle.office_rules.specs.Meters.{opened, installed, journal_of, rows_of, standing, is_ended, place_in}
+use Rattle.office_books.specs.Meters.{opened, installed, journal_of, rows_of, standing, is_ended, place_in}
 use Rattle.office_books.specs.Sound.{HasNumbers}
 use Rattle.memory_books.proofs.TablesLemmas.Known.{known}
 use Rattle.memory_books.proofs.TablesLemmas.Passing.{rows_numbered}

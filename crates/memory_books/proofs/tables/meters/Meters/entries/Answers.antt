@@ -3,7 +3,7 @@ use Rattle.std.specs.Prelude.{IfOk}
 use Rattle.office_events.specs.declared.facts.Opening.{Opening}
 use Rattle.office_books.specs.Entries.{entries_at, first_from}
 use Rattle.office_books.proofs.Listing.{none_listed}
-use Rattle.office_rules.specs.Facts.{opening_of}
+use Rattle.office_books.specs.Facts.{opening_of}
 use Rattle.memory_books.proofs.TablesLemmas.MetersComing.{none_at, stands_at}
 use Rattle.memory_books.proofs.tables.meters.Meters.entries.Goals as goal
 

@@ -2,9 +2,9 @@ use Rattle.std.proofs.Common.{◌∙◌, sym, ap}
 use Rattle.std.specs.Option.{option_map, option_and_then}
 use Rattle.meter_journal.specs.Journal.{row_at}
 use Rattle.office_events.specs.declared.facts.Opening.{Opening}
-use Rattle.office_rules.specs.Laws.{IsRecorded}
-use Rattle.office_rules.specs.Facts.{same, openings_in}
-use Rattle.office_rules.specs.Meters.{rows_of, place_in}
+use Rattle.office_books.specs.Laws.{IsRecorded}
+use Rattle.office_books.specs.Facts.{same, openings_in}
+use Rattle.office_books.specs.Meters.{rows_of, place_in}
 use Rattle.memory_books.proofs.TablesLemmas.Known.{found_is_there}
 use Rattle.memory_books.proofs.TablesLemmas.MetersComing.{stands_at}
 use Rattle.memory_books.proofs.tables.meters.Meters.entry.Goals as goal

@@ -2,9 +2,9 @@ use Rattle.std.proofs.Common.{List, sym, ap, subst}
 use Rattle.interval_core.specs.declared.shares.Share.{Share}
 use Rattle.office_books.specs.Rows.{TakesAll}
 use Rattle.office_events.specs.declared.facts.Opening.{Opening}
-use Rattle.office_rules.specs.Laws.{IsRecorded}
-use Rattle.office_rules.specs.Facts.{same, openings_in}
-use Rattle.office_rules.specs.Intervals.{rows_of_installed}
+use Rattle.office_books.specs.Laws.{IsRecorded}
+use Rattle.office_books.specs.Facts.{same, openings_in}
+use Rattle.office_books.specs.Intervals.{rows_of_installed}
 use Rattle.memory_books.specs.Tables.IntervalRows.{TakesWithin}
 use Rattle.memory_books.proofs.TablesLemmas.Known.{found_is_there}
 use Rattle.memory_books.proofs.TablesLemmas.MetersComing.{stands_at}

@@ -1,7 +1,7 @@
 use Rattle.std.proofs.Common.{◌∙◌, Some, sym, ap, subst, IsTrue, false}
 use Rattle.std.specs.Option.{option_map}
-use Rattle.office_rules.specs.Ranges.{IsSound}
-use Rattle.office_rules.specs.Meters.{installation_of}
+use Rattle.office_books.specs.Ranges.{IsSound}
+use Rattle.office_books.specs.Meters.{installation_of}
 use Rattle.office_events.specs.declared.questions.Installation.{Installation}
 use Rattle.memory_books.proofs.TablesLemmas.MetersComing.{stands_at, sound_so}
 use Rattle.memory_books.proofs.tables.meters.Meters.row.Goals as goal

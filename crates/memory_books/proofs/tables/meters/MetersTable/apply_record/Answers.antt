@@ -1,6 +1,6 @@
 use Rattle.std.proofs.Common.{◌∷◌, sym, subst}
 use Rattle.office_events.specs.declared.facts.Fact.{Fact}
-use Rattle.office_rules.specs.Lawful.{AreLawful}
+use Rattle.office_books.specs.Lawful.{AreLawful}
 use Rattle.memory_books.specs.Tables.Meters.{AreMeters}
 use Rattle.memory_books.proofs.TablesLemmas.PlacesComing.{on_ok_then, on_err_then}
 use Rattle.memory_books.proofs.TablesLemmas.MetersComing.{opening_comes, entry_comes, void_comes, hold_comes, same_meters}

@@ -1,8 +1,8 @@
 use Rattle.std.proofs.Common.{◌≡◌, ◌∷◌, [], ◌++◌, ◌∙◌, List, sym, ap, subst}
 use Rattle.office_events.specs.declared.facts.Fact.{Fact}
 use Rattle.office_events.specs.declared.facts.Poll.{Poll}
-use Rattle.office_rules.specs.Facts.{pending_in}
-use Rattle.office_rules.specs.Lawful.{AreLawful}
+use Rattle.office_books.specs.Facts.{pending_in}
+use Rattle.office_books.specs.Lawful.{AreLawful}
 use Rattle.memory_books.specs.Tables.Polls.{polls_but}
 use Rattle.memory_books.proofs.TablesLemmas.PollRows.{polls_wait, ends_pending}
 use Rattle.memory_books.proofs.tables.polls.PendingTable.apply_record.Goals as goal

@@ -1,9 +1,9 @@
 use Rattle.std.proofs.Common.{◌≡◌, ◌∷◌, [], ◌++◌, ◌∙◌, List, None, map, reverse, sym, ap, subst}
 use Rattle.office_events.specs.declared.facts.Fact.{Fact}
 use Rattle.office_events.specs.declared.questions.PollRow.{PollRow}
-use Rattle.office_rules.specs.Facts.{polls_in}
-use Rattle.office_rules.specs.Lawful.{AreLawful}
-use Rattle.office_rules.specs.Readings.{poll_row}
+use Rattle.office_books.specs.Facts.{polls_in}
+use Rattle.office_books.specs.Lawful.{AreLawful}
+use Rattle.office_books.specs.Readings.{poll_row}
 use Rattle.memory_books.proofs.TablesLemmas.PollRows.{row_so, poll_comes, end_comes}
 use Rattle.memory_books.proofs.tables.polls.PollsTable.apply_record.Goals as goal
 

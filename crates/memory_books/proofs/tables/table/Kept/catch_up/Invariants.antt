@@ -1,5 +1,5 @@
 use Rattle.std.proofs.Common.{◌≡◌, length, ◌-◌}
-use Rattle.office_rules.specs.Lawful.{AreLawful}
+use Rattle.office_books.specs.Lawful.{AreLawful}
 use Rattle.memory_books.specs.Tables.Growing.{HasCome, latest_first}
 use Rattle.memory_books.proofs.tables.table.Kept.catch_up.Given as goal
 

@@ -1,7 +1,7 @@
 use Rattle.std.proofs.Common.{◌≡◌, List, reverse, take}
 use Rattle.office_books.specs.Rows.{TakesAll}
 use Rattle.office_events.specs.declared.facts.Fact.{Fact}
-use Rattle.office_rules.specs.Lawful.{AreLawful}
+use Rattle.office_books.specs.Lawful.{AreLawful}
 use Rattle.memory_books.specs.Tables.IntervalRows.{TakesSome, rows_at, TakesWithin}
 use Rattle.memory_books.specs.Tables.Whole.{AreWhole}
 use Rattle.memory_books.proofs.tables.tables.Tables.hand_on_all.Given as goal

@@ -2,9 +2,9 @@ use Rattle.std.proofs.Common.{◌≡◌, ◌∙◌, Some, sym, ap}
 use Rattle.std.specs.List.{Contains}
 use Rattle.std.specs.Option.{option_map}
 use Rattle.office_events.specs.declared.facts.Opening.{Opening}
-use Rattle.office_rules.specs.Facts.{same, openings_in, installed_at}
-use Rattle.office_rules.specs.Meters.{installation_of}
-use Rattle.office_rules.proofs.Journals.{found}
+use Rattle.office_books.specs.Facts.{same, openings_in, installed_at}
+use Rattle.office_books.specs.Meters.{installation_of}
+use Rattle.office_books.proofs.Journals.{found}
 use Rattle.memory_books.proofs.TablesLemmas.Known.{found_is_there}
 use Rattle.memory_books.proofs.tables.tables.Tables.installation.Goals as goal
 

@@ -1,7 +1,7 @@
 use Rattle.std.proofs.Common.{◌∙◌, List, map, reverse, ap}
 use Rattle.std.specs.List.{filter_map}
 use Rattle.office_events.specs.declared.facts.Fact.{Fact}
-use Rattle.office_rules.specs.Meters.{installation_of}
+use Rattle.office_books.specs.Meters.{installation_of}
 use Rattle.memory_books.specs.declared.tables.keys.Key.{Key}
 use Rattle.memory_books.specs.declared.tables.places.Kind.TheVariants.{RegisterOpenings}
 use Rattle.memory_books.specs.Tables.Lookups.{opening_at}

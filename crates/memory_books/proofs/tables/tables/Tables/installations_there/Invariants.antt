@@ -1,8 +1,8 @@
 use Rattle.std.proofs.Common.{◌≡◌, List, map, reverse, take}
 use Rattle.std.specs.List.{filter_map}
 use Rattle.office_events.specs.declared.facts.Fact.{Fact}
-use Rattle.office_rules.specs.Lawful.{AreLawful}
-use Rattle.office_rules.specs.Meters.{installation_of}
+use Rattle.office_books.specs.Lawful.{AreLawful}
+use Rattle.office_books.specs.Meters.{installation_of}
 use Rattle.memory_books.specs.Tables.Lookups.{opening_at}
 use Rattle.memory_books.specs.Tables.Whole.{AreWhole}
 use Rattle.memory_books.proofs.tables.tables.Tables.installations_there.Given as goal

@@ -3,7 +3,7 @@ use Rattle.std.specs.List.{flat_map}
 use Rattle.interval_core.specs.declared.shares.Share.{Share}
 use Rattle.office_books.specs.Rows.{TakesAll}
 use Rattle.office_events.specs.declared.facts.Fact.{Fact}
-use Rattle.office_rules.specs.Intervals.{rows_of_opening}
+use Rattle.office_books.specs.Intervals.{rows_of_opening}
 use Rattle.memory_books.specs.Tables.IntervalRows.{rows_at, TakesWithin}
 use Rattle.memory_books.specs.declared.tables.keys.Key.{Key}
 use Rattle.memory_books.specs.declared.tables.places.Kind.TheVariants.{RegisterOpenings}

@@ -1,2 +1,0 @@
-pub mod Booking
-pub mod Reading

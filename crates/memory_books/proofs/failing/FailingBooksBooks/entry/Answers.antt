@@ -1,0 +1,14 @@
+use Rattle.memory_books.proofs.FailingReads.{as_found, finds_on, read_on}
+use Rattle.memory_books.proofs.failing.FailingBooksBooks.entry.Goals as goal
+
+pub returns-clause-found : goal.returns-clause-found
+returns-clause-found c =
+    finds_on c.args.self.now.books c.called.new.self.books c.entry-found.new.self c.args.self.now.failures c.noted.new.self _ c.entry-found.result c.noted.result
+    c.in_ok-called.ensures.books c.noted.ensures.answer c.entry-found.ensures.found
+
+pub returns-clause-reads : goal.returns-clause-reads
+returns-clause-reads c = record {
+  reads = read_on c.args.self.now.books c.called.new.self.books c.entry-found.new.self c.args.self.now.failures c.called.new.self.failures c.noted.new.self
+      c.entry-found.result c.noted.result c.in_ok-called.ensures.books c.in_ok-called.ensures.noted c.noted.ensures.answer c.noted.ensures.noted c.entry-found.ensures.reads.reads;
+  sound = as_found _ c.entry-found.result c.noted.result c.noted.ensures.answer c.entry-found.ensures.reads.sound;
+}

@@ -1,6 +1,0 @@
-pub mod Consulting
-pub mod SessionsLemmas
-pub mod StartingLemmas
-pub mod SettlingLemmas
-pub mod CommandsLemmas
-pub mod OpeningLemmas

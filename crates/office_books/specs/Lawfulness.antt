@@ -1,0 +1,87 @@
+-- Theorems about the records after any accepted events.
+use Rattle.std.specs.Prelude.{◌≡◌, ◌≢◌, false, List, [], ◌∷◌, Option, Some, All}
+use Rattle.std.specs.List.{AllPairs}
+use Rattle.energy_core.specs.TrueRun.{Item}
+use Rattle.meter_journal.specs.Truth.{ShowsTrueRun, IsKeptTruly}
+use Rattle.read_plan.specs.PlannedLists.{IsPlanned}
+use Rattle.office_events.specs.declared.facts.Device.{Device}
+use Rattle.office_events.specs.declared.facts.Register.{Register}
+use Rattle.office_events.specs.declared.facts.Opening.{Opening}
+use Rattle.office_events.specs.declared.facts.Fact.{Fact}
+use Rattle.office_events.specs.declared.commands.Command.{Command}
+use Rattle.office_events.specs.declared.commands.Command.TheVariants as command
+use Rattle.office_books.specs.Facts.{devices_in, registers_in, openings_in, device_of, register_of, opening_of, installed_at}
+use Rattle.office_books.specs.Meters.{installed, journal_of, is_ended}
+use Rattle.office_books.specs.Sessions.{command_in}
+use Rattle.office_books.specs.History.{History, Opened, Fed, facts_of}
+use Rattle.office_books.specs.Refusals.{AreAccepted}
+use Rattle.office_books.specs.Lawful.{AreLawful}
+use Rattle.office_books.specs.Endings.{EachEndsOnce}
+use Rattle.office_books.specs.Laws.{IsRecorded, IsKept, IsUntraced}
+
+-- True if a command stores no point list, or if the reads of its point list equal the reads of its
+-- plan. The type `PlannedList` guarantees this condition.
+abbrev pub PutsPlanned : Option Command → Type 0
+PutsPlanned (Some (command.PutList c)) = IsPlanned c.list
+PutsPlanned _ = Unit {0}
+
+-- True if all point lists in accepted commands have the reads of their plans.
+abbrev pub ListsArePlanned : History → Type 0
+ListsArePlanned [] = Unit {0}
+ListsArePlanned (Opened at ∷ past) = ListsArePlanned past
+ListsArePlanned (Fed at e ∷ past) = PutsPlanned (command_in e) × ListsArePlanned past
+
+-- True if a list of starts of the office and of events is a possible past of the office. Each item
+-- was accepted after the earlier items, and each point list has the reads of its plan.
+pub record IsPast (history : History) : Type 0 where
+  pub accepted : AreAccepted history
+  pub planned : ListsArePlanned history
+
+-- Theorem: the records after any accepted events are lawful. This means that the rules accept each
+-- record after the earlier ones.
+abbrev pub FactsAreLawful : Type 0
+FactsAreLawful = (history : History) → AreAccepted history → ListsArePlanned history
+    → AreLawful (facts_of history)
+
+-- True if no two devices, accounting registers or meters have the same name, so a search by name
+-- finds each of them. Any open meter at an accounting register is the latest meter there, so at
+-- most one meter is open.
+pub record AreDistinct (facts : List Fact) : Type 0 where
+  pub devices : AllPairs (λ (a b : Device). a.name ≢ b.name) (devices_in facts)
+  pub registers : AllPairs (λ (a b : Register). a.name ≢ b.name) (registers_in facts)
+  pub meters : AllPairs (λ (a b : Opening). a.meter ≢ b.meter) (openings_in facts)
+  pub device_found : All (λ (device : Device). device_of facts device.name ≡ Some device)
+      (devices_in facts)
+  pub register_found : All
+      (λ (register : Register). register_of facts register.name ≡ Some register)
+      (registers_in facts)
+  pub meter_found : All (λ (opening : Opening). opening_of facts opening.meter ≡ Some opening)
+      (openings_in facts)
+  pub latest : (opening : Opening) → IsRecorded facts opening → is_ended facts opening ≡ false
+      → installed_at facts opening.register ≡ Some opening
+
+-- Theorem: if the records follow the rules (`AreLawful`), then the names of devices, accounting
+-- registers and meters are distinct.
+abbrev pub NamesAreDistinct : Type 0
+NamesAreDistinct = (facts : List Fact) → AreLawful facts → AreDistinct facts
+
+-- True if the polls and meters of a history satisfy all theorems. Each poll ended once or is
+-- pending. The energy and the interval rows of each meter come from its valid entries, and voided
+-- (cancelled) entries leave no trace. If the readings come from an honest meter that is polled
+-- often enough, the energy and the interval rows equal the true ones.
+pub record AreTrue (history : History) : Type 0 where
+  pub polls : EachEndsOnce history
+  pub lawful : AreLawful (facts_of history)
+  pub distinct : AreDistinct (facts_of history)
+  pub kept : (opening : Opening) → IsRecorded (facts_of history) opening
+      → IsKept (facts_of history) opening
+  pub untraced : (opening : Opening) → IsRecorded (facts_of history) opening
+      → IsUntraced (facts_of history) opening
+  pub truth : (opening : Opening) (first : Item) (items : List Item)
+      → IsRecorded (facts_of history) opening
+      → ShowsTrueRun (installed opening) (journal_of (facts_of history) opening.meter) first items
+      → IsKeptTruly (installed opening) (journal_of (facts_of history) opening.meter) first items
+
+-- Theorem: the records of each possible history satisfy `AreTrue`.
+abbrev pub BooksAreTrue : Type 0
+BooksAreTrue = (history : History) → AreAccepted history → ListsArePlanned history → AreTrue history

@@ -1,0 +1,36 @@
+//! Theorems about the records of an office after any accepted events.
+ghost use Rattle.office_books.specs.Lawfulness.{BooksAreTrue, FactsAreLawful, NamesAreDistinct};
+
+use crate::endings::polls_end_once;
+use crate::laws::{meters_are_kept, truth_is_recorded, voids_leave_no_trace};
+use poll_core::one_event_more;
+
+/// Proves that the records after any accepted events are lawful. The rules accept each record after
+/// the earlier records.
+pub fn facts_are_lawful()
+    ensures { FactsAreLawful }
+{
+    one_event_more();
+    polls_end_once();
+    meters_are_kept();
+}
+
+/// Proves that no two devices, registers or meters have the same name in records that the rules
+/// accept. The open meter at an accounting register is the latest meter at this register.
+pub fn names_are_distinct()
+    ensures { NamesAreDistinct }
+{}
+
+/// Proves for all accepted events that each poll ended once or is pending. The energy and the
+/// interval rows of each meter come from its valid entries. If an honest meter is polled often
+/// enough, its recorded energy and interval rows equal the true ones.
+pub fn books_are_true()
+    ensures { BooksAreTrue }
+{
+    polls_end_once();
+    facts_are_lawful();
+    names_are_distinct();
+    meters_are_kept();
+    voids_leave_no_trace();
+    truth_is_recorded();
+}

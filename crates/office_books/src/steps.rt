@@ -1,0 +1,39 @@
+//! Theorems about how a new record changes a meter.
+ghost use Rattle.office_books.specs.Steps.{EntriesMoveOn, HoldsChangeNothing, OpeningsBegin, OtherMetersStay};
+ghost use Rattle.office_books.specs.Voids.{VoidedEntriesGiveWay};
+
+use meter_journal::{entries_go_on, voids_change_two_rows};
+
+/// Proves that a record leaves a meter's state and rows unchanged if the record has no line in the
+/// meter's journal.
+pub fn other_meters_stay()
+    ensures { OtherMetersStay }
+{}
+
+/// Proves that a rejected reading leaves the state of all meters unchanged.
+pub fn holds_change_nothing()
+    ensures { HoldsChangeNothing }
+{}
+
+/// Proves that a newly installed meter has the state of its opening entry, and is found by its name
+/// and at its accounting register.
+pub fn openings_begin()
+    ensures { OpeningsBegin }
+{}
+
+/// Proves what a new entry changes: the last reading of its meter, the meter's entry rows, and the
+/// interval rows over which the entry's energy is spread.
+pub fn entries_move_on()
+    ensures { EntriesMoveOn }
+{
+    entries_go_on();
+}
+
+/// Proves the effect of a void (cancellation of an entry) on the meter. The rows of the voided
+/// entry and of the next valid entry change. The steps around the voided entry are replaced in the
+/// meter's energy and interval rows.
+pub fn voided_entries_give_way()
+    ensures { VoidedEntriesGiveWay }
+{
+    voids_change_two_rows();
+}

@@ -1,0 +1,50 @@
+-- Properties of a write of records to the store that follows lookups in the store.
+use Rattle.std.proofs.Common.{◌≡◌, List, [], ◌∷◌, ◌++◌, ◌⊎◌, inl, inr, sym, subst, Result, Ok, Err}
+use Rattle.office_events.specs.declared.facts.Fact.{Fact}
+use Rattle.office_books.specs.Lawful.{AreLawful}
+use Rattle.office_books.specs.declared.faults.BooksFault.{BooksFault}
+use Rattle.office_books.specs.Ledgers.{Ledger, Books, Moves, with_facts}
+use Rattle.office_books.proofs.Moving.{passes, settles}
+use Rattle.office_core.specs.Commands.Effects.{Tries}
+
+-- The guarantees of `book`, the store's write, include the guarantees of `Tries`.
+pub asked : (old new : Ledger) (facts : List Fact) (result : Result (Unit {0}) BooksFault) → Books old new facts result → Tries old new facts result
+asked old new facts (Ok done) books = record {
+  booked = books.booked;
+  settled = λ known left h lawful may. settles old new known left facts done books h lawful may;
+  refused = books.refused;
+  under_way = λ known left h lawful may. tt;
+  goes = passes old new (Ok done) books.goes;
+}
+asked old new facts (Err why) books = record {
+  booked = books.booked;
+  settled = λ known left h lawful may. tt;
+  refused = books.refused;
+  under_way = λ known left h lawful may. inr (books.under_way known left h lawful may);
+  goes = passes old new (Err why) books.goes;
+}
+
+-- If the store has the defined records after a write, then the write changes the store as `Moves`
+-- defines.
+pub tried : (old new : Ledger) (known later facts : List Fact) (result : Result (Unit {0}) BooksFault) → Tries old new facts result
+    → (old.holds known → old.is_clean → with_facts facts known ≡ later) → AreLawful later → Moves old new known later result
+tried old new known later facts (Ok done) tries right lawful =
+    let is = λ (h : old.holds known) (c : new.is_clean). right h (tries.goes.clean c) in
+    record {
+      holds = λ h c. subst new.holds (is h c) (tries.booked known h (subst AreLawful (sym (is h c)) lawful));
+      refused = λ h. tt;
+      settled = λ left h c may. subst (λ (fs : List Fact). new.may_leave (fs ∷ []) ⊎ ((fs ≡ known) × new.may_leave left)) (is h c)
+          (tries.settled known left h (subst AreLawful (sym (is h c)) lawful) may);
+      under_way = λ left h c may. tt;
+      goes = tries.goes;
+    }
+tried old new known later facts (Err why) tries right lawful =
+    let is = λ (h : old.holds known) (c : new.is_clean). right h (tries.goes.clean c) in
+    record {
+      holds = λ h c. tt;
+      refused = λ h. tries.refused known h;
+      settled = λ left h c may. tt;
+      under_way = λ left h c may. subst (λ (fs : List Fact). new.may_leave left ⊎ new.may_leave (left ++ fs ∷ [])) (is h c)
+          (tries.under_way known left h (subst AreLawful (sym (is h c)) lawful) may);
+      goes = tries.goes;
+    }

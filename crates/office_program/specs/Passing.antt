@@ -1,0 +1,35 @@
+-- Properties of a call of a polling round that hold whatever the store contains.
+use Rattle.std.specs.Prelude.{◌≡◌, ◌⊎◌, ◌≤◌, ℕ, ◌+◌, ◌-◌, ◌^◌, min, true, Result, Ok, Err}
+use Rattle.mb_wire.specs.Links.{risen}
+use Rattle.office_books.specs.Ledgers.{Ledger}
+use Rattle.office_core.specs.Standing.{books_in}
+use Rattle.office_core.specs.declared.office.Office.{Office}
+use Rattle.office_program.specs.declared.fault.RoundFault.{RoundFault}
+use Rattle.office_program.specs.declared.fault.RoundFault.TheVariants.{Refused, Link, Output, TurnsUsed}
+
+-- True if the time zone of the store is unchanged. If the store is clean after the call (no wrong
+-- result of it was used), then it was clean before the call.
+pub record Lasts {B : Type 0} (ledger : B → Ledger) (old new : Office B) : Type 0 where
+  pub clean : (ledger (books_in new)).is_clean → (ledger (books_in old)).is_clean
+  pub zone : (ledger (books_in new)).zone ≡ (ledger (books_in old)).zone
+
+-- True if the count of reads of the link grew by `takes`. The count stays at 2^64 - 1 when it is
+-- reached.
+abbrev pub AreTakes : (takes before after : ℕ) → Type 0
+AreTakes takes before after = (count : ℕ) → before ≡ min count (2 ^ 64 - 1)
+    → after ≡ min (count + takes) (2 ^ 64 - 1)
+
+-- True if the count of reads of the link grew by at most `most`.
+abbrev pub AreAtMost : (most before after : ℕ) → Type 0
+AreAtMost most before after = (takes : ℕ) × (takes ≤ most) × AreTakes takes before after
+
+-- True if the count of the link's failures grew by one exactly when the result is a failure of the
+-- link.
+--
+-- If the output failed, the count may have grown by one or be unchanged.
+abbrev pub CountsFailures : {X : Type 0} → Result X RoundFault → (before after : ℕ) → Type 0
+CountsFailures (Ok x) before after = after ≡ before
+CountsFailures (Err (Refused why)) before after = after ≡ before
+CountsFailures (Err Link) before after = after ≡ risen true before
+CountsFailures (Err Output) before after = (after ≡ before) ⊎ (after ≡ risen true before)
+CountsFailures (Err TurnsUsed) before after = after ≡ before

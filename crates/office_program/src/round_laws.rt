@@ -1,0 +1,18 @@
+//! The theorem that a polling round requests its events in the order that the definition `next_in`
+//! gives.
+ghost use Rattle.office_program.specs.Polling.{RoundsHold};
+
+use office_books::{facts_are_lawful, polls_end_once, polls_fit};
+use poll_core::{each_once, one_event_more};
+
+/// Proves that a `Round` always requests the event that the definition `next_in` gives, whatever
+/// the office accepted earlier. The proof is by induction over the events that the round fed.
+pub(crate) fn rounds_hold()
+    ensures { RoundsHold }
+{
+    each_once();
+    one_event_more();
+    polls_end_once();
+    polls_fit();
+    facts_are_lawful();
+}

@@ -1,5 +1,0 @@
-use Rattle.office_rounds.proofs.Wires.{part_given}
-use Rattle.office_rounds.proofs.steps.send.Goals as goal
-
-pub returns-in-Err-clause-given : goal.returns-in-Err-clause-given
-returns-in-Err-clause-given g c = part_given _ _ c.args.frames.now c.in-Err.ensures.given

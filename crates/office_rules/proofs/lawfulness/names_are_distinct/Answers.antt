@@ -1,5 +1,0 @@
-use Rattle.office_rules.proofs.Names.{names_are_distinct as lemma}
-use Rattle.office_rules.proofs.lawfulness.names_are_distinct.Goals as goal
-
-pub returns : goal.returns
-returns c = lemma

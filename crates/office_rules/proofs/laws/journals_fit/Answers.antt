@@ -1,5 +1,0 @@
-use Rattle.office_rules.proofs.Journals.{journals_fit as lemma}
-use Rattle.office_rules.proofs.laws.journals_fit.Goals as goal
-
-pub returns : goal.returns
-returns c = lemma

@@ -1,5 +1,0 @@
-use Rattle.office_rules.proofs.FittingPolls.{polls_fit as lemma}
-use Rattle.office_rules.proofs.poll_order.polls_fit.Goals as goal
-
-pub returns : goal.returns
-returns c = lemma c.one_event_more.ensures.settled c.polls_end_once.ensures.polls

@@ -1,5 +1,0 @@
-use Rattle.office_rules.proofs.Stepping.{entries_move_on as lemma}
-use Rattle.office_rules.proofs.steps.entries_move_on.Goals as goal
-
-pub returns : goal.returns
-returns c = lemma c.entries_go_on.ensures

@@ -1,5 +1,0 @@
-use Rattle.office_rules.proofs.Stepping.{holds_change_nothing as lemma}
-use Rattle.office_rules.proofs.steps.holds_change_nothing.Goals as goal
-
-pub returns : goal.returns
-returns c = lemma

@@ -1,5 +1,0 @@
-use Rattle.office_rules.proofs.Stepping.{openings_begin as lemma}
-use Rattle.office_rules.proofs.steps.openings_begin.Goals as goal
-
-pub returns : goal.returns
-returns c = lemma

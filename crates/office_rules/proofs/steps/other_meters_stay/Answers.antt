@@ -1,5 +1,0 @@
-use Rattle.office_rules.proofs.Stepping.{other_meters_stay as lemma}
-use Rattle.office_rules.proofs.steps.other_meters_stay.Goals as goal
-
-pub returns : goal.returns
-returns c = lemma

@@ -1,5 +1,0 @@
-use Rattle.office_rules.proofs.GivingWay.{voided_entries_give_way as lemma}
-use Rattle.office_rules.proofs.steps.voided_entries_give_way.Goals as goal
-
-pub returns : goal.returns
-returns c = lemma c.voids_change_two_rows.ensures

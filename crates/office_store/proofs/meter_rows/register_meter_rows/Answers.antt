@@ -1,0 +1,15 @@
+use Rattle.sqlite.specs.Held.{state}
+use Rattle.store_tables.specs.Schema.{books_schema}
+use Rattle.store_tables.proofs.Failures.{reported, query_fails}
+use Rattle.store_tables.proofs.StepLemmas.{asks}
+use Rattle.office_store.proofs.MeterRows as text
+use Rattle.office_store.proofs.meter_rows.register_meter_rows.Goals as goal
+
+pub returns-clause-asks : goal.returns-clause-asks
+returns-clause-asks g c =
+    asks g.S.Store text.meters_at _ c.args.conn.now c.query_all.new.self c.query_all.result (λ rows. rows.items) text.meters_at_plain c.query_all.ensures.ok c.query_all.ensures.err c.query_all.ensures.mode c.query_all.ensures.survives
+
+pub returns-clause-shows : goal.returns-clause-shows
+returns-clause-shows g c clean content has xs are =
+    reported c.query_all.result _ _ _ _ (λ rows h. text.meters_shown c.args.register.now (state g.S.Store c.args.conn.now) (state g.S.Store c.query_all.new.self) content xs rows.items has are (rw (c.params-to_sql.ensures) at h))
+    (λ e h. query_fails books_schema text.meters_at _ (text.meters_at_suits c.args.register.now) (state g.S.Store c.args.conn.now) (state g.S.Store c.query_all.new.self) has.schema e (rw (c.params-to_sql.ensures) at h)) (c.query_all.ensures.ok clean) (c.query_all.ensures.err clean)

@@ -1,6 +1,0 @@
-pub mod Chosen
-pub mod FormsRead
-pub mod Made
-pub mod Pieces
-pub mod LineWordsLemmas
-pub mod BankLemmas

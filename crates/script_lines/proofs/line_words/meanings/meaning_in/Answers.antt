@@ -1,6 +1,0 @@
-use Rattle.std.proofs.Common.{◌∙◌}
-use Rattle.script_lines.proofs.Chosen.{found_meaning}
-use Rattle.script_lines.proofs.line_words.meanings.meaning_in.Goals as goal
-
-pub returns : goal.returns
-returns g c = c.found_in.ensures ∙ found_meaning c.args.table.now c.args.word.now

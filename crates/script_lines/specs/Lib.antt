@@ -1,6 +1,0 @@
-pub mod Forms
-pub mod LineFaults
-pub mod LineReader
-pub mod Seen
-pub mod LineWords
-pub mod Bank

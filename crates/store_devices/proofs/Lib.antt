@@ -1,3 +1,0 @@
-pub mod DevicesLemmas
-pub mod PollsLemmas
-mod Examples

@@ -1,6 +1,0 @@
-use Rattle.std.proofs.Common.{sym}
-use Rattle.store_devices.proofs.DevicesLemmas.ReadRows.{sound_point}
-use Rattle.store_devices.proofs.devices.columns.read_point.Goals as goal
-
-pub returns-clause-sound : goal.returns-clause-sound
-returns-clause-sound c = sound_point c.args.row.now c.in_ok-numbers.numbers (sym c.in_ok-numbers.ensures)

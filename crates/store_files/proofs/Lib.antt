@@ -1,9 +1,0 @@
-mod Grown
-mod Texts
-mod Writes
-mod Made
-mod Names
-mod Questions
-mod Ranges
-mod Brought
-mod Reported

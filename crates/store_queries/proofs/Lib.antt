@@ -1,2 +1,0 @@
-pub mod FindingLemmas
-pub mod MeteringLemmas
