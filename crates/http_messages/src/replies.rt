@@ -6,13 +6,13 @@ ghost use Rattle.http_messages.specs.Replies.{fault, fault_said, refused, reply_
 ghost use Rattle.http_messages.specs.Kinds.{done_text};
 ghost use Rattle.http_messages.specs.Rows.{meter_text, poll_text};
 
+use crate::Status;
 use crate::commands::CommandFault;
 use crate::faults::faults_body;
 use crate::kinds::done_body;
 use crate::rows::{meter_body, poll_body};
 use crate::sending::{ResponseWriter, fault_body, refused_body, write_json};
 use crate::statuses::status_of;
-use crate::Status;
 use mb_wire::Link;
 use office_events::{CommandKind, Installation, PollRow, Refusal};
 

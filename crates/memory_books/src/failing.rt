@@ -4,9 +4,9 @@ ghost use Rattle.office_books.specs.Faults.{faults_after, no_failures};
 ghost use Rattle.office_books.specs.declared.faults.BooksFault.TheVariants.{Store};
 ghost use Rattle.office_books.specs.declared.faults.StoreFault.TheVariants.{Refused};
 
+use crate::ListBooks;
 use interval_core::{Share, Zone};
 use mb_wire::ReadSpan;
-use crate::ListBooks;
 use office_books::{Books, BooksFault, Failures, MeterEntry, Repeat, RowSink, Span, StoreFault};
 use office_events::{
     Device, EntryContext, Fact, HeldReading, Installation, Name, PlannedList, Poll, PollRow,

@@ -2,8 +2,8 @@
 ghost use Rattle.std.specs.Prelude.{◌≡◌};
 ghost use Rattle.office_books.specs.Faults.{no_failures};
 
-use crate::failing::FailingBooks;
 use crate::ListBooks;
+use crate::failing::FailingBooks;
 use office_books::Books;
 
 impl FailingBooks {

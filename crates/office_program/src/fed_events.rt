@@ -9,8 +9,8 @@ ghost use Rattle.office_program.specs.Stepping as stepping;
 ghost use Rattle.office_program.specs.Stepping.{FeedStops};
 
 use crate::fault::RoundFault;
-use crate::round_laws::rounds_hold;
 use crate::progress::Progress;
+use crate::round_laws::rounds_hold;
 use office_books::Books;
 use office_core::Office;
 use office_events::{Answer, Event};

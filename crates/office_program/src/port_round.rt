@@ -4,13 +4,13 @@ ghost use Rattle.office_program.specs.Passing as rounds;
 ghost use Rattle.office_program.specs.Texts.Passing.{Lasts};
 ghost use Rattle.office_program.specs.PortRound.{PollsOver, PollsPortOf};
 
+use crate::RoundFault;
 use crate::command_end::CommandEnd;
 use crate::texts::{open_office, poll_round};
 use command_io::ExitStatus;
 use office_books::Books;
 use office_core::Office;
 use office_events::Name;
-use crate::RoundFault;
 use socket_link::{Clock, SocketLink};
 use std::alloc::Global;
 use std::io::{self, Write};

@@ -28,11 +28,11 @@ pub(crate) use finding::{
 };
 pub(crate) use interval_rows::book_step;
 pub(crate) use meter_rows::register_meter_rows;
+pub use metering::holds;
 pub(crate) use metering::{
     entry, entry_near, installation, installation_count, intervals, meter, meter_entries,
     meters_at, register_intervals,
 };
-pub use metering::holds;
 pub(crate) use names::{name, text};
 pub(crate) use points::points_at;
 pub(crate) use rows::{

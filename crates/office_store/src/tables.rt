@@ -114,13 +114,7 @@ impl<S: Alter + Drop> Books for SqlBooks<S> {
         from: u64,
         most: u32,
     ) -> Result<Vec<MeterEntry>, BooksFault> {
-        let found = crate::meter_entries(
-            self.alloc,
-            &mut self.connection,
-            meter,
-            from,
-            most,
-        );
+        let found = crate::meter_entries(self.alloc, &mut self.connection, meter, from, most);
         answered(&mut self.failures, found)
     }
 

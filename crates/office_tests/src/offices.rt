@@ -1,7 +1,7 @@
 //! Helpers that open an `Office` (the core of `sunreg`) over a store in memory, and the events that
 //! tests send to it.
-use memory_books::{FailingBooks, ListBooks};
 use interval_core::Zone;
+use memory_books::{FailingBooks, ListBooks};
 use office_books::Books;
 use office_core::Office;
 use office_events::{

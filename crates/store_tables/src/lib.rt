@@ -41,8 +41,8 @@ pub use meters::{
     range_of, range_rows, read_installation, read_range, update_last,
 };
 pub use new_file::create;
-pub(crate) use numbers::signed;
 pub use numbers::number;
+pub(crate) use numbers::signed;
 pub use open_faults::OpenFault;
 pub use opened_file::open;
 pub use polls::{

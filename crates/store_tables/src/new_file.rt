@@ -7,8 +7,8 @@ ghost use Rattle.interval_core.specs.Zone.{HasRule};
 ghost use Rattle.store_tables.specs.Zones.{IsZone};
 ghost use Rattle.store_tables.specs.NewFile.{Makes};
 
-use crate::open_faults::{OpenFault, fault_of};
 use crate::meta::insert_meta;
+use crate::open_faults::{OpenFault, fault_of};
 use crate::tables::create_tables;
 use crate::zones::zone_of;
 use interval_core::Zone;

@@ -15,13 +15,13 @@ ghost use Rattle.store_tables.specs.OpenedFile.{ShowsMeta, ReadsMeta, FindsZone}
 ghost use Rattle.store_tables.specs.OpenedFile.{ReportsOfLayout, ReportsOfFile};
 ghost use Rattle.store_tables.specs.Failing.{IsStoreError};
 
-use crate::open_faults::{OpenFault, fault_of};
 use crate::layouts::{Layout, layout_of};
+use crate::open_faults::{OpenFault, fault_of};
 use crate::upgrade::bring;
 use crate::zones::zone_of;
+use crate::{RowFault, check_open, text, whole};
 use interval_core::Zone;
 use sqlite::{Alter, Connection, Error, Row};
-use crate::{RowFault, check_open, text, whole};
 
 /// Queries the rows of the table `meta`, which has one row for the complete file.
 fn meta_rows<S: Alter>(conn: &mut Connection<S>) -> Result<Vec<Row>, Error>

@@ -12,11 +12,11 @@ ghost use Rattle.store_tables.specs.Layouts.{schema_of};
 ghost use Rattle.store_tables.specs.Upgrade.{ShowsMeters, GivesRanges, BringsFirst, BringsSecond};
 ghost use Rattle.store_tables.specs.Upgrade.{OpensFile, IsOpenTo};
 
+use crate::insert_range;
 use crate::layouts::Layout;
 use crate::meta::set_version;
 use crate::tables::{create_last, create_voids};
 use sqlite::{Alter, Connection, Error, Row, Transaction};
-use crate::insert_range;
 
 /// Queries the names of the meters in a file of version 1.
 fn meter_rows<S: Alter>(conn: &mut Connection<S>) -> Result<Vec<Row>, Error>

@@ -4,10 +4,10 @@ use crate::tables::strict;
 use energy_core::Cause;
 use office_books::{RowSink, Span};
 use office_events::{HeldReading, Name};
+use office_store::holds;
 use sqlite::{Alter, Connection};
 use std::alloc::Global;
 use std::process::Abort;
-use office_store::holds;
 
 /// SQL statements that insert two rejected readings of the meter m1, and one of the meter m0
 /// between them. The second reading of m1 has an earlier timestamp than the first.

@@ -5,11 +5,11 @@ ghost use Rattle.http_messages.specs.Commands.Commands.{command_of};
 ghost use Rattle.http_messages.specs.Commands.Few.{HasFewRows};
 ghost use Rattle.http_messages.specs.Commands.Given.{Gives, IsBody, IsListBody};
 
+use crate::Route;
 use crate::commands::fault::CommandFault;
 use crate::commands::json::{Body, BodyFault, body_of};
 use crate::commands::registers::{close, exchange, install, manual, rescale, reset, void};
 use crate::commands::setup::{add_device, add_register};
-use crate::Route;
 use office_events::{Command, Name, PlannedList, PutList};
 use point_list::{ListFault, PointList, read_list};
 use std::alloc::Global;

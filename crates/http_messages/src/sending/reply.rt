@@ -3,8 +3,8 @@ ghost use Rattle.std.specs.Prelude.{◌++◌, decimal};
 ghost use Rattle.http_messages.specs.Sending.Sending.{Puts};
 ghost use Rattle.http_messages.specs.Sending.Replies.{json_reply, status_line, text_head};
 
-use crate::sending::writer::ResponseWriter;
 use crate::Status;
+use crate::sending::writer::ResponseWriter;
 use itoa::Buffer;
 use mb_wire::Link;
 

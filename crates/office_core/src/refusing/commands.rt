@@ -5,6 +5,7 @@ ghost use Rattle.office_books.specs.Ledgers.{Finds, OnlyReads};
 ghost use Rattle.office_core.specs.Refusing.Asking.{IsOfDevices};
 ghost use Rattle.office_core.specs.Refusing.Reasons.{IsWhyAmong, Befits};
 
+use crate::Slot;
 use crate::refusing::arrivals::Arrival;
 use crate::refusing::corrections::{close, manual, rescale, reset};
 use crate::refusing::devices::{add_device, put_list};
@@ -13,7 +14,6 @@ use crate::refusing::installs::install;
 use crate::refusing::registers::add_register;
 use crate::refusing::starts::{start_poll, start_round};
 use crate::refusing::voids::void_entry;
-use crate::Slot;
 use office_books::{Books, BooksFault};
 use office_events::{Command, Refusal};
 

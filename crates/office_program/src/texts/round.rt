@@ -5,12 +5,12 @@ ghost use Rattle.office_program.specs.Texts.Rounds as rounds;
 ghost use Rattle.office_program.specs.Texts.Rounds.{IsRefusalReported, PollsRoundOver};
 
 use crate::texts::end_texts::print_refusal;
+use crate::{RoundFault, round_over};
 use command_io::ExitStatus;
 use mb_wire::Link;
 use office_books::Books;
 use office_core::Office;
 use office_events::Name;
-use crate::{RoundFault, round_over};
 use socket_link::Clock;
 use std::alloc::Global;
 use std::io::Write;

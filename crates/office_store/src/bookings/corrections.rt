@@ -13,8 +13,8 @@ ghost use Rattle.office_store.specs.Bookings.Corrections.{StandsAt, gone_from, C
 
 use crate::bookings::meter_entries::is_sound;
 use crate::bookings::surroundings::Surroundings;
-use energy_core::{Entry, Last, MAX_TOTAL, Ranged, Step, Terms};
 use crate::{counter_after, is_scale, last_row};
+use energy_core::{Entry, Last, MAX_TOTAL, Ranged, Step, Terms};
 use store_tables::{EntryKind, EntryRow, GREATEST_PLACE, LATEST_MOMENT, LastRow, RowFault};
 
 /// The number of rollovers of a counter between the meter entry at index `place` and the entry

@@ -6,10 +6,10 @@ ghost use Rattle.office_store.specs.Going.{Goes};
 ghost use Rattle.office_store.specs.Recording.{Records};
 
 use crate::bookings::places::next_device;
+use crate::{device_row, text};
 use office_events::Device;
 use sqlite::{Alter, Transaction};
 use store_tables::{RowFault, insert_device};
-use crate::{device_row, text};
 
 /// Writes a device with the index after the last device.
 pub fn enter_device<S: Alter>(tx: &mut Transaction<'_, S>, device: &Device) -> Result<(), RowFault>

@@ -5,11 +5,11 @@ ghost use Rattle.office_events.specs.declared.facts.Fact.TheVariants as fact;
 ghost use Rattle.office_store.specs.Going.{Goes};
 ghost use Rattle.office_store.specs.Recording.{Records};
 
+use crate::{points_at, text};
 use office_events::DeviceList;
 use sqlite::{Alter, Transaction};
 use std::alloc::Global;
 use store_tables::{RowFault, replace_points};
-use crate::{points_at, text};
 
 /// Replaces the point list of a device.
 pub fn enter_list<S: Alter>(

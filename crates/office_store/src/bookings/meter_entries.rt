@@ -13,14 +13,14 @@ ghost use Rattle.office_store.specs.Recording.{Records};
 ghost use Rattle.office_store.specs.Bookings.MeterState.{Advances, EntersEntry, Settles};
 
 use crate::bookings::meter_state::{Standing, standing_of};
+use crate::{book_step, entry_row, is_scale, last_row, text};
 use energy_core::{Entry, Last, MAX_INTERVALS, Ranged, Step, Terms};
-use office_events::BookedEntry;
 use office_books::{
     entries_move_on, installations_are_in_range, meters_are_kept, other_meters_stay,
     voids_leave_no_trace,
 };
+use office_events::BookedEntry;
 use sqlite::{Alter, Transaction};
-use crate::{book_step, entry_row, is_scale, last_row, text};
 use store_tables::{
     EntryRow, LATEST_MOMENT, LastRow, RowFault, close_installation, insert_entry, update_last,
 };

@@ -6,10 +6,10 @@ ghost use Rattle.office_store.specs.Going.{Goes};
 ghost use Rattle.office_store.specs.Recording.{Records};
 
 use crate::bookings::places::next_installation;
-use office_events::Opening;
-use office_books::openings_begin;
-use sqlite::{Alter, Transaction};
 use crate::{begun_row, is_sound_opening, opening_row, text};
+use office_books::openings_begin;
+use office_events::Opening;
+use sqlite::{Alter, Transaction};
 use store_tables::{RowFault, insert_entry, insert_installation, insert_range};
 
 /// Writes a new meter with its opening, the first entry. Inserts its installation with the index

@@ -6,14 +6,14 @@ ghost use Rattle.office_store.specs.Going.{Goes};
 ghost use Rattle.office_store.specs.Recording.{Records};
 
 use crate::bookings::places::next_hold;
-use office_events::{EndedPoll, HeldReading, MAX_REQUEST, Poll, Reply};
+use crate::{hold_row, outcome_row, poll_row, text};
 use office_books::holds_change_nothing;
+use office_events::{EndedPoll, HeldReading, MAX_REQUEST, Poll, Reply};
 use sqlite::{Alter, Transaction};
 use store_tables::{
     GREATEST_PLACE, LATEST_MOMENT, RowFault, insert_kept_request, insert_outcome, insert_poll,
     insert_rejected,
 };
-use crate::{hold_row, outcome_row, poll_row, text};
 
 /// Writes a poll that was started.
 pub fn enter_poll<S: Alter>(tx: &mut Transaction<'_, S>, poll: &Poll) -> Result<(), RowFault>

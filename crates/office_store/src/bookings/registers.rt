@@ -9,10 +9,10 @@ ghost use Rattle.office_store.specs.Recording.{Records};
 ghost use Rattle.office_store.specs.Rows.{scale_as};
 
 use crate::bookings::places::next_register;
+use crate::{is_scale, register_row, text};
 use office_events::{LAST_COUNTER, Register, ScaleSource};
 use sqlite::{Alter, Transaction};
 use store_tables::{RowFault, insert_register};
-use crate::{is_scale, register_row, text};
 
 /// Returns true if the table `registers` allows the scale of an accounting register.
 fn is_sound_scale(source: ScaleSource) -> bool

@@ -10,8 +10,8 @@ ghost use Rattle.office_store.specs.Bookings.Surroundings.{FindsEntry, FindsBefo
 ghost use Rattle.office_store.specs.Bookings.Surroundings.{AreNear, OpenedAt, IsAround};
 
 use crate::bookings::meter_state::{Standing, standing_of};
-use sqlite::{Alter, Transaction};
 use crate::{entry_at, place_after, place_before};
+use sqlite::{Alter, Transaction};
 use store_tables::{EntryRow, RowFault};
 
 /// An entry of a meter and the nearest entries that are not voided. `before` may be the opening.

@@ -14,13 +14,13 @@ ghost use Rattle.office_store.specs.Bookings.Voids.{MarksVoid, TakesSteps, Enter
 use crate::bookings::corrections::{Correction, Rejoined, correct};
 use crate::bookings::meter_entries::settle;
 use crate::bookings::surroundings::surroundings_of;
+use crate::{book_step, drop_rows_from, take_step, text};
 use energy_core::Step;
 use interval_core::shares_add_up;
 use meter_journal::{rows_are_kept, rows_lie_within, voids_change_two_rows};
-use office_events::VoidedEntry;
 use office_books::{installations_are_in_range, journals_fit, meters_are_kept, other_meters_stay};
+use office_events::VoidedEntry;
 use sqlite::{Alter, Transaction};
-use crate::{book_step, drop_rows_from, take_step, text};
 use store_tables::{GREATEST_PLACE, LATEST_MOMENT, RowFault, insert_void, set_rollovers};
 
 /// Sets the rollovers of the next meter entry to the new rollovers in `next`. If there is no next

@@ -11,11 +11,11 @@ ghost use Rattle.office_store.specs.Finding.Showing.{ShowsDevices};
 ghost use Rattle.office_store.specs.Finding.Sound.{IsReadableDevice, HasReadableDevices};
 
 use crate::finding::memory::push_item;
+use crate::name;
 use office_events::{Device, Timeout, Window};
 use poll_core::{MAX_TIMEOUT, MAX_WINDOW};
 use sqlite::{Alter, Connection, Row};
 use store_tables::{RowFault, check_open, device_rows, read_device};
-use crate::name;
 
 fn timeout(seconds: u8) -> Result<Timeout, RowFault>
     ensures { result ≡ or_damaged

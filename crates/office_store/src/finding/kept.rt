@@ -8,10 +8,10 @@ ghost use Rattle.office_store.specs.Finding.Reading.{repeat_from};
 ghost use Rattle.office_store.specs.Finding.Showing.{FindsRepeat};
 ghost use Rattle.office_store.specs.Finding.Sound.{HasReadableReplies};
 
+use crate::text;
 use office_books::Repeat;
 use office_events::{MAX_REQUEST, Name};
 use sqlite::{Alter, Connection};
-use crate::text;
 use store_tables::{RowFault, check_open};
 
 fn convert_repeat(repeat: store_tables::Repeat) -> Repeat

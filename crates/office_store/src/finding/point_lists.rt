@@ -15,6 +15,7 @@ ghost use Rattle.office_store.specs.Finding.Points.{HasReadablePoints};
 
 use crate::finding::memory::want_of_memory;
 use crate::finding::point_rows::{points_in, rows_of};
+use crate::text;
 use mb_wire::ReadSpan;
 use office_books::reads_from;
 use office_events::Name;
@@ -22,7 +23,6 @@ use point_list::{ListedPoint, PointList};
 use read_plan::{PlannedList, lists_are_planned_once};
 use sqlite::{Alter, Connection};
 use std::alloc::Global;
-use crate::text;
 use store_tables::RowFault;
 
 /// Plans the Modbus reads that cover a device's points. Reports points that break a rule of point

@@ -14,6 +14,7 @@ ghost use Rattle.office_store.specs.Finding.Showing.{ShowsPendingPolls, FindsPol
 ghost use Rattle.office_store.specs.Finding.Sound.{IsReadablePoll, HasReadablePolls, HasReadableOutcomes};
 
 use crate::finding::memory::push_item;
+use crate::name;
 use mb_wire::ReadSpan;
 use office_events::{EndedPoll, Poll, PollRow};
 use sqlite::{Alter, Connection, Row};
@@ -21,7 +22,6 @@ use store_tables::{
     GREATEST_PLACE, OutcomeRow, RowFault, check_open, last_poll, outcome_of, pending_rows, poll_at,
     read_poll,
 };
-use crate::name;
 
 /// Returns the span of Modbus registers that a poll reads.
 fn span_from(row: store_tables::PollRow) -> ReadSpan

@@ -11,12 +11,14 @@ ghost use Rattle.office_store.specs.Finding.Showing.{ShowsRegisters, FindsRegist
 ghost use Rattle.office_store.specs.Finding.Sound.{IsReadableRegister, HasReadableRegisters};
 
 use crate::finding::memory::push_item;
+use crate::{name, text};
 use mb_wire::ReadSpan;
 use office_books::retain_covered;
 use office_events::{Name, Register, ScaleSource};
 use sqlite::{Alter, Connection, Row};
-use store_tables::{RegisterScale, RowFault, check_open, read_register, register_of, register_rows};
-use crate::{name, text};
+use store_tables::{
+    RegisterScale, RowFault, check_open, read_register, register_of, register_rows,
+};
 
 fn source(scale: RegisterScale) -> ScaleSource
     ensures { result ≡ source_from scale }

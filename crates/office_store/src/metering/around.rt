@@ -15,12 +15,12 @@ ghost use Rattle.office_store.specs.Metering.Around.{stood, ReportsOf, ReportsRi
 use crate::metering::entries::{entry, voids};
 use crate::metering::journal::{entry_row, is_voided};
 use crate::metering::meters::meter;
+use crate::{counter_after, text};
 use meter_journal::{journals_are_kept, places_were_kept, rows_are_kept, voids_change_two_rows};
 use office_books::{is_sound, journals_fit, with_whole_energy};
 use office_events::{EntryContext, Installation, Name};
 use sqlite::{Alter, Connection, Row};
 use std::alloc::Global;
-use crate::{counter_after, text};
 use store_tables::{EntryRow, GREATEST_PLACE, RowFault, check_open, entry_at};
 
 /// The indices of the nearest meter entries before and after an entry that are not voided, and

@@ -9,12 +9,12 @@ ghost use Rattle.office_store.specs.Finding.Finding.{Finds};
 use crate::metering::journal::journal_rows;
 use crate::metering::meters::meter;
 use crate::metering::places::placed;
+use crate::text;
 use meter_journal::{EntryRow, places_were_kept, rows_are_kept, voids_change_two_rows};
-use office_events::{EntryContext, Name};
 use office_books::{installations_are_in_range, journals_fit};
+use office_events::{EntryContext, Name};
 use sqlite::{Alter, Connection, Row};
 use std::alloc::Global;
-use crate::text;
 use store_tables::{RowFault, check_open, entry_rows, void_rows};
 
 /// Queries the entries of a meter, ordered by index.

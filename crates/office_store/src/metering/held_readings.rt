@@ -6,10 +6,10 @@ ghost use Rattle.office_store.specs.Metering.Looking.{HandsOn};
 ghost use Rattle.office_store.specs.Metering.Sound.{HasReadableHolds};
 
 use crate::metering::streams::bound;
+use crate::{rejected_rows as tables, text};
 use office_books::{RowSink, Span};
 use office_events::{HeldReading, Name};
 use sqlite::{Alter, Connection};
-use crate::{rejected_rows as tables, text};
 use store_tables::{RowFault, check_open};
 
 /// Passes the rejected readings of a meter with timestamps in `span` to `sink` one by one, in the

@@ -9,11 +9,11 @@ ghost use Rattle.office_events.specs.declared.facts.Opening.{Opening as Recorded
 ghost use Rattle.store_tables.specs.declared.faults.RowFault.TheVariants.{Damaged};
 
 use crate::metering::rows::{first_entry, range};
+use crate::name;
 use energy_core::Last;
 use office_books::{installations_are_in_range, is_sound};
 use office_events::{Installation, Opening};
 use sqlite::{Alter, Connection};
-use crate::name;
 use store_tables::{EntryRow, InstallationRow, RowFault};
 
 /// Builds the opening of a meter, the record of its installation, from its rows in `installations`,

@@ -11,12 +11,12 @@ ghost use Rattle.office_store.specs.Finding.Finding.{Finds};
 use crate::finding::want_of_memory;
 use crate::metering::entries::rows;
 use crate::metering::meters::meter;
+use crate::text;
 use meter_journal::EntryRow;
 use office_books::{MeterEntry, list_entries};
 use office_events::{Name, Opening};
 use sqlite::{Alter, Connection};
 use std::alloc::Global;
-use crate::text;
 use store_tables::RowFault;
 
 /// Lists a meter's first entry and its later entries, the oldest first. Begins at index `from`, and

@@ -10,9 +10,9 @@ ghost use Rattle.office_store.specs.Metering.Meters.{CountsOpenings};
 
 use crate::metering::installations::standing;
 use crate::metering::rows::{row_at, row_of};
+use crate::text;
 use office_events::{Installation, Name};
 use sqlite::{Alter, Connection};
-use crate::text;
 use store_tables::{RowFault, check_open, last_installation};
 
 /// Returns the stored state of a meter, or None if the store has no meter with this name.

@@ -11,10 +11,10 @@ ghost use Rattle.office_store.specs.Metering.Sound.{HasReadableMeters};
 
 use crate::finding::push_item;
 use crate::metering::installations::standing;
+use crate::{register_meter_rows, text};
 use office_events::{Installation, Name};
 use sqlite::{Alter, Connection, Row};
 use std::alloc::Global;
-use crate::{register_meter_rows, text};
 use store_tables::{RowFault, check_open, read_installation};
 
 /// Queries the rows of `installations` at an accounting register, in the order in which the meters

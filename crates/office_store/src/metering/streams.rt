@@ -8,11 +8,11 @@ ghost use Rattle.office_store.specs.Intervals.Rows.{IsSoundShare};
 ghost use Rattle.office_store.specs.Metering.Looking.{HandsOn};
 ghost use Rattle.office_store.specs.Metering.Sound.{HasReadableIntervals};
 
+use crate::{interval_rows as tables, text};
 use interval_core::Share;
 use office_books::{RowSink, Span, meters_are_kept, registers_are_in_turn};
 use office_events::Name;
 use sqlite::{Alter, Connection};
-use crate::{interval_rows as tables, text};
 use store_tables::{LATEST_MOMENT, RowFault, check_open};
 
 /// Limits a bound of a time span to one second after the latest timestamp that the store allows.

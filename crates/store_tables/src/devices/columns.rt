@@ -12,11 +12,11 @@ ghost use Rattle.store_tables.specs.Devices.Rows.{reached_from, scale_of, IsRegi
 use crate::devices::rows::{
     Device, DeviceRow, Point, PointRow, Register, RegisterRow, RegisterScale,
 };
+use crate::{GREATEST_PLACE, RowFault, function, scale, text, whole};
 use mb_wire::MAX_READ_REGISTERS;
 use office_events::{LAST_ADDRESS, LAST_COUNTER, LAST_UNIT};
 use poll_core::{MAX_TIMEOUT, MAX_WINDOW};
 use sqlite::Row;
-use crate::{GREATEST_PLACE, RowFault, function, scale, text, whole};
 
 /// Reads all columns of a row of `devices` except the device's name.
 fn device(row: &Row) -> Result<DeviceRow, RowFault>

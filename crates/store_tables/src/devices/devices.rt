@@ -9,8 +9,8 @@ ghost use Rattle.store_tables.specs.Devices.Rows.{device_place_shown, IsSoundDev
 ghost use Rattle.store_tables.specs.Devices.Trees.{devices};
 
 use crate::devices::rows::DeviceRow;
-use sqlite::{Alter, Connection, Error, Row, Transaction, params};
 use crate::number;
+use sqlite::{Alter, Connection, Error, Row, Transaction, params};
 
 /// Inserts the row of a device into `devices`.
 pub fn insert_device<S: Alter>(

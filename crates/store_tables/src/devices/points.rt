@@ -11,8 +11,8 @@ ghost use Rattle.store_tables.specs.Devices.Rows.{is_point_of, with_points, with
 ghost use Rattle.store_tables.specs.Devices.Trees as trees;
 
 use crate::devices::rows::{Point, PointRow};
-use sqlite::{Alter, Connection, Error, Row, Transaction, params};
 use crate::number;
+use sqlite::{Alter, Connection, Error, Row, Transaction, params};
 
 /// Inserts a point into a device's point list. The point's type and scale are texts, as in the CSV
 /// file of a point list.

@@ -17,9 +17,9 @@ ghost use Rattle.store_tables.specs.Devices.Trees.{registers};
 
 use crate::devices::columns::read_register;
 use crate::devices::rows::{Register, RegisterRow, RegisterScale};
+use crate::{RowFault, number, signed};
 use sqlite::types::Value;
 use sqlite::{Alter, Connection, Error, Row, Transaction, params};
-use crate::{RowFault, number, signed};
 
 /// Returns the number that encodes a scale's kind in `registers`: 0 for a fixed factor, 1 for the
 /// Modbus address of the factor.

@@ -9,11 +9,11 @@ ghost use Rattle.store_tables.specs.Polls.Rows.{outcome_of, outcome_in, kind_in,
 
 use crate::polls::kinds::parse_kind;
 use crate::polls::rows::{OutcomeRow, Poll, PollRow, Repeat};
+use crate::{GREATEST_PLACE, LATEST_MOMENT, RowFault, function, text, whole};
 use office_events::CommandKind;
 use poll_core::{LostCause, Malformation, Outcome};
 use sqlite::Row;
 use sqlite::types::ValueRef;
-use crate::{GREATEST_PLACE, LATEST_MOMENT, RowFault, function, text, whole};
 
 /// Returns how many Modbus registers one read from `address` can cover: at most 125, and none past
 /// address 65535.

@@ -8,8 +8,8 @@ ghost use Rattle.store_tables.specs.Polls.Rows.{hold_columns, hold_place, hold_p
 ghost use Rattle.store_tables.specs.Polls.Trees.{holds};
 
 use crate::polls::rows::RejectedRow;
-use sqlite::{Alter, Error, Row, Transaction, params};
 use crate::{number, signed};
+use sqlite::{Alter, Error, Row, Transaction, params};
 
 /// Inserts a rejected reading of a meter into `holds`.
 pub fn insert_rejected<S: Alter>(

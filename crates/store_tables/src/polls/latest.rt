@@ -13,8 +13,8 @@ ghost use Rattle.store_tables.specs.Polls.Rows.{HasHoldMoment, IsSoundHeld, repl
 ghost use Rattle.store_tables.specs.Polls.Rows.{reply_moment_shown, HasReplyMoment, IsSoundKept};
 ghost use Rattle.store_tables.specs.Polls.Trees.{polls, outcomes, holds, replies};
 
-use sqlite::{Alter, Connection, Error, Row};
 use crate::{LATEST_MOMENT, RowFault, first_whole};
+use sqlite::{Alter, Connection, Error, Row};
 
 /// Queries the latest time at which a poll started.
 fn start_rows<S: Alter>(conn: &mut Connection<S>) -> Result<Vec<Row>, Error>

@@ -12,8 +12,8 @@ ghost use Rattle.store_tables.specs.Polls.Trees.{outcomes};
 
 use crate::polls::columns::outcome;
 use crate::polls::rows::OutcomeRow;
-use sqlite::{Alter, Connection, Error, Row, Transaction, params};
 use crate::{RowFault, number};
+use sqlite::{Alter, Connection, Error, Row, Transaction, params};
 
 /// Inserts the outcome of a poll into the table `outcomes`.
 pub fn insert_outcome<S: Alter>(

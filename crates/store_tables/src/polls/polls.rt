@@ -14,8 +14,8 @@ ghost use Rattle.store_tables.specs.Polls.Trees.{polls};
 
 use crate::polls::columns::read_poll;
 use crate::polls::rows::{Poll, PollRow};
-use sqlite::{Alter, Connection, Error, Row, Transaction, params};
 use crate::{GREATEST_PLACE, RowFault, first_whole, number};
+use sqlite::{Alter, Connection, Error, Row, Transaction, params};
 
 /// Inserts the row of a poll, a Modbus read that was started, into `polls`.
 pub fn insert_poll<S: Alter>(

@@ -10,12 +10,12 @@ ghost use Rattle.store_tables.specs.Polls.Rows.{kept_under, reply_columns, reply
 ghost use Rattle.store_tables.specs.Polls.Rows.{IsCallNumber, IsRepeat, IsSoundKept};
 ghost use Rattle.store_tables.specs.Polls.Trees.{replies};
 
+use crate::RowFault;
 use crate::polls::columns::repeat;
 use crate::polls::kinds::word_of;
 use crate::polls::rows::Repeat;
 use office_events::CommandKind;
 use sqlite::{Alter, Connection, Error, Row, Transaction, params};
-use crate::RowFault;
 
 /// Stores an accepted request under its idempotency key (`caller` and `number`), with the kind of
 /// its command, to detect retries.
