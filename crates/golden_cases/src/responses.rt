@@ -1,5 +1,5 @@
 //! Produces the responses of the commands `serve` and `run` for golden tests.
-use http_peers::{EarlierFiles, Now, RunContext, respond};
+use http_clients::{EarlierFiles, Now, RunContext, respond};
 use interval_core::Zone;
 use mb_wire::MemoryLink;
 use memory_books::ListBooks;

@@ -1,7 +1,7 @@
 //! Tests of the HTTP clients of `sunreg run`, over nonblocking sockets.
 use crate::connections::{REQUEST, Stepping, client_of, energy_of_ended};
 use crate::office::{metered, utc};
-use http_peers::{
+use http_clients::{
     EarlierFiles, HttpPort, KeptRoom, Now, Outbox, PORT_TOKEN, RunContext, RunSystem, Went,
     even_milliseconds, went_by,
 };

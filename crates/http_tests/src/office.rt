@@ -2,7 +2,7 @@
 //! its accounting register (a named counter) is `main`, and the meter at this register is `m1`.
 use crate::cases::serve;
 use carried_books::EarlierRegister;
-use http_peers::{EarlierFiles, Now, RunContext, respond};
+use http_clients::{EarlierFiles, Now, RunContext, respond};
 use interval_core::Zone;
 use mb_wire::ReadSpan;
 use memory_books::ListBooks;

@@ -15,8 +15,8 @@ use Rattle.office_core.specs.EventRun.{Answered}
 use Rattle.office_core.specs.Standing.{After, Stands, books_in}
 use Rattle.office_core.specs.Taking.{Ends}
 use Rattle.office_core.specs.declared.office.Office.{Office}
-use Rattle.http_peers.specs.Clients as clients
-use Rattle.http_peers.specs.Clients.{ServesClients}
+use Rattle.http_clients.specs.Clients as clients
+use Rattle.http_clients.specs.Clients.{ServesClients}
 use Rattle.office_http.specs.Connections.Connections as connections
 use Rattle.office_http.specs.Connections.Connections.{Connection}
 use Rattle.office_http.specs.Serving.{with_asked}

@@ -4,7 +4,7 @@ ghost use Rattle.std.specs.Prelude.{◌≡◌};
 ghost use Rattle.office_running.specs.Runs.{ReadsClock};
 
 use crate::voice::Voice;
-use http_peers::even_milliseconds;
+use http_clients::even_milliseconds;
 use run_schedule::{RunTime, SteadyClock};
 use socket_link::Clock;
 use std::time::{SystemTime, UNIX_EPOCH};

@@ -6,7 +6,7 @@ ghost use Rattle.office_running.specs.Runs.{Goes};
 use crate::devices::{Seen, Slot};
 use crate::settings::Site;
 use crate::voice::{Standing, Voice};
-use http_peers::Now;
+use http_clients::Now;
 use mio::{Registry, Token};
 use office_books::Books;
 use office_core::Office;

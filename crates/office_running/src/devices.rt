@@ -3,7 +3,7 @@ ghost use Rattle.std.specs.Prelude.{◌≤◌, ◌<◌, ◌^◌};
 
 use crate::settings::Site;
 use crate::voice::Standing;
-use http_peers::{Outbox, Went, went_by};
+use http_clients::{Outbox, Went, went_by};
 use mio::net::TcpStream;
 use mio::{Interest, Registry, Token};
 use poll_core::Closing;

@@ -13,7 +13,7 @@ use crate::leftovers::{Left, print_left};
 use crate::outlet::Outlet;
 use crate::settings::{Settings, Site};
 use crate::voice::Voice;
-use http_peers::{EarlierFiles, HttpPort, KeptRoom, Now, PORT_TOKEN, RunContext};
+use http_clients::{EarlierFiles, HttpPort, KeptRoom, Now, PORT_TOKEN, RunContext};
 use interval_core::Zone;
 use mio::net::TcpListener;
 use mio::{Events, Interest, Poll, Registry, Token};

@@ -7,6 +7,8 @@
 #[cfg(test)]
 mod benches;
 #[cfg(test)]
+mod client_slots;
+#[cfg(test)]
 mod facts;
 #[cfg(test)]
 mod failing_links;
@@ -32,8 +34,6 @@ mod observer;
 mod offices;
 #[cfg(test)]
 mod parts;
-#[cfg(test)]
-mod peers;
 #[cfg(test)]
 mod periods;
 #[cfg(test)]

@@ -1,4 +1,4 @@
-//! Prints an office (the core of `sunreg`)'s answers to script lines, for tests.
+//! Prints the answers of an office (the core of `sunreg`) to script lines, for tests.
 use crate::offices::start_of;
 use energy_report::RowLines;
 use office_books::Books;
@@ -35,7 +35,7 @@ fn write_count(answer: Result<(), Refusal>, count: u64, output: &mut Vec<u8>) ->
     }
 }
 
-// Prints the office (the core of `sunreg`)'s answer to a query.
+// Prints the answer of the office (the core of `sunreg`) to a query.
 fn ask<B: Books>(
     office: &mut Office<B>,
     said: &ScriptLine,

@@ -1,4 +1,4 @@
-pub mod HttpPeersLemmas
+pub mod HttpClientsLemmas
 pub mod PeriodLemmas
 pub mod NameLemmas
 pub mod PeriodExamples

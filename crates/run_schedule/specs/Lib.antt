@@ -1,4 +1,4 @@
 pub mod Timing
-pub mod HttpPeers
+pub mod HttpClients
 pub mod Periods
 pub mod FileMarks

@@ -3,20 +3,20 @@
 #![tactic(auto)]
 
 mod file_marks;
-mod http_peers;
+mod http_clients;
 mod periods;
 mod timing;
 
 pub use file_marks::{FileLoss, FileMark, file_loss};
-pub use http_peers::{
-    Admission, MOST_CLIENTS, Peers, TurnShare, choose_slot, clients_for, little_is_held, may_reply,
-    needed_limit, place_at, replies_are_few, turns_go_round, wanted_descriptors,
+pub use http_clients::{
+    Admission, ClientSlots, MOST_CLIENTS, TurnShare, choose_slot, clients_for, little_is_held,
+    may_reply, needed_limit, place_at, replies_are_few, turns_go_round, wanted_descriptors,
 };
 pub use periods::{
     ActivePeriod, Plan, file_of_period, last_round, next_try, nothing_goes_back, period_end,
     period_of_file, period_until, plan_of,
 };
 pub use timing::{
-    MOST_EVERY, OnwardTime, PEER_SECONDS, Phase, RunTime, SteadyClock, Timing, next_due,
+    CLIENT_SECONDS, MOST_EVERY, OnwardTime, Phase, RunTime, SteadyClock, Timing, next_due,
     next_pause, retry_at, round_until,
 };

@@ -10,7 +10,7 @@ mod steady_clock;
 mod timing;
 
 pub use grid::next_due;
-pub use limits::{CONNECT_SECONDS, LEAST_ROUND, MOST_EVERY, PEER_SECONDS, round_until, until};
+pub use limits::{CLIENT_SECONDS, CONNECT_SECONDS, LEAST_ROUND, MOST_EVERY, round_until, until};
 pub use onward_time::OnwardTime;
 pub use pauses::{MOST_PAUSE, next_pause, retry_at};
 pub use run_time::RunTime;

@@ -62,7 +62,7 @@ where
     ensures { Exchanged bank.old bank.new }
 {
     for _connection in 0..connections {
-        let (stream, _peer) = listener.accept()?;
+        let (stream, _client) = listener.accept()?;
         answer_stream(stream, bank, tricks);
     }
     Ok(())

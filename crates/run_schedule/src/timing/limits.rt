@@ -5,7 +5,7 @@ ghost use Rattle.std.specs.Prelude.{◌≡◌, ◌-◌, ◌+◌, ◌^◌, min, m
 pub const CONNECT_SECONDS: u64 = 5;
 
 /// The most seconds from accepting a client's connection to sending the last byte of the response.
-pub const PEER_SECONDS: u64 = 10;
+pub const CLIENT_SECONDS: u64 = 10;
 
 /// The least time limit of a polling round, in seconds.
 pub const LEAST_ROUND: u64 = 60;

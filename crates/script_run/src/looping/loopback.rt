@@ -34,7 +34,7 @@ impl<R: Net> Connects for Loopback<'_, R> {
 
     fn connect(&mut self) -> io::Result<Ends<SocketLink<R::Stream>>> {
         let near = TcpStream::connect(self.net, self.address)?;
-        let (far, _peer) = self.listener.accept()?;
+        let (far, _client) = self.listener.accept()?;
         near.set_nodelay(true)?;
         far.set_nodelay(true)?;
         let wait = Duration::from_millis(WAIT);

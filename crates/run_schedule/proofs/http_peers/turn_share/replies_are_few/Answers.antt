@@ -1,5 +1,0 @@
-use Rattle.run_schedule.proofs.HttpPeersLemmas.TurnShares.{are_few}
-use Rattle.run_schedule.proofs.http_peers.turn_share.replies_are_few.Goals as goal
-
-pub returns : goal.returns
-returns c = are_few
