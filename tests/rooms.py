@@ -1,5 +1,5 @@
 #!/usr/bin/env python3
-"""rooms.py: compares the map, the tables and the counts of docs/ARCHITECTURE.md with crates.txt.
+"""rooms.py: compares the arrows, the tables and the counts of docs/ARCHITECTURE.md with crates.txt.
 
 It prints the differences and the counts, and ends with 'N passed, M failed'; the status is 1 if M >
 0.
@@ -10,7 +10,6 @@ import sys
 
 TOP = os.path.dirname(os.path.dirname(os.path.realpath(__file__)))
 PROGRAMS = {"sunreg", "golden_cases"}
-OF_TESTS = {"golden_cases"}
 
 
 def lists():
@@ -34,16 +33,18 @@ def below(crates, name):
     return set(crates[name]).union(*(below(crates, it) for it in crates[name]))
 
 
-def arrows_of(crates, names):
-    """Returns the pairs of a crate and a crate above it, with none between them."""
-    return {(it, name) for name in names for it in crates[name] if not any(it in below(crates, other) for other in crates[name])}
+def arrows_of(crates, layers):
+    """Returns the pairs of a layer and a layer that uses it, with none between them."""
+    uses = {layer: set() for layer in layers.values()}
+    for name, libraries in crates.items():
+        uses.get(layers.get(name), set()).update({layers[it] for it in libraries if it in layers} - {layers.get(name)})
+    return {(it, layer) for layer in uses for it in uses[layer] if not any(it in below(uses, other) for other in uses[layer])}
 
 
 def drawn_in(text):
-    """Returns the arrows of the map."""
+    """Returns the arrows of the diagram."""
     lines = re.search(r"```mermaid\n(.*?)```", text, re.S).group(1).splitlines()
-    words = [[it.strip() for it in line.split("-->")] for line in lines]
-    return {pair for it in words for pair in zip(it, it[1:])}
+    return {tuple(it.strip() for it in line.split("-->")) for line in lines if "-->" in line}
 
 
 def main():
@@ -52,19 +53,24 @@ def main():
     libraries = crates.keys() - tests - PROGRAMS
     with open(f"{TOP}/docs/ARCHITECTURE.md", encoding="utf-8") as it:
         text = it.read()
-    wanted, drawn = arrows_of(crates, crates.keys() - tests - OF_TESTS), drawn_in(text)
-    faults = [f"the map lacks {it} --> {name}" for it, name in sorted(wanted - drawn)]
-    faults += [f"the map has {it} --> {name}" for it, name in sorted(drawn - wanted)]
-    rows = re.findall(r"^\| \[?`(\w+)`", text, re.M)
-    faults += [f"{it} has {rows.count(it)} rows" for it in sorted(crates.keys() - {"golden_cases"} | set(rows)) if rows.count(it) != 1 or it not in crates]
+    rows = re.findall(r"^\| \[`(\w+)`\]\([^)]*\) \| (\w+) \|", text, re.M)
+    layers = dict(rows)
+    ruled = re.findall(r"^\| (\w+) \| [^|]*\. \|$", text, re.M)
+    wanted, drawn = arrows_of(crates, layers), drawn_in(text)
+    faults = [f"the diagram lacks {it} --> {layer}" for it, layer in sorted(wanted - drawn)]
+    faults += [f"the diagram has {it} --> {layer}" for it, layer in sorted(drawn - wanted)]
+    faults += [f"the layer {it} has {ruled.count(it)} rules" for it in sorted({*layers.values(), *ruled}) if ruled.count(it) != 1]
+    names = [it for it, _ in rows] + re.findall(r"^\| `(\w+)` \|", text, re.M)
+    listed = crates.keys() - {"golden_cases"} | set(names)
+    faults += [f"{it} has {names.count(it)} rows" for it in sorted(listed) if names.count(it) != 1 or it not in crates]
     chain = max((chain_of(crates, it) for it in libraries), key=len)
     counted = (("Libraries", len(libraries)), ("Crates of tests", len(tests)), ("The longest chain of libraries", len(chain)))
     for what, count in counted:
         if not re.search(rf"^\| {what}\b[^|]*\| {count} \|$", text, re.M):
             faults.append(f"the page doesn't say how many: {what}, {count}")
     print("\n".join(faults + [f"{len(libraries)} libraries, {len(tests)} crates of tests; the longest chain has {len(chain)}: {' '.join(chain)}"]))
-    # (an arrow, a crate's row and a count of the page are one thing each)
-    compared = len(wanted | drawn) + len(crates.keys() - {"golden_cases"} | set(rows)) + len(counted)
+    # (an arrow, a layer's rule, a crate's row and a count of the page are one thing each)
+    compared = len(wanted | drawn) + len(set(ruled)) + len(listed) + len(counted)
     print(f"{compared - len(faults)} passed, {len(faults)} failed")
     return 1 if faults else 0
 
