@@ -50,7 +50,18 @@ def measured(key, lines, memory):
 def by_page(tasks):
     """Runs tasks as the kit does, by the costs of the page. The kit ranks tasks by their work,
     which it takes in lines."""
-    return in_lanes({key: (waits, *measured(key, lines, memory), call) for key, (waits, lines, memory, call) in tasks.items()})
+    return in_lanes({key: (waits, *measured(key, lines, memory), with_jobs(key, call)) for key, (waits, lines, memory, call) in tasks.items()})
+
+
+def with_jobs(key, call):
+    """Returns the call of a part. The proof of sunreg ends the longest chain of crates, and gets a
+    job for each processor, up to four.
+
+    The kit gives it one job if crates of tests wait too. The proof would then take about twice as
+    long, and the other processors would be idle at the end. Its jobs share their memory."""
+    if key != ("sunreg", "proof"):
+        return call
+    return lambda given, jobs: call(given, max(jobs, min(4, rt.processors())))
 
 
 def part(seconds):

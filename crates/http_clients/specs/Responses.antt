@@ -268,8 +268,8 @@ RespondsAgain ledger port old new request context before after response =
     ((new ≡ old) × (after ≡ before) × IsStored port.repeats.latest request response)
     ⊎ RespondsTo ledger port old new request context before after response
 
--- The program made the response to this request, and did nothing else to its store. So nothing but
--- the request of this client can change the store, and a request that is accepted is executed.
+-- The program made the response to this request or had it stored, and did nothing else to its
+-- store. So nothing but the request of this client can change the store.
 pub record Answers {B : Type 0} (ledger : B → Ledger) (port : HttpPort) (old new : Office B)
     (request : List ℕ) (context : RunContext) : Type 0 where
   pub after : Option RemainingRows
