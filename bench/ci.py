@@ -53,15 +53,17 @@ def by_page(tasks):
     return in_lanes({key: (waits, *measured(key, lines, memory), with_jobs(key, call)) for key, (waits, lines, memory, call) in tasks.items()})
 
 
-def with_jobs(key, call):
-    """Returns the call of a part. The proof of sunreg ends the longest chain of crates, and gets a
-    job for each processor, up to four.
+# The jobs of the proofs that end the longest chain of crates.
+JOBS = {"stored_office": 2, "file_commands": 3, "sunreg": 4}
 
-    The kit gives it one job if crates of tests wait too. The proof would then take about twice as
-    long, and the other processors would be idle at the end. Its jobs share their memory."""
-    if key != ("sunreg", "proof"):
-        return call
-    return lambda given, jobs: call(given, max(jobs, min(4, rt.processors())))
+
+def with_jobs(key, call):
+    """Returns the call of a part. The proofs that end the longest chain of crates get more jobs.
+
+    The kit gives them one job each if crates of tests wait too. Such a proof would then take about
+    twice as long, and the other processors would be idle at the end. Jobs share their memory."""
+    most = JOBS.get(key[0], 0) if key[1:] == ("proof",) else 0
+    return lambda given, jobs: call(given, max(jobs, min(most, rt.processors())))
 
 
 def part(seconds):

@@ -1,5 +1,5 @@
 #!/usr/bin/env python3
-"""acts_by_chance.py: writes the golden tests of crates/golden_cases/data/scripts/chance again.
+"""acts_by_chance.py: writes the golden tests of tests/scripts/chance again.
 
 Each test is a script of 100 random acts at the meters of two registers: readings of the device,
 readings by hand, resets, rescales, replacements, closings, installations and voids. After each act
@@ -9,7 +9,7 @@ entries.
 """
 import pathlib
 
-DATA = pathlib.Path(__file__).resolve().parent.parent / "crates" / "golden_cases" / "data" / "scripts" / "chance"
+DATA = pathlib.Path(__file__).resolve().parent / "scripts" / "chance"
 CASES = [
     ("first_hundred_acts", 128, "# A hundred acts by chance: after each, every meter has the rows of its entries"),
     ("second_hundred_acts", 46, "# Another hundred acts by chance: after each, every meter has the rows of its entries"),

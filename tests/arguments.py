@@ -5,7 +5,7 @@
 - Wrong arguments: nothing is printed, the text on standard error begins with `error: `, and the status is 2. Ten texts are complete.
 - Values: numbers past their limits, and lists of devices that name none.
 - Inputs: a script of 4,194,304 bytes is run, and a longer one is refused.
-What right arguments mean is tried by the tests of script_tests. In a line the arguments are separated by bars.
+The tests of office_tests show how right arguments are parsed. In a line the arguments are separated by bars.
 """
 import os
 import pathlib

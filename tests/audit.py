@@ -240,6 +240,64 @@ def no_books():
         same(what, (status, lines, any(wanted in it for it in said)), (3, [], True))
 
 
+def redefined(table, old, new, index, *commands):
+    """Returns the audit of a copy of Python's file in which the definition of a table has another
+    text, an automatic index is gone, and these commands have run."""
+    books = copied("python.db")
+    with books:
+        books.execute("PRAGMA writable_schema = ON")
+        text = books.execute("SELECT sql FROM sqlite_schema WHERE name = ?", (table,)).fetchone()[0]
+        books.execute("UPDATE sqlite_schema SET sql = ? WHERE name = ?", (text.replace(old, new), table))
+        books.execute("DELETE FROM sqlite_schema WHERE name = ?", (index,))
+    books.close()
+    same(f"{table} has another text", text.count(old), 1)
+    books = sqlite3.connect("changed.db", isolation_level=None)
+    for command in (*commands, "VACUUM"):
+        books.execute(command)
+    books.close()
+    return audit("changed.db")
+
+
+def definitions():
+    """Audits files whose definitions are not the program's, and files without the one row of
+    `meta`. Each must be refused, although its rows may all be as the program would write them."""
+    meter = ("installations", "meter TEXT NOT NULL UNIQUE", "meter TEXT NOT NULL", "sqlite_autoindex_installations_1")
+    twice = "INSERT INTO installations SELECT 2, meter, register, ceiling, ended, last_moment, last_raw, last_sf, total FROM installations"
+    other_objects = "sunreg: changed.db: its tables, indexes, views or triggers are not those of sunreg: use an intact copy or a backup"
+    key = ", FOREIGN KEY (meter) REFERENCES installations (meter)"
+    for what, change in (
+        ("a meter may occur twice", meter),
+        ("a meter occurs twice", (*meter, twice)),
+        ("a meter may have two ranges", ("ranges", "meter TEXT NOT NULL PRIMARY KEY", "meter TEXT NOT NULL", "sqlite_autoindex_ranges_1")),
+        ("intervals without a meter", ("intervals", key, "", "")),
+        ("a meter takes its entries with it", ("entries", key, key + " ON DELETE CASCADE", "")),
+        ("values of any type", ("polls", ") STRICT", ")", "")),
+        ("a file without a zone", ("meta", "zone TEXT NOT NULL", "zone TEXT", "")),
+        ("a default", ("ranges", '"range" INTEGER NOT NULL', '"range" INTEGER NOT NULL DEFAULT 65536', "")),
+        ("a check", ("voids", "moment INTEGER NOT NULL", "moment INTEGER NOT NULL CHECK (moment > 0)", "")),
+    ):
+        wanted = (3, [], [other_objects])
+        same(what, redefined(*change), wanted)
+        same(f"{what}: no seal", audit("changed.db", "--seal"), wanted)
+    same("the same table in other words", redefined("voids", "voids (", "voids ( -- a void\n ", "")[:1], (0,))
+    same("an index", changed("CREATE INDEX more ON entries (moment)"), (3, [], [other_objects]))
+    same("a view", changed("CREATE VIEW more AS SELECT 1"), (3, [], [other_objects]))
+    status, lines, said = changed("CREATE TRIGGER more AFTER INSERT ON voids BEGIN DELETE FROM voids; END")
+    same("a trigger", (status, lines, len(said)), (3, [], 1))
+    mark = "its table meta does not have exactly one row with id 1, version 3 and a time zone: use an intact copy or a backup"
+    for what, command in (
+        ("no row of meta", "DELETE FROM meta"),
+        ("two rows of meta", "INSERT INTO meta SELECT 2, version, zone FROM meta"),
+        ("another number", "UPDATE meta SET id = 2"),
+        ("a later version", "UPDATE meta SET version = 4"),
+        ("no zone", "UPDATE meta SET zone = ''"),
+        ("an unknown zone", "UPDATE meta SET zone = 'Europe/Nowhere'"),
+    ):
+        same(what, changed(command), (3, [], [f"sunreg: changed.db: {mark}"]))
+        same(f"{what}: no seal", audit("changed.db", "--seal"), (3, [], [f"sunreg: changed.db: {mark}"]))
+        same(f"{what}: one of two", audit_all(["changed.db", "python.db"]), (3, ["file changed.db"], [f"sunreg: changed.db: {mark}"]))
+
+
 def other(value):
     """Returns another value than this one."""
     if isinstance(value, str):
@@ -527,6 +585,7 @@ def main():
         whole("python.db")
         printed(entries, intervals)
         no_books()
+        definitions()
         seals(entries)
         several(seed)
         changes(seed)

@@ -1,9 +1,9 @@
 #!/usr/bin/env python3
 """cases.sh [PROGRAM]: plays every golden test with the built program.
 
-Golden tests of texts are in crates/golden_cases/data/scripts, where the gate plays them with the
-proved libraries. The ending of a file's name says which command reads it, and whether each line
-after the first is a separate text. Golden tests of arguments are in tests/cases:
+Golden tests of texts are in tests/scripts. The ending of a file's name says which command reads it,
+and whether each line after the first is a separate text. The commands keep their records in memory.
+Golden tests of arguments are in tests/cases:
 - NAME.words: what the test shows, and then an argument a line. ROOM in an argument is a temporary
   folder.
 - NAME.in: standard input
@@ -76,7 +76,7 @@ def main():
     program = pathlib.Path(sys.argv[1] if len(sys.argv) > 1 else os.environ.get("SUNREG", HERE.parent / "out" / "sunreg")).resolve()
     if not program.is_file():
         sys.exit(f"cases.sh: {program} is not built: run ./sunreg-build")
-    data = HERE.parent / "crates" / "golden_cases" / "data" / "scripts"
+    data = HERE / "scripts"
     texts = sorted(it for it in data.glob("*/*") if it.suffix[1:] in COMMANDS)
     words = sorted((HERE / "cases").glob("*.words"))
     failed = 0

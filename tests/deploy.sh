@@ -33,7 +33,7 @@ chmod 755 "$room"
 cd "$room" || exit 2
 passed=0
 failed=0
-CHECKS=213
+CHECKS=216
 port=${DEPLOY_PORT:-18700}
 tls=$((port + 1))
 prometheus=$((port + 2))
@@ -99,6 +99,11 @@ if has systemd-analyze; then
         fine "$it: its exposure" systemd-analyze security --offline=yes --threshold=12 "./$it.service"
         fine "$it: its time" systemd-analyze calendar "$(sed -n 's/^OnCalendar=//p' "$it.timer")"
     done
+    sed "s|^ExecStart=/usr/local/bin/sunreg-mqtt |ExecStart=/bin/true |" "$deploy/sunreg-mqtt.service" > sunreg-mqtt.service
+    systemd-analyze verify ./sunreg-mqtt.service > said 2>&1
+    same 'the bridge to MQTT: systemd-analyze verify' "$? $(grep sunreg said)" '0 '
+    # of 100: 12 when this was written
+    fine 'the bridge to MQTT: its exposure' systemd-analyze security --offline=yes --threshold=12 ./sunreg-mqtt.service
     same 'the unit: a word that systemd does not know is seen' "$(echo 'ProtectAll=yes' >> less/sunreg.service; systemd-analyze verify less/sunreg.service 2>&1 | grep -c ProtectAll)" 1
 fi
 same 'the settings are those of the command and of the backup' "$(sed -n 's/^\([A-Z_]*\)=.*/\1/p' "$deploy/sunreg.env" | sort)" \
@@ -111,6 +116,7 @@ same 'the settings of the copies are those of their command' "$(sed -n 's/^\([A-
 same 'the copies may write the folder of their metrics' "$(sed -n 's/^ReadWritePaths=-//p' "$central"/*.service | sort -u)" "$(dirname "$(sed -n 's/^METRICS=//p' "$central/sunreg-collect.env")")"
 same 'each option of their command is one of collect' "$(for it in $(grep -h '^ExecStart=' "$central"/*.service | sed 's/.*sunreg-collect //' | grep -o -e '--[a-z]*' | sort -u); do
     "$central/collect" --help | grep -q -e "^  $it" || echo "$it"; done)" ''
+same 'the settings of the bridge to MQTT are those of its command' "$(sed -n 's/^\([A-Z_]*\)=.*/\1/p' "$deploy/sunreg-mqtt.env" | sort | xargs)" "$(grep '^ExecStart=' "$deploy/sunreg-mqtt.service" | grep -o '\$[{A-Z}]*' | tr -d '${}' | sort -u | xargs)"
 fine 'the backup: its syntax' sh -n "$deploy/backup"
 same 'each option of its command is one of run' "$(for it in $(grep '^ExecStart=' "$deploy/sunreg.service" | grep -o ' --[a-z]*'); do
     grep -q "^ *${it} <" "$here/arguments.py" || echo "$it"; done)" ''

@@ -1,4 +1,4 @@
-"""http_cases.py PROGRAM ROOM: plays the golden tests of crates/golden_cases over files.
+"""http_cases.py PROGRAM ROOM: plays the golden tests of crates/http_cases over files.
 
 See http_cases.sh. `serve` and `run` respond at a port. `enter` enters the lines of a script; a
 `connect`, `start` and `bytes` become a `round` at a device of this process. The clock of each
@@ -18,7 +18,7 @@ import threading
 import time
 
 PROGRAM, ROOM = sys.argv[1], pathlib.Path(sys.argv[2])
-DATA = pathlib.Path(__file__).resolve().parent.parent / "crates" / "golden_cases" / "data" / "http"
+DATA = pathlib.Path(__file__).resolve().parent.parent / "crates" / "http_cases" / "data"
 COUNTED = re.compile(rb"GET /(status|metrics) ")
 NO_REPLY = b"no reply"
 
@@ -56,7 +56,7 @@ class NotTried(Exception):
 
 
 def decode(text):
-    """Returns the bytes of a request, as crates/golden_cases/README.md describes."""
+    """Returns the bytes of a request, as crates/http_cases/README.md describes."""
     found = bytearray()
     for line in text.split("\n"):
         is_open = line.endswith("~")

@@ -1,5 +1,5 @@
 #!/bin/sh
-# http_cases.sh [PROGRAM]: plays the golden tests of crates/golden_cases with the built program,
+# http_cases.sh [PROGRAM]: plays the golden tests of crates/http_cases with the built program,
 # out/sunreg by default. tests/http_cases.py says more. `faketime` sets the clock; as root the
 # script installs it by apt (not with PEERS_INSTALL=no).
 set -u

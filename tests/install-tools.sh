@@ -23,6 +23,13 @@ python_of_prometheus() {
     done
 }
 
+# python_with MODULES: prints the Python that has these modules, such as Debian's
+python_with() {
+    for it in python3 /usr/bin/python3; do
+        "$it" -B -c "import $1" > "$room/said" 2>&1 && echo "$it" && break
+    done
+}
+
 # postgres_folder: prints the folder of PostgreSQL's own programs, as apt installs them
 postgres_folder() {
     for it in /usr/lib/postgresql/*/bin; do
@@ -55,6 +62,9 @@ has() {
         libmodbus) printf '#include <modbus.h>\n' | cc -E $(flags --cflags) - > "$room/said" 2>&1 ;;
         pymodbus) [ -n "$(python_of_pymodbus)" ] ;;
         prometheus) [ -n "$(python_of_prometheus)" ] ;;
+        jinja2) [ -n "$(python_with 'jinja2, yaml')" ] ;;
+        paho) [ -n "$(python_with paho.mqtt.client)" ] ;;
+        mosquitto) command -v mosquitto > "$room/said" || [ -x /usr/sbin/mosquitto ] ;;
         postgresql) [ -n "$(postgres_folder)" ] ;;
         prometheus-server) command -v prometheus > "$room/said" ;;
         faketime) [ -n "$(library_of_faketime)" ] ;;
@@ -80,6 +90,9 @@ packages() {
             libmodbus) echo libmodbus-dev pkg-config ;;
             pymodbus) echo python3-pymodbus python3-serial-asyncio ;;
             prometheus) echo python3-prometheus-client ;;
+            jinja2) echo python3-yaml python3-jinja2 ;;
+            paho) echo python3-paho-mqtt ;;
+            mosquitto_sub) echo mosquitto-clients ;;
             promtool | prometheus-server) echo prometheus ;;
             amtool) echo prometheus-alertmanager ;;
             nginx) echo nginx-light ;;
@@ -135,8 +148,8 @@ esac
 here=$(dirname "$(readlink -f "$0")")
 room=$(mktemp -d) || exit 0
 trap 'rm -rf "$room"' EXIT
-of_gate='python3 curl sqlite3 faketime chromium tzdata setpriv man groff'
-of_long='cc libmodbus pymodbus mbpoll prometheus openssl nginx promtool amtool systemd-analyze postgresql clickhouse-server clickhouse-client dpkg-deb dpkg-shlibdeps lintian zsh fish'
+of_gate='python3 curl sqlite3 faketime chromium tzdata setpriv man groff jinja2 paho mosquitto mosquitto_sub openssl'
+of_long='cc libmodbus pymodbus mbpoll prometheus nginx promtool amtool systemd-analyze postgresql clickhouse-server clickhouse-client dpkg-deb dpkg-shlibdeps lintian zsh fish'
 case ${1:-} in
     --lacking)
         shift

@@ -1,8 +1,8 @@
 #!/usr/bin/env python3
 """replay_stores.py [PROGRAM]: compares the two stores of an office, in memory and in a file.
 
-It plays each script in crates/golden_cases/data/scripts with `replay`, and with `replay --db` over the file
-that `create` makes for the same zone. Both must print the same bytes and exit with the same status.
+It plays each script in tests/scripts with `replay`, and with `replay --db` over the file that
+`create` makes for the same zone. Both must print the same bytes and exit with the same status.
 `audit` must find no differences in the file. The script ends with 'N passed, M failed'. JOBS is how
 many scripts are played at a time, 2 by default.
 """
@@ -16,7 +16,7 @@ import tempfile
 sys.dont_write_bytecode = True
 import cases
 
-DATA = cases.HERE.parent / "crates" / "golden_cases" / "data" / "scripts"
+DATA = cases.HERE / "scripts"
 
 
 def run(program, *words, text=b""):

@@ -9,7 +9,7 @@ import re
 import sys
 
 TOP = os.path.dirname(os.path.dirname(os.path.realpath(__file__)))
-PROGRAMS = {"sunreg", "golden_cases"}
+PROGRAMS = {"sunreg", "http_cases"}
 
 
 def lists():
@@ -61,7 +61,7 @@ def main():
     faults += [f"the diagram has {it} --> {layer}" for it, layer in sorted(drawn - wanted)]
     faults += [f"the layer {it} has {ruled.count(it)} rules" for it in sorted({*layers.values(), *ruled}) if ruled.count(it) != 1]
     names = [it for it, _ in rows] + re.findall(r"^\| `(\w+)` \|", text, re.M)
-    listed = crates.keys() - {"golden_cases"} | set(names)
+    listed = crates.keys() - {"http_cases"} | set(names)
     faults += [f"{it} has {names.count(it)} rows" for it in sorted(listed) if names.count(it) != 1 or it not in crates]
     chain = max((chain_of(crates, it) for it in libraries), key=len)
     counted = (("Libraries", len(libraries)), ("Crates of tests", len(tests)), ("The longest chain of libraries", len(chain)))

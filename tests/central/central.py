@@ -715,7 +715,7 @@ def reads_golden_texts():
         return [[collect.day_text(day).decode(), *map(str, row)] for day, *row in zip(days, *values)], total
 
     taken = {interval_rows: 0, day_rows: 0}
-    for file in sorted((HERE.parent.parent / "crates/golden_cases/data/scripts").glob("*/*.out")):
+    for file in sorted((HERE.parent / "scripts").glob("*/*.out")):
         lines = file.read_text().splitlines(keepends=True)
         for place, line in enumerate(lines):
             count = int(line.split()[1]) if re.fullmatch("end [0-9]{1,6}\n", line) else 0

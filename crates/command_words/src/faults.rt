@@ -62,7 +62,7 @@ pub enum ValueFault<'a> {
 
 /// The reason why the program executes no command: invalid arguments, out of memory, or a request
 /// for help or for the version.
-#[derive(Debug, PartialEq, Eq, Drop)]
+#[derive(Debug, Drop)]
 pub enum WordsFault {
     /// The arguments are invalid. The text for standard error states the reason.
     Wrong(String),

@@ -4,7 +4,7 @@ use energy_report::{EnergyUnit, Format, Period};
 
 /// The options that determine what a report shows. `from` and `till` are days, as the user wrote
 /// them.
-#[derive(Clone, Copy, Debug, PartialEq, Eq)]
+#[derive(Clone, Copy, Debug)]
 pub struct FormWords<'a> {
     pub from: Option<&'a str>,
     pub till: Option<&'a str>,
@@ -17,7 +17,7 @@ pub struct FormWords<'a> {
 }
 
 /// What an audit does with a seal, which is a signed-off digest of a file's past.
-#[derive(Clone, Copy, Debug, PartialEq, Eq)]
+#[derive(Clone, Copy, Debug)]
 pub enum Sealing<'a> {
     /// The audit uses no seal (a digest of a file's past).
     Nothing,
@@ -29,7 +29,7 @@ pub enum Sealing<'a> {
 
 /// A command with the values of its options. Texts are as the user wrote them, numbers are in
 /// range, and durations are in seconds.
-#[derive(Debug, PartialEq, Eq, Drop)]
+#[derive(Debug, Drop)]
 pub enum CommandLine<'a> {
     /// Executes a script (a text of commands, events and queries) from standard input, with a store
     /// in memory.

@@ -9,9 +9,9 @@ use std::fs::{self, File};
 use std::io::{self, ErrorKind, Read, Write};
 use std::str::from_utf8;
 use stored_files::{
-    AuditFault, Databases, Ending, Failure, Joining, Named, audit_stored, check_stored_seal,
-    hold_to_earlier, meters_stored, read_zone_text, seal_stored, write_audit, write_checked,
-    write_joins, write_seal,
+    AuditFault, Databases, Ending, Failure, Joining, Named, audit_stored, check_mark,
+    check_stored_seal, hold_to_earlier, meters_stored, read_zone_text, seal_stored, write_audit,
+    write_checked, write_joins, write_seal,
 };
 
 /// The maximum length of a seal (a digest of a file's past) that the command `audit` reads, in
@@ -51,6 +51,7 @@ fn audit_over<S: Alter>(
     connection: &mut Connection<S>,
     seal: Sealing<'_>,
 ) -> Result<bool, AuditFault> {
+    check_mark(connection)?;
     let findings = audit_stored(rt.alloc(), connection)?;
     if findings.is_fine() {
         match seal {

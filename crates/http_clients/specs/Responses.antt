@@ -35,7 +35,7 @@ use Rattle.run_http.specs.Pieces.{BeginsReply, with_all_rows, with_rows}
 use Rattle.run_http.specs.RegisterReplies.{RepliesEnergy}
 use Rattle.http_clients.specs.SiteOver.{with_site_over}
 use Rattle.run_http.specs.SiteReply.{RepliesSite}
-use Rattle.run_http.specs.StatusRoute.{IsFor, with_reply, with_route_reply}
+use Rattle.run_http.specs.StatusRoute.{AsksEnergy, IsFor, with_reply, with_route_reply}
 use Rattle.run_http.specs.Texts.MeterLines.{entries_text, voids_text}
 use Rattle.run_http.specs.Texts.RegisterLines.{meters_text}
 use Rattle.run_http.specs.Voids.{voids_of}
@@ -260,12 +260,14 @@ IsStored stored request (Replied text) = WasReplied stored request text.items
 IsStored stored request Failed = ⊥
 
 -- The client gets the stored response to an equal request, without a query to the store, or the
--- response that the program makes for this request.
+-- response that the program makes for this request. Only a request for energy gets a stored
+-- response, so the program executes every command.
 abbrev pub RespondsAgain : {B : Type 0} → (B → Ledger) → HttpPort → (old new : Office B)
     → (request : List ℕ) → RunContext → (before after : Option RemainingRows) → ClientResponse
     → Type 0
 RespondsAgain ledger port old new request context before after response =
-    ((new ≡ old) × (after ≡ before) × IsStored port.repeats.latest request response)
+    (AsksEnergy (texts context.names.now) request true × (new ≡ old) × (after ≡ before)
+    × IsStored port.repeats.latest request response)
     ⊎ RespondsTo ledger port old new request context before after response
 
 -- The program made the response to this request or had it stored, and did nothing else to its

@@ -299,8 +299,9 @@ impl HttpPort {
         }
     }
 
-    // Returns the stored response if the request is equal to the stored request and nothing was
-    // recorded since. Otherwise makes a new response.
+    // Returns the stored response if the request asks for energy, is equal to the stored request,
+    // and nothing was recorded since. Otherwise makes a new response. So no command gets a stored
+    // response.
     #[tactic(auto, using(crate::proofs::ServingClients::nobody_asks))]
     fn reply_again<B: Books>(
         &mut self,
@@ -314,8 +315,10 @@ impl HttpPort {
         ensures responds { RespondsAgain B.ledger self.old office.old office.new
             request.now context.now rows.old rows.new result }
     {
-        if let Some(reply) = self.repeats.again(self.alloc, request) {
-            return ClientResponse::Replied(reply);
+        if asks_energy(context.names, request) {
+            if let Some(reply) = self.repeats.again(self.alloc, request) {
+                return ClientResponse::Replied(reply);
+            }
         }
         let asked = self.reply(request, office, context, rows);
         self.keep_reply(context.names, request, &asked);

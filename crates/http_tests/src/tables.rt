@@ -1,5 +1,5 @@
 //! Requests that tests serve one after another, each with its response. The golden tests
-//! `http/office/questions` and `http/office/commands` of `golden_cases` have the same requests.
+//! `office/questions` and `office/commands` of `http_cases` have the same requests.
 use crate::cases::Case;
 
 /// Queries, requests whose request line or headers are rejected, and a meter exchange with its

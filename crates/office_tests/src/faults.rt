@@ -1,9 +1,14 @@
-//! Tests the numeric codes and the texts of refusals and faults, and the failure counter of a
-//! store.
+//! Tests the numeric codes and the texts of refusals and faults. Examples are the faults of inputs,
+//! of script lines, and of the program's arguments. Also tests the failure counter of a store, and
+//! the words that are printed before numeric codes.
+use command_io::ReadFault;
+use command_words::{DeviceFault, ListFault, WordsFault};
 use energy_core::Cause;
 use office_books::{BooksFault, Failures, StoreFault};
 use office_events::{Refusal, StoreCause};
 use office_program::RoundFault;
+use printed_numbers::{Kind, kind_named, kinds};
+use script_text::LineFault;
 use std::alloc::Global;
 use std::fmt::Display;
 use std::process::Abort;
@@ -86,8 +91,8 @@ static STORES: [(StoreFault, &str); 2] = [
 // Asserts that a fault has this text, and that the text does not end with a full stop.
 fn assert_text<F: Display>(rt: &impl Abort, alloc: Global, fault: &F, text: &str) {
     let said = format!(in alloc; "{fault}").expect(rt, "a text");
-    assert!(rt; said.as_str() == text);
-    assert!(rt; !text.ends_with('.'));
+    assert!(rt; said.as_str() == text, "{text}");
+    assert!(rt; !text.ends_with('.'), "{text}");
 }
 
 /// Each refusal has its numeric code, 1 to 17, and its text.
@@ -121,6 +126,67 @@ fn faults_have_numbers_and_sentences(rt: HostRuntime) {
     assert_text(&rt, rt.alloc(), &BooksFault::Memory, MEMORY);
 }
 
+const LINES: [(LineFault, &str); 2] = [
+    (
+        LineFault::Bad,
+        "the line has none of the forms of a script's lines",
+    ),
+    (LineFault::Memory, "memory ran out"),
+];
+
+const INPUTS: [(ReadFault, &str); 3] = [
+    (ReadFault::TooLong, "the input has more than 4194304 bytes"),
+    (
+        ReadFault::Failed,
+        "reading the input failed or was interrupted",
+    ),
+    (ReadFault::Memory, "out of memory"),
+];
+
+const DEVICES: [(DeviceFault, &str); 3] = [
+    (
+        DeviceFault::Malformed,
+        "not NAME=HOST:PORT with a PORT from 1 to 65535",
+    ),
+    (DeviceFault::Repeated, "its NAME is used twice"),
+    (DeviceFault::TooMany, "more than 64 devices"),
+];
+
+const PARTS: [(ListFault, &str); 2] = [
+    (
+        ListFault::Part {
+            part: "b=:5020",
+            fault: DeviceFault::Malformed,
+        },
+        "invalid device 'b=:5020': not NAME=HOST:PORT with a PORT from 1 to 65535",
+    ),
+    (ListFault::Memory, "out of memory"),
+];
+
+// Asserts that each fault has its expected text, which does not end with a full stop.
+fn assert_texts<F: Display>(rt: &impl Abort, alloc: Global, texts: &[(F, &str)]) {
+    for (fault, text) in texts {
+        assert_text(rt, alloc, fault, *text);
+    }
+}
+
+/// Each fault of a script line, of an input and of the program's arguments has its text.
+#[test]
+fn each_fault_has_its_text(rt: HostRuntime) {
+    assert_texts(&rt, rt.alloc(), &LINES);
+    assert_texts(&rt, rt.alloc(), &INPUTS);
+    assert_texts(&rt, rt.alloc(), &DEVICES);
+    assert_texts(&rt, rt.alloc(), &PARTS);
+    let wrong = String::from_str(rt.alloc(), "error: x\n").expect(&rt, "no memory");
+    let help = String::from_str(rt.alloc(), "Usage: x\n").expect(&rt, "no memory");
+    let texts = [
+        (WordsFault::Wrong(wrong), "error: x\n"),
+        (WordsFault::Help(help), "Usage: x\n"),
+        (WordsFault::Memory, "out of memory"),
+    ];
+    assert_texts(&rt, rt.alloc(), &texts)
+}
+
 const STORE_REFUSED: BooksFault = BooksFault::Store(StoreFault::Refused);
 
 const STORE_DAMAGED: BooksFault = BooksFault::Store(StoreFault::Damaged);
@@ -144,4 +210,16 @@ fn each_failure_is_counted_with_its_kind(rt: HostRuntime) {
         assert!(rt; failures.noted(answer) == answer);
         assert!(rt; failures == Failures { count, last });
     }
+}
+
+/// Each word that is printed before numeric codes, such as `fault`, identifies a set of codes.
+/// `tests/words.py` tests the explanation of each code.
+#[test]
+fn each_kind_is_named(rt: HostRuntime) {
+    for kind in kinds() {
+        let found = kind_named(kind.word()).expect(&rt, "no kind");
+        assert!(rt; found.word() == kind.word());
+    }
+    assert!(rt; kind_named("fault") == Some(Kind::RowFault));
+    assert!(rt; kind_named("cause").is_none());
 }

@@ -115,7 +115,7 @@ const REGISTERS: Step = Step::Books(&[
 ]);
 
 // Modbus reads of the device `inv`, each with the accounting registers (named counters) that the
-// read covers. The golden test `scripts/polls/registers_of_a_read` of `golden_cases` has the same
+// read covers. The golden test `polls/registers_of_a_read` of `tests/scripts` has the same
 // reads.
 static READS: [Step; 12] = [
     Step::Read(3, 100, 2, &["fixed"]),

@@ -4,7 +4,7 @@ use office_store::OpenFault;
 use stored_files::{AuditFault, CopyFault, Failure, FileFault};
 
 /// Every failure of a command, with its text.
-static FAILURES: [(Failure<'static>, &str); 40] = [
+static FAILURES: [(Failure<'static>, &str); 42] = [
     (Failure::Memory, "out of memory"),
     (
         Failure::Streams,
@@ -194,6 +194,20 @@ static FAILURES: [(Failure<'static>, &str); 40] = [
             fault: AuditFault::Earlier,
         },
         "a.db: made by an earlier version of sunreg: open it, or a backup of it, once with sunreg report",
+    ),
+    (
+        Failure::Unaudited {
+            path: "a.db",
+            fault: AuditFault::Schema,
+        },
+        "a.db: its tables, indexes, views or triggers are not those of sunreg: use an intact copy or a backup",
+    ),
+    (
+        Failure::Unaudited {
+            path: "a.db",
+            fault: AuditFault::Mark,
+        },
+        "a.db: its table meta does not have exactly one row with id 1, version 3 and a time zone: use an intact copy or a backup",
     ),
     (
         Failure::Unaudited {

@@ -7,3 +7,4 @@ pub mod Carries
 pub mod Joins
 pub mod Logs
 pub mod Recoveries
+pub mod Audits

@@ -1,13 +1,15 @@
 //! Audits the metering records in a database, and checks whether successive database files continue
 //! each other.
-ghost use Rattle.std.specs.Prelude.{◌≡◌, ◌↔◌, ◌⊎◌, ◌++◌, [], false, Err, Some, IsTrue, IfOk, IfErr, OnOk, option_map, string_bytes};
+ghost use Rattle.std.specs.Prelude.{◌≡◌, ◌↔◌, ◌⊎◌, ◌++◌, [], true, false, Err, Some, IsTrue, IfOk, IfErr, OnOk, option_map, string_bytes};
 ghost use Rattle.std.specs.Io.KnownBytes.{Appends};
 ghost use Rattle.sqlite.specs.Held.{state};
 ghost use Rattle.sqlite.specs.State.{HasCleanDisk};
 ghost use Rattle.store_tables.specs.Content.{Content};
 ghost use Rattle.store_tables.specs.declared.layouts.Layout.{Layout as TheLayout};
 ghost use Rattle.store_tables.specs.Layouts.{IsNamedAs};
-ghost use Rattle.table_audit.specs.Looking.{HoldsTables, OnlyLooks};
+ghost use Rattle.stored_files.specs.Audits.{IsOfTables};
+ghost use Rattle.table_audit.specs.FileMark.{ReportsMark};
+ghost use Rattle.table_audit.specs.Looking.{HoldsRows, HoldsTables, OnlyLooks};
 ghost use Rattle.table_audit.specs.Polls.{ReportsTables};
 ghost use Rattle.table_audit.specs.Texts.{with_findings};
 ghost use Rattle.table_seals.specs.Filing.{FilesMeters, HasUnfiledMeter};
@@ -19,7 +21,7 @@ use std::alloc::Global;
 use std::io::Write;
 use store_tables::{Layout, RowFault, layout_of};
 use sun_points::Sink;
-use table_audit::{Findings, audit_tables, write_findings};
+use table_audit::{Findings, audit_tables, check_definitions, is_marked, write_findings};
 use table_seals::{FiledMeter, FiledOffice, Joining, append_joins, filed_meters};
 
 /// A reason why the audit of a database file failed.
@@ -29,6 +31,11 @@ pub enum AuditFault {
     NotOurs,
     /// The database has the tables of an earlier version of the program.
     Earlier,
+    /// The tables, indexes, views or triggers of the database have another definition than the
+    /// program's.
+    Schema,
+    /// The table `meta` does not have one row with number 1, the present version and a time zone.
+    Mark,
     /// The tables can't be sealed: a row has an invalid value, or a name that is not a word.
     Unsealable,
     /// A name or the time zone is not valid text.
@@ -45,14 +52,15 @@ pub enum AuditFault {
     Output,
 }
 
-/// Checks that a database has the tables of `sunreg` in their present version, and that the
-/// connection has no open transaction.
+/// Checks that a database has exactly the schema of `sunreg` in its present version, and that the
+/// connection has no open transaction. SQLite has then checked the keys of all rows.
 pub(crate) fn check_ours<S: Alter>(connection: &Connection<S>) -> Result<(), AuditFault>
     ensures foreign { ((layout : TheLayout) → ¬ IsNamedAs connection.now.schema layout)
         → result ≡ Err AuditFault.NotOurs }
     ensures idle { OnOk result (connection.now.in_transaction ≡ false) }
-    ensures fault { IfErr result (λ fault.
-        (fault ≡ AuditFault.NotOurs) ⊎ (fault ≡ AuditFault.Earlier)) }
+    ensures ours { OnOk result ((content : Content) → HoldsRows S.Store connection.now content
+        → HoldsTables S.Store connection.now content) }
+    ensures fault { IfErr result IsOfTables }
 {
     if !connection.is_autocommit() {
         return Err(AuditFault::NotOurs);
@@ -60,7 +68,10 @@ pub(crate) fn check_ours<S: Alter>(connection: &Connection<S>) -> Result<(), Aud
     match layout_of(connection.schema()) {
         None => Err(AuditFault::NotOurs),
         Some(Layout::First | Layout::Second) => Err(AuditFault::Earlier),
-        Some(Layout::Third) => Ok(()),
+        Some(Layout::Third) => match check_definitions(connection) {
+            Ok(()) => Ok(()),
+            Err(_) => Err(AuditFault::Schema),
+        },
     }
 }
 
@@ -71,6 +82,27 @@ pub(crate) fn fault_of(fault: RowFault) -> AuditFault
     match fault {
         RowFault::Sql(Error::SqliteFailure(ErrorCode::OutOfMemory)) => AuditFault::Memory,
         _ => AuditFault::Store,
+    }
+}
+
+/// Checks the row of the table `meta`, which has the version of the file and its time zone. Writes
+/// nothing to the database.
+pub fn check_mark<S: Alter>(connection: &mut Connection<S>) -> Result<(), AuditFault>
+    ensures foreign { ((layout : TheLayout) → ¬ IsNamedAs connection.old.schema layout)
+        → result ≡ Err AuditFault.NotOurs }
+    ensures looks { connection.old.in_transaction ≡ false
+        → OnlyLooks S.Store connection.old connection.new }
+    ensures marked { HasCleanDisk (state S.Store connection.new) → (content : Content)
+        → HoldsRows S.Store connection.old content → OnOk result (ReportsMark content true) }
+    ensures unmarked { HasCleanDisk (state S.Store connection.new) → (content : Content)
+        → HoldsRows S.Store connection.old content → result ≡ Err AuditFault.Mark
+        → ReportsMark content false }
+{
+    check_ours(connection)?;
+    match is_marked(connection) {
+        Ok(true) => Ok(()),
+        Ok(false) => Err(AuditFault::Mark),
+        Err(fault) => Err(fault_of(fault)),
     }
 }
 
@@ -86,7 +118,7 @@ pub fn audit_stored<S: Alter>(
     ensures looks { connection.old.in_transaction ≡ false
         → OnlyLooks S.Store connection.old connection.new }
     ensures reports { HasCleanDisk (state S.Store connection.new) → (content : Content)
-        → HoldsTables S.Store connection.old content → IfOk result (ReportsTables content) }
+        → HoldsRows S.Store connection.old content → IfOk result (ReportsTables content) }
 {
     check_ours(connection)?;
     match audit_tables(alloc, connection) {
@@ -128,10 +160,10 @@ pub fn meters_stored<'a, S: Alter>(
     ensures looks { connection.old.in_transaction ≡ false
         → OnlyLooks S.Store connection.old connection.new }
     ensures reports { HasCleanDisk (state S.Store connection.new) → (content : Content)
-        → HoldsTables S.Store connection.old content
+        → HoldsRows S.Store connection.old content
         → IfOk result (λ meters. FilesMeters file.now content (Some meters)) }
     ensures unread { HasCleanDisk (state S.Store connection.new) → (content : Content)
-        → HoldsTables S.Store connection.old content → result ≡ Err AuditFault.NoText
+        → HoldsRows S.Store connection.old content → result ≡ Err AuditFault.NoText
         → HasUnfiledMeter file.now content }
 {
     check_ours(connection)?;

@@ -15,7 +15,7 @@ mod recoveries;
 mod seals;
 
 pub use audits::{
-    AuditFault, audit_stored, hold_to_earlier, meters_stored, write_audit, write_joins,
+    AuditFault, audit_stored, check_mark, hold_to_earlier, meters_stored, write_audit, write_joins,
 };
 pub use backups::{CopyFault, recovered_file, whole_file, whole_files};
 pub use carries::{CarryEnd, carry_stored, read_zone_text};

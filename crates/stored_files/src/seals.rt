@@ -7,7 +7,7 @@ ghost use Rattle.sqlite.specs.State.{HasCleanDisk};
 ghost use Rattle.store_tables.specs.Content.{Content};
 ghost use Rattle.store_tables.specs.declared.layouts.Layout.{Layout as TheLayout};
 ghost use Rattle.store_tables.specs.Layouts.{IsNamedAs};
-ghost use Rattle.table_audit.specs.Looking.{HoldsTables, OnlyLooks};
+ghost use Rattle.table_audit.specs.Looking.{HoldsRows, OnlyLooks};
 ghost use Rattle.table_seals.specs.Checking.{IsAsSealed, ReportsTables};
 ghost use Rattle.table_seals.specs.Reading.{AreTablesSealable};
 ghost use Rattle.table_seals.specs.Sealed.{SealedTables, sealed_tables_of};
@@ -33,10 +33,10 @@ pub fn seal_stored<S: Alter>(
     ensures looks { connection.old.in_transaction ≡ false
         → OnlyLooks S.Store connection.old connection.new }
     ensures reports { HasCleanDisk (state S.Store connection.new) → (content : Content)
-        → HoldsTables S.Store connection.old content
+        → HoldsRows S.Store connection.old content
         → IfOk result (λ seal. SealsTables content (Some seal)) }
     ensures unsealed { HasCleanDisk (state S.Store connection.new) → (content : Content)
-        → HoldsTables S.Store connection.old content
+        → HoldsRows S.Store connection.old content
         → result ≡ Err AuditFault.Unsealable → CannotBeSealed content }
 {
     check_ours(connection)?;
@@ -74,7 +74,7 @@ pub fn check_stored_seal<S: Alter>(
     ensures looks { connection.old.in_transaction ≡ false
         → OnlyLooks S.Store connection.old connection.new }
     ensures reports { HasCleanDisk (state S.Store connection.new) → (content : Content)
-        → HoldsTables S.Store connection.old content
+        → HoldsRows S.Store connection.old content
         → IfOk result (λ checked. (seal : SealedTables) × (text.now ≡ seal_text seal)
         × ReportsTables seal content checked) }
     ensures no_seal { (seal : SealedTables) → AreTablesSealable seal

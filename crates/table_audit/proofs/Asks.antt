@@ -13,16 +13,18 @@ use Rattle.sqlite_sql.specs.declared.ops.CompareOp.TheVariants.{Eq}
 use Rattle.sqlite.specs.Collation.TheVariants.{Binary}
 use Rattle.sqlite.specs.Term.{col}
 use Rattle.sqlite.specs.State.{State, Shown}
-use Rattle.store_tables.specs.Schema.{books_schema, installations_table, entries_table, voids_table, ranges_table, intervals_table}
+use Rattle.store_tables.specs.Schema.{books_schema, meta_table, installations_table, entries_table, voids_table, ranges_table, intervals_table}
 use Rattle.store_tables.specs.Content.{Content, AreTables, HasRows}
 use Rattle.store_tables.specs.Answer.{AnyOrder, every}
 use Rattle.store_tables.specs.Asking.{Shows}
 use Rattle.store_tables.specs.Entries.Trees as entry_tree
+use Rattle.store_tables.specs.Meta.{meta}
 use Rattle.store_tables.specs.Meters.Trees as meter_tree
 use Rattle.store_tables.proofs.Frames.{tree_at}
 use Rattle.store_tables.proofs.Scans.{rising, text_is, and_true, no_limit}
 use Rattle.store_tables.proofs.Selects.{selects}
 use Rattle.store_tables.proofs.EntriesLemmas.Texts as entry_text
+use Rattle.table_audit.specs.FileMark.{mark_shown}
 use Rattle.table_audit.specs.Looking.{itself}
 use Rattle.table_audit.specs.Showing.{intervals_tree, is_text, is_of, InOrder, InPlace, installation_shown, range_shown, entry_shown, void_shown, share_shown}
 use Rattle.table_audit.proofs.SqlTexts as text
@@ -77,6 +79,14 @@ installation_rows old new content xs rows has are h =
     (λ n x. refl) (λ n x. refl)
     (λ m n x y le. sym (ap is_gt (then-Equal (value_cmp (column x 0) (column y 0)))) ∙ le)
     old new text.installation_rows text.installation_names content xs rows (tree_at books_schema.tables 4 installations_table refl) has are text.installation_rows_is text.installation_rows_unlisted text.installation_rows_plain h
+
+pub mark_rows : (old new : State) (content : Content) (xs rows : List Row) → AreTables old.now content → HasRows meta itself xs content
+    → Shown text.mark_rows [] old new rows → Shows every InPlace mark_shown xs rows
+mark_rows old new content xs rows has are h =
+    selects meta [] text.mark_project ((col 1 0, rising) ∷ []) no_limit [] itself every mark_shown InPlace
+    (λ n x. refl) (λ n x. refl)
+    (λ m n x y le. sym (ap is_gt (then-Equal (value_cmp (column x 0) (column y 0)))) ∙ le)
+    old new text.mark_rows text.mark_names content xs rows (tree_at books_schema.tables 0 meta_table refl) has are text.mark_rows_is text.mark_rows_unlisted text.mark_rows_plain h
 
 -- If a query shows each row unchanged, then it returns all rows of its table.
 pub all_rows : (content : Content) (tree : ℕ) → HasRows tree itself (content tree) content

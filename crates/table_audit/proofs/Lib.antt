@@ -12,3 +12,4 @@ pub mod PollRuns
 pub mod Rising
 pub mod Found
 pub mod Lines
+pub mod HeldRows

@@ -102,6 +102,33 @@ pub installation_rows_suits : Suits books_schema installation_rows []
 unfolding understood everything
 installation_rows_suits = suits_scan 7 [] installation_project ((col 1 0, rising) ∷ []) no_limit installation_rows installation_names [] (refl, refl, refl) installation_rows_plain installation_rows_unlisted installation_rows_is refl
 
+-- ---- the meaning of the query mark_rows
+
+abbrev pub mark_rows : List ℕ
+mark_rows = codes "SELECT id, version, zone FROM meta ORDER BY id"
+
+abbrev pub mark_project : List Term
+mark_project = col 1 0 ∷ col 1 2 ∷ col 1 3 ∷ []
+
+abbrev pub mark_names : List (List ℕ)
+mark_names = codes "id" ∷ codes "version" ∷ codes "zone" ∷ []
+
+pub mark_rows_is : command_of (understood books_schema mark_rows) ≡ Select (record { lets = []; body = scan 0 [] mark_project ((col 1 0, rising) ∷ []) no_limit }) mark_names
+unfolding understood everything
+mark_rows_is = refl
+
+pub mark_rows_unlisted : reads_listing books_schema mark_rows ≡ false
+unfolding understood everything
+mark_rows_unlisted = refl
+
+pub mark_rows_plain : IsPlain (understood books_schema mark_rows)
+unfolding understood everything
+mark_rows_plain = (refl, refl)
+
+pub mark_rows_suits : Suits books_schema mark_rows []
+unfolding understood everything
+mark_rows_suits = suits_scan 0 [] mark_project ((col 1 0, rising) ∷ []) no_limit mark_rows mark_names [] (refl, refl, refl) mark_rows_plain mark_rows_unlisted mark_rows_is refl
+
 -- ---- the meaning of the query last_poll
 
 abbrev pub last_poll : List ℕ

@@ -11,3 +11,5 @@ pub mod Named
 pub mod PollDifferences
 pub mod Polls
 pub mod Texts
+pub mod SchemaForms
+pub mod FileMark

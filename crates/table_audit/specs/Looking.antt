@@ -1,13 +1,23 @@
 -- Contracts of queries that assume nothing about the contents of the tables.
-use Rattle.std.specs.Prelude.{◌≡◌, false, Result, IfOk, IfErr, IsTrue}
+use Rattle.std.specs.Prelude.{◌≡◌, ℕ, map, false, Result, IfOk, IfErr, IsTrue}
+use Rattle.std.specs.List.Sorted.{IsPermutation}
 use Rattle.sqlite.specs.Order.{Row}
 use Rattle.sqlite.specs.Tree.{Trees}
 use Rattle.sqlite.specs.Store.{Ghosts}
 use Rattle.sqlite.specs.Held.{Held, state}
 use Rattle.sqlite.specs.State.{HasCleanDisk, KeepsCommit}
 use Rattle.store_tables.specs.declared.faults.RowFault.{RowFault}
-use Rattle.store_tables.specs.Content.{Content, AreTables}
+use Rattle.sqlite.specs.Effect.{Database}
+use Rattle.store_tables.specs.Schema.{books_schema}
+use Rattle.store_tables.specs.Content.{Content, AreApart, AreTables, HasTree, is_numbered, reported}
 use Rattle.store_tables.specs.Failing.{IsFault, StateAfterCall}
+
+-- True if the store's tables have the rows of `content`, and no rowid occurs twice in a table. The
+-- schema of the database may be any.
+pub record AreRows (db : Database) (content : Content) : Type 0 where
+  pub rows : (t : ℕ) → HasTree books_schema.tables t
+      → IsPermutation (map (reported (is_numbered t)) (db.trees t)) (content t)
+  pub apart : (t : ℕ) → HasTree books_schema.tables t → AreApart (db.trees t)
 
 -- The result row of a query that returns all columns of a table row unchanged.
 abbrev pub itself : Row → Row
@@ -20,6 +30,13 @@ module _ {S : Type 0} (g : Ghosts S) where
   HoldsTables h content =
       HasCleanDisk (state g h) → IsTrue (state g h).is_open
       → AreTables (state g h).committed content
+
+  -- If the connection is open and the disk returned what was written to it, then the committed
+  -- tables have the rows of `content`. Nothing is assumed of the schema.
+  unfoldable pub HoldsRows : Held S → Content → Type 0
+  HoldsRows h content =
+      HasCleanDisk (state g h) → IsTrue (state g h).is_open
+      → AreRows (state g h).committed content
 
   -- A query outside a transaction. It commits nothing, and a crash after it leaves the same data as
   -- a crash before it.

@@ -5,6 +5,7 @@
 
 mod audit;
 mod differences;
+mod file_mark;
 mod findings;
 mod lawful;
 mod meters;
@@ -17,10 +18,12 @@ mod polls;
 mod queries;
 mod reading;
 mod rows;
+mod schema;
 mod texts;
 
 pub use audit::{audit_meter, audit_rows};
 pub use differences::{Difference, Differences, MOST, PollFault, Table};
+pub use file_mark::is_marked;
 pub use findings::{Counts, Finding, Findings};
 pub use meters::audit_meters;
 pub use poll_queries::{last_poll, run_rows};
@@ -29,4 +32,5 @@ pub use polls::audit_tables;
 pub use queries::{installations, meter_rows};
 pub use reading::{entries, installation, places, range};
 pub use rows::MeterRows;
+pub use schema::{SchemaFault, check_definitions};
 pub use texts::write_findings;

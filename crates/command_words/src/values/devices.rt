@@ -17,7 +17,7 @@ pub const MOST_DEVICES: usize = 64;
 pub const MOST_PORT: u32 = 65_535;
 
 /// A device `NAME=HOST:PORT` of a list. The texts are as the user wrote them.
-#[derive(Clone, Copy, Debug, PartialEq, Eq, Drop)]
+#[derive(Clone, Copy, Debug, Drop)]
 pub struct Device<'a> {
     pub name: &'a str,
     pub host: &'a str,

@@ -233,6 +233,10 @@ fn why_unaudited(fault: AuditFault) -> &'static str {
             "not an office file, or made by a later version of sunreg: use the office file or a backup",
         AuditFault::Earlier =>
             "made by an earlier version of sunreg: open it, or a backup of it, once with sunreg report",
+        AuditFault::Schema =>
+            "its tables, indexes, views or triggers are not those of sunreg: use an intact copy or a backup",
+        AuditFault::Mark =>
+            "its table meta does not have exactly one row with id 1, version 3 and a time zone: use an intact copy or a backup",
         AuditFault::Unsealable =>
             "a row has a value or a name that a seal can't contain: sunreg audit without --seal shows which",
         AuditFault::NoText =>

@@ -1,0 +1,55 @@
+-- The tables and indexes that the short forms of the program describe.
+use Rattle.std.specs.Prelude.{ℕ, true, false, List, [], map}
+use Rattle.std.specs.Borrow.{Bor}
+use Rattle.sqlite.specs.Table.{Table}
+use Rattle.sqlite_schema.specs.declared.schema.Column.{Column}
+use Rattle.sqlite_schema.specs.declared.schema.Index.{Index}
+use Rattle.sqlite_schema.specs.declared.schema.Reference.{Reference}
+use Rattle.sqlite_schema.specs.declared.schema.Stamps.{Stamps}
+use Rattle.sqlite_value.specs.Keys.{plain}
+use Rattle.store_tables.specs.Schema.{strict, refers}
+use Rattle.sqlite.specs.Kind.{Kind}
+use Rattle.table_audit.specs.declared.schema.forms.KeyForm.{KeyForm}
+use Rattle.table_audit.specs.declared.schema.forms.TableForm.{TableForm}
+use Rattle.table_audit.specs.declared.schema.forms.IndexForm.{IndexForm}
+
+-- The column of a form: NOT NULL in a STRICT table, without a default.
+abbrev pub column_of : Bor (List ℕ) × Kind → Column
+column_of form = strict form.0.now form.1
+
+-- The foreign key of a form.
+abbrev pub reference_of : KeyForm → Reference
+reference_of form =
+    refers form.columns.now form.parent.now (map (λ text. text.now) form.parent_columns.now)
+
+-- No default of a column is the time.
+abbrev pub no_stamps : Stamps
+no_stamps = record { places = []; terms = []; formats = [] }
+
+-- The table of a form: a STRICT table of NOT NULL columns.
+abbrev pub table_of : TableForm → Table
+table_of form = record {
+  name = form.name.now;
+  tree = form.tree;
+  columns = map column_of form.columns.now;
+  key = form.key;
+  primary = form.primary.now;
+  uniques = map (λ places. places.now) form.uniques.now;
+  orders = map (λ places. plain) form.uniques.now;
+  checks = [];
+  references = map reference_of form.keys.now;
+  computed = [];
+  stamps = no_stamps;
+  is_counted = false;
+}
+
+-- The index of a form, which SQLite makes for a UNIQUE or a PRIMARY KEY.
+abbrev pub index_of : IndexForm → Index
+index_of form = record {
+  name = form.name.now;
+  tree = form.tree;
+  table = form.table;
+  columns = form.columns.now;
+  order = plain;
+  is_unique = true;
+}

@@ -1,0 +1,117 @@
+//! Compares the schema of a file with the one that the program creates. The schema is the
+//! definitions of the tables with their columns, keys and foreign keys, and the indexes. In a file
+//! with another schema, rows could occur twice or without their parent.
+ghost use Rattle.std.specs.Prelude.{◌≡◌, ◌≢◌, ◌↔◌, false, OnOk, IfErr, IsTrue};
+ghost use Rattle.store_tables.specs.Content.{Content};
+ghost use Rattle.store_tables.specs.Schema.{books_schema};
+ghost use Rattle.table_audit.specs.Looking.{HoldsRows, HoldsTables};
+
+mod comparing;
+mod forms;
+mod program_tables;
+
+use crate::schema::comparing::are_indexes;
+use crate::schema::forms::IndexForm;
+use crate::schema::program_tables::check_tables;
+use sqlite::{Alter, Connection};
+use sqlite_schema::schema::{Index, Schema};
+
+/// How the schema of a file differs from the program's.
+#[derive(Clone, Copy, Debug, PartialEq, Eq)]
+pub enum SchemaFault {
+    /// The table with this name has another definition.
+    Table(&'static str),
+    /// The file has another number of tables, other indexes, a view or a trigger.
+    Objects,
+}
+
+/// The indexes that SQLite creates for the keys of the program's tables, in the order of their
+/// creation.
+const INDEXES: [IndexForm; 9] = [
+    IndexForm {
+        name: "sqlite_autoindex_devices_1",
+        tree: 2,
+        table: 1,
+        columns: &[2],
+    },
+    IndexForm {
+        name: "sqlite_autoindex_points_1",
+        tree: 4,
+        table: 3,
+        columns: &[1, 2],
+    },
+    IndexForm {
+        name: "sqlite_autoindex_registers_1",
+        tree: 6,
+        table: 5,
+        columns: &[2],
+    },
+    IndexForm {
+        name: "sqlite_autoindex_installations_1",
+        tree: 8,
+        table: 7,
+        columns: &[2],
+    },
+    IndexForm {
+        name: "sqlite_autoindex_entries_1",
+        tree: 10,
+        table: 9,
+        columns: &[1, 2],
+    },
+    IndexForm {
+        name: "sqlite_autoindex_intervals_1",
+        tree: 15,
+        table: 14,
+        columns: &[1, 2],
+    },
+    IndexForm {
+        name: "sqlite_autoindex_replies_1",
+        tree: 17,
+        table: 16,
+        columns: &[1, 2],
+    },
+    IndexForm {
+        name: "sqlite_autoindex_ranges_1",
+        tree: 19,
+        table: 18,
+        columns: &[1],
+    },
+    IndexForm {
+        name: "sqlite_autoindex_voids_1",
+        tree: 21,
+        table: 20,
+        columns: &[1, 2],
+    },
+];
+
+// Compares the indexes of a schema with the program's.
+fn are_program_indexes(indexes: &[Index]) -> bool
+    ensures { IsTrue result ↔ (indexes.now ≡ books_schema.indexes) }
+{
+    are_indexes(indexes, &INDEXES)
+}
+
+// Returns Ok only if a schema is the one that the program creates in a new file.
+fn check_schema(schema: &Schema) -> Result<(), SchemaFault>
+    ensures same { OnOk result (schema.now ≡ books_schema) }
+    ensures other { IfErr result (λ fault. schema.now ≢ books_schema) }
+{
+    check_tables(schema.tables.as_slice())?;
+    if are_program_indexes(schema.indexes.as_slice()) && schema.views.is_empty() {
+        Ok(())
+    } else {
+        Err(SchemaFault::Objects)
+    }
+}
+
+/// Returns Ok only if a database has the schema that the program creates in a new file. SQLite has
+/// then checked the keys of all rows. The connection has no open transaction.
+pub fn check_definitions<S: Alter>(conn: &Connection<S>) -> Result<(), SchemaFault>
+    requires { conn.now.in_transaction ≡ false }
+    ensures ours { OnOk result ((content : Content) → HoldsRows S.Store conn.now content
+        → HoldsTables S.Store conn.now content) }
+    ensures other { IfErr result (λ fault. conn.now.schema ≢ books_schema) }
+{
+    let _settled = conn.is_autocommit();
+    check_schema(conn.schema())
+}
