@@ -276,14 +276,14 @@ def definitions():
         ("a default", ("ranges", '"range" INTEGER NOT NULL', '"range" INTEGER NOT NULL DEFAULT 65536', "")),
         ("a check", ("voids", "moment INTEGER NOT NULL", "moment INTEGER NOT NULL CHECK (moment > 0)", "")),
     ):
-        wanted = (3, [], [other_objects])
+        wanted = (3, [], ["failed", other_objects])
         same(what, redefined(*change), wanted)
         same(f"{what}: no seal", audit("changed.db", "--seal"), wanted)
     same("the same table in other words", redefined("voids", "voids (", "voids ( -- a void\n ", "")[:1], (0,))
-    same("an index", changed("CREATE INDEX more ON entries (moment)"), (3, [], [other_objects]))
-    same("a view", changed("CREATE VIEW more AS SELECT 1"), (3, [], [other_objects]))
+    same("an index", changed("CREATE INDEX more ON entries (moment)"), (3, [], ["failed", other_objects]))
+    same("a view", changed("CREATE VIEW more AS SELECT 1"), (3, [], ["failed", other_objects]))
     status, lines, said = changed("CREATE TRIGGER more AFTER INSERT ON voids BEGIN DELETE FROM voids; END")
-    same("a trigger", (status, lines, len(said)), (3, [], 1))
+    same("a trigger", (status, lines, len(said)), (3, [], 2))
     mark = "its table meta does not have exactly one row with id 1, version 3 and a time zone: use an intact copy or a backup"
     for what, command in (
         ("no row of meta", "DELETE FROM meta"),
@@ -293,9 +293,9 @@ def definitions():
         ("no zone", "UPDATE meta SET zone = ''"),
         ("an unknown zone", "UPDATE meta SET zone = 'Europe/Nowhere'"),
     ):
-        same(what, changed(command), (3, [], [f"sunreg: changed.db: {mark}"]))
-        same(f"{what}: no seal", audit("changed.db", "--seal"), (3, [], [f"sunreg: changed.db: {mark}"]))
-        same(f"{what}: one of two", audit_all(["changed.db", "python.db"]), (3, ["file changed.db"], [f"sunreg: changed.db: {mark}"]))
+        same(what, changed(command), (3, [], ["failed", f"sunreg: changed.db: {mark}"]))
+        same(f"{what}: no seal", audit("changed.db", "--seal"), (3, [], ["failed", f"sunreg: changed.db: {mark}"]))
+        same(f"{what}: one of two", audit_all(["changed.db", "python.db"]), (3, ["file changed.db"], ["failed", f"sunreg: changed.db: {mark}"]))
 
 
 def other(value):

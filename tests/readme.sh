@@ -56,7 +56,7 @@ settled < "$room/out" > "$room/settled"
 same 'lines at the head that are not printed' "$(grep -vxFf "$room/settled" "$room/head" || :)" ''
 same 'what is said' "$(grep -v '^sunreg: ' "$room/err" || :)" ''
 # each script of the page's table prints the output beside it
-sed -n 's/^| .* | `\.\/sunreg \(.*< crates.*\.script\)` |$/\1/p' "$top/README.md" > "$room/scripts"
+sed -n 's/^| .* | `\.\/sunreg \(.*< tests\/scripts\/.*\.script\)` |$/\1/p' "$top/README.md" > "$room/scripts"
 same 'scripts of the table' "$(grep -c . "$room/scripts")" 8
 while read -r words; do
   script=${words##*< }
