@@ -54,7 +54,7 @@ def by_page(tasks):
 
 
 # The jobs of the proofs that end the longest chain of crates.
-JOBS = {"stored_office": 2, "file_commands": 3, "sunreg": 4}
+JOBS = {"stored_files": 2, "file_commands": 2, "sunreg": 2}
 
 
 def with_jobs(key, call):

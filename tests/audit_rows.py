@@ -1,6 +1,6 @@
 """The audit of a file in Python and sqlite3, with which tests/audit.py compares the program.
 
-It is written from docs/AUDIT.md, docs/SCHEMA.md and the definitions of energy_core and meter_audit.
+It is written from docs/AUDIT.md, docs/SCHEMA.md and the definitions of energy_core and meter_journal::audit.
 It uses nothing of the program."""
 import collections
 

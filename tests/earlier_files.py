@@ -122,9 +122,11 @@ def hold_replies(place, whole, parts):
     same("what it tells is told", told, [f"sunreg: {parts[-1]}: energy figures include earlier files: 2, from {parts[0]} on"])
     alone = copy(parts[-1], "alone.db")
     with Run([alone]) as it:
-        told = it.get("/registers/main/months")
+        told, days = it.get("/registers/main/months"), it.get("/registers/main/days")
     with Run(parts) as three:
         same("the last file alone has less", told != three.get("/registers/main/months"), True)
+        same("days without a range are those of the last file", three.get("/registers/main/days"), days)
+        same("and not those of all files", three.get("/registers/main/days/2023-12-01/2024-05-01") != days, True)
 
 
 def copy_into(folder, db, name):

@@ -1,6 +1,5 @@
 //! Tests the English texts of the faults of frames, servers, sessions, images, scans, chains and
 //! point lists. For the faults that no golden test covers, also tests the numbers.
-use device_scan::ScanFault;
 use mb_device::{BankFault, ServeFault};
 use mb_wire::{ReplyFault, RequestFault};
 use point_list::{FaultyRow, FaultyRows, ListFault, RowFault, WriteListFault};
@@ -8,6 +7,7 @@ use poll_core::{LostCause, Malformation, StartFault};
 use std::alloc::Global;
 use std::fmt::Display;
 use std::process::Abort;
+use sun_chain::scans::ScanFault;
 use sun_chain::{ChainFault, ImageFault};
 
 // Asserts that each fault is printed as its expected text, which does not end with a full stop.

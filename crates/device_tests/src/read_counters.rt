@@ -1,10 +1,10 @@
 //! Tests the reading of a device's counters over a link.
 use crate::stand_in_link::SimulatorLink;
-use device_scan::{CounterScale, ScanFault, Shown, read_counter};
 use mb_device::{Area, Bank, Kind, Trick};
 use mb_wire::{MemoryLink, ReadFunction};
 use std::alloc::Global;
 use std::process::Abort;
+use sun_chain::scans::{CounterScale, ScanFault, Shown, read_counter};
 
 static AREAS: [Area; 2] = [
     Area {

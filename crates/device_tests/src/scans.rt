@@ -2,10 +2,10 @@
 //! fault.
 use crate::images::full_image;
 use crate::stand_in_link::SimulatorLink;
-use device_scan::{ScanFault, ScanObserver, scan_over};
 use mb_device::{Area, Bank, Kind, Trick};
 use std::alloc::Global;
 use std::process::Abort;
+use sun_chain::scans::{ScanFault, ScanObserver, scan_over};
 use sun_chain::{ChainFault, Image, Model, walk};
 
 // An observer that counts the models which a scan reports.

@@ -23,7 +23,7 @@ pub trait Counter {
 }
 
 /// A counter of 32 bits, such as SunSpec's `acc32`.
-#[derive(Clone, Copy, Debug, PartialEq, Eq)]
+#[derive(Clone, Copy, PartialEq, Eq)]
 pub struct Acc32;
 
 impl Counter for Acc32 {

@@ -2,7 +2,7 @@
 //! entries.
 /// The state of a counter: a time in seconds since 1970-01-01 UTC, the count that the counter
 /// shows, and its scale factor.
-#[derive(Clone, Copy, Debug, PartialEq, Eq)]
+#[derive(Clone, Copy, PartialEq, Eq)]
 pub struct Last {
     pub at: u64,
     pub raw: u32,
@@ -10,7 +10,7 @@ pub struct Last {
 }
 
 /// An entry of an installed meter, after the opening entry that recorded the installation.
-#[derive(Clone, Copy, Debug, PartialEq, Eq)]
+#[derive(Clone, Copy, PartialEq, Eq)]
 pub enum Entry {
     /// A reading, a correction by hand or a closing. The counter reached `raw` after `rolls` full
     /// turns.
@@ -30,7 +30,7 @@ pub enum Entry {
 }
 
 /// The energy in mWh between two consecutive entries, and the times of both entries.
-#[derive(Clone, Copy, Debug, PartialEq, Eq)]
+#[derive(Clone, Copy, PartialEq, Eq)]
 pub struct Step {
     pub from: u64,
     pub till: u64,

@@ -22,7 +22,7 @@ pub struct Terms {
 
 /// A reading of a meter: the time in seconds since 1970-01-01 UTC, the count that the meter shows,
 /// and the count's scale factor. A scale factor that the device does not implement is read as 0.
-#[derive(Clone, Copy, Debug, PartialEq, Eq)]
+#[derive(Clone, Copy, PartialEq, Eq)]
 pub struct Reading {
     pub at: u64,
     pub raw: u32,

@@ -4,7 +4,7 @@ ghost use Rattle.std.specs.Prelude.{◌<◌, ◌^◌};
 use crate::samples::HOUSE;
 use energy_core::{Cause, TermFault};
 use interval_core::Share;
-use meter_audit::{
+use meter_journal::audit::{
     IntervalDifference, IntervalFault, RefusedRow, RowFault, RowKind, TableRow, check_rows,
     drop_done, first_difference, start, take_row,
 };

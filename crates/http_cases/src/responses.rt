@@ -1,12 +1,12 @@
 //! Produces the responses of the commands `serve` and `run` for golden tests.
-use http_clients::{EarlierFiles, Now, RunContext, respond};
 use interval_core::Zone;
 use mb_wire::MemoryLink;
 use memory_books::ListBooks;
 use office_core::Office;
 use office_http::handle_named;
+use office_running::http::{EarlierFiles, Now, RunContext, respond};
+use run_http::status::RunMonitor;
 use run_http::{ClientResponse, RunRoute, ask, for_browsers, run_route};
-use run_status::RunMonitor;
 use std::alloc::{AllocError, Global};
 
 // The host names that requests may use, as if the option `--host-name` had added them.

@@ -1,7 +1,9 @@
 //! Tests of the HTTP statuses and bodies of those responses that no other test produces.
 use energy_core::Cause;
-use http_messages::{Status, done_body, fault_body, kind_answered, refused_body, status_of};
 use office_events::{Answer, CommandKind, Refusal, StoreCause};
+use office_http::messages::{
+    Status, done_body, fault_body, kind_answered, refused_body, status_of,
+};
 
 static STATUSES: [(Refusal, u16); 19] = [
     (Refusal::NotFound, 404),

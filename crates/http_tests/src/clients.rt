@@ -1,16 +1,16 @@
 //! Tests of the HTTP clients of `sunreg run`, over nonblocking sockets.
 use crate::connections::{REQUEST, Stepping, client_of, energy_of_ended};
 use crate::office::{metered, utc};
-use http_clients::{
-    EarlierFiles, HttpPort, KeptRoom, Now, Outbox, PORT_TOKEN, RunContext, RunSystem, Went,
-    even_milliseconds, went_by,
-};
 use memory_books::ListBooks;
 use mio::{Events, Interest, Poll, Token};
 use office_core::Office;
+use office_running::http::{
+    EarlierFiles, HttpPort, KeptRoom, Now, Outbox, PORT_TOKEN, RunContext, RunSystem, Went,
+    even_milliseconds, went_by,
+};
 use run_http::ClientResponse;
+use run_http::status::RunMonitor;
 use run_schedule::{MOST_CLIENTS, place_at};
-use run_status::RunMonitor;
 use std::alloc::{AllocError, Global};
 use std::io::{self, ErrorKind, Read};
 use std::net::{TcpListener, TcpStream};

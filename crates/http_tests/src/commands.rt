@@ -1,6 +1,6 @@
 //! Tests of point lists in the bodies of requests, and of the commands that are parsed from them.
-use http_messages::{CommandFault, Route, command_in};
 use office_events::{Command, Name};
+use office_http::messages::{CommandFault, Route, command_in};
 
 // The CSV text of a point list, the number of its points, and the number of reads in its reading
 // plan.

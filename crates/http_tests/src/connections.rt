@@ -1,10 +1,10 @@
 //! Tests of HTTP clients in the same process, which connect to a blocking listening socket.
 use crate::office::metered;
+use mb_wire::sockets::FixedClock;
 use memory_books::ListBooks;
 use office_core::Office;
 use office_events::Name;
 use office_http::{serve_connections, serve_on};
-use socket_link::FixedClock;
 use std::alloc::Global;
 use std::cell::Cell;
 use std::io::{self, ErrorKind, Read, Write};

@@ -1,9 +1,9 @@
 //! Tests of report lines with the greatest numbers, and of dates as text.
 use energy_report::read_day;
-use http_messages::{ResponseWriter, append_day, append_end, write_share};
 use interval_core::{Day, DayRange, DayTotal, Share};
 use jiff::civil::date;
 use mb_wire::MemoryLink;
+use office_http::messages::{ResponseWriter, append_day, append_end, write_share};
 
 static QUARTERS: [Share; 2] = [
     Share {

@@ -2,11 +2,11 @@
 //! rounds.
 use crate::office::metered;
 use command_io::ExitStatus;
+use mb_wire::sockets::FixedClock;
 use memory_books::FailingBooks;
 use office_books::Books;
 use office_events::{Device, Register};
 use office_program::{NamedFiles, RoundFault, Shown, enter_books, round_status};
-use socket_link::FixedClock;
 use std::alloc::{AllocError, Global};
 
 /// A replacement for the files and devices that input lines can name. It has no files and no

@@ -1,5 +1,5 @@
 //! Tests of the error texts of HTTP requests.
-use http_messages::{BodyFault, CommandFault, TakeFault};
+use office_http::messages::{BodyFault, CommandFault, TakeFault};
 use point_list::{FaultyRow, FaultyRows, RowFault};
 use std::alloc::Global;
 use std::fmt::Display;

@@ -1,9 +1,9 @@
 //! Tests of requests that are cut off, and of responses over links that fail.
-use http_messages::{
-    Inbox, ResponseWriter, Route, Status, TakeFault, is_whole, read_request, router, write_json,
-};
 use matchit::Router;
 use mb_wire::{Link, MemoryLink};
+use office_http::messages::{
+    Inbox, ResponseWriter, Route, Status, TakeFault, is_whole, read_request, router, write_json,
+};
 use office_http::{HandleFault, write_misdirected};
 use std::alloc::Global;
 use std::process::Abort;

@@ -2,15 +2,15 @@
 //! its accounting register (a named counter) is `main`, and the meter at this register is `m1`.
 use crate::cases::serve;
 use carried_books::EarlierRegister;
-use http_clients::{EarlierFiles, Now, RunContext, respond};
 use interval_core::Zone;
 use mb_wire::ReadSpan;
 use memory_books::ListBooks;
 use office_books::Books;
 use office_core::Office;
 use office_events::{Command, Event, Name, Piece, StartPoll};
+use office_running::http::{EarlierFiles, Now, RunContext, respond};
+use run_http::status::RunMonitor;
 use run_http::{ClientResponse, RunRoute, run_route};
-use run_status::RunMonitor;
 use std::alloc::Global;
 use std::process::Abort;
 

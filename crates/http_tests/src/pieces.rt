@@ -1,10 +1,10 @@
 //! Tests of long responses, whose quarter hours are sent in chunks, and of the requests for them.
 use crate::cases::{serve, sized_reply};
 use crate::office::polled;
-use http_messages::router;
 use office_books::{Books, Span};
 use office_core::Office;
 use office_events::{Installation, Name};
+use office_http::messages::router;
 use run_http::{
     ClientResponse, RemainingRows, all_rows_asked, ask, begin_all_intervals, begin_intervals,
     has_more, is_long_response, may_void, reply_intervals, write_last_rows, write_next_rows,

@@ -1,7 +1,7 @@
 //! Tests of links over sockets, links with a deadline, and clocks.
 use crate::connections::client_of;
+use mb_wire::sockets::{Clock, DeadlineLink, FixedClock, SocketLink, SystemClock};
 use mb_wire::{Link, LinkFailed, MemoryLink, Took};
-use socket_link::{Clock, DeadlineLink, FixedClock, SocketLink, SystemClock};
 use std::io::{self, Read};
 use std::net::{TcpListener, TcpStream};
 use std::test::Fail;

@@ -10,7 +10,7 @@ use energy_core::{MAX_INTERVALS, MAX_TOTAL, Step};
 use std::marker::Model;
 
 /// The energy in mWh in the quarter hour from `start`, which is in seconds since 1970-01-01 UTC.
-#[derive(Clone, Copy, Debug, PartialEq, Eq)]
+#[derive(Clone, Copy, PartialEq, Eq)]
 pub struct Share {
     pub start: u64,
     pub mwh: u64,

@@ -18,7 +18,7 @@ use std::marker::Model;
 
 /// A civil day, the number of its intervals that have a row, and their energy in mWh. An interval
 /// with several rows counts once.
-#[derive(Clone, Copy, Debug, PartialEq, Eq)]
+#[derive(Clone, Copy, PartialEq, Eq)]
 pub struct DayTotal {
     pub day: Date,
     pub count: u32,
@@ -27,7 +27,7 @@ pub struct DayTotal {
 
 /// Adds up interval rows by civil day. The caller pushes the rows one by one, in order of their
 /// starts.
-#[derive(Debug, Drop)]
+#[derive(Drop)]
 pub struct DayFold {
     totals: Vec<DayTotal>,
     latest: Option<u64>,

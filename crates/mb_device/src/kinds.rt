@@ -6,7 +6,7 @@ ghost use Rattle.mb_device.specs.Areas.{overlap};
 use mb_wire::ADDRESSES;
 
 /// The four kinds of values of a device (Modbus Application Protocol V1.1b3, section 4.3).
-#[derive(Clone, Copy, Debug, PartialEq, Eq)]
+#[derive(Clone, Copy, PartialEq, Eq)]
 pub enum Kind {
     /// A coil: a bit that clients read and write.
     Coil,
@@ -19,7 +19,7 @@ pub enum Kind {
 }
 
 /// A range of addresses of one kind that a device has: `count` addresses from `start`.
-#[derive(Clone, Copy, Debug, PartialEq, Eq)]
+#[derive(Clone, Copy, PartialEq, Eq)]
 pub struct Area {
     pub kind: Kind,
     pub start: u16,

@@ -1,7 +1,7 @@
 //! Faults that a simulated device injects into its responses.
 
 /// A fault injected into the response to one frame. The request in the frame is still executed.
-#[derive(Clone, Copy, Debug, PartialEq, Eq)]
+#[derive(Clone, Copy, PartialEq, Eq)]
 pub enum Trick {
     /// No response is sent.
     Drop,

@@ -8,3 +8,4 @@ pub mod Replies
 pub mod Spans
 pub mod Links
 pub mod MemoryLinks
+pub mod Sockets

@@ -13,7 +13,7 @@ use byteorder::{BigEndian, ByteOrder};
 use std::marker::Model;
 
 /// The result of a call of `FrameReader::feed`.
-#[derive(Clone, Copy, Debug, PartialEq, Eq)]
+#[derive(Clone, Copy, PartialEq, Eq)]
 pub enum Framing {
     /// The reader consumed all bytes of its input, and no frame ended.
     Need,
@@ -28,21 +28,21 @@ pub enum Framing {
 }
 
 /// The number of bytes that `FrameReader::feed` consumed, and the result of the call.
-#[derive(Clone, Copy, Debug, PartialEq, Eq)]
+#[derive(Clone, Copy, PartialEq, Eq)]
 pub struct Fed {
     pub taken: usize,
     pub what: Framing,
 }
 
 /// A frame borrowed from the reader: its transaction identifier, unit identifier and PDU.
-#[derive(Clone, Copy, Debug)]
+#[derive(Clone, Copy)]
 pub struct Frame<'a> {
     pub tid: u16,
     pub unit: u8,
     pub pdu: &'a [u8],
 }
 
-#[derive(Clone, Copy, Debug, PartialEq, Eq)]
+#[derive(Clone, Copy, PartialEq, Eq)]
 enum State {
     Reading,
     Ended,

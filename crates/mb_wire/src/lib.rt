@@ -1,4 +1,5 @@
-//! Encodes and decodes Modbus TCP frames, requests and responses, and defines the trait of a link.
+//! Encodes and decodes Modbus TCP frames, requests and responses, and defines the trait of a link,
+//! a byte connection. The module `sockets` has links over sockets.
 //!
 //! The crate follows the Modbus Application Protocol V1.1b3 and the Messaging on TCP/IP
 //! Implementation Guide V1.0b. No call allocates memory.
@@ -14,6 +15,7 @@ mod memory_link;
 mod replies;
 mod request_decoder;
 mod requests;
+pub mod sockets;
 mod span;
 
 pub use frames::{Fed, Frame, FrameReader, Framing, one_reading, one_spelling, write_frame};

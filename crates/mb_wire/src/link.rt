@@ -7,7 +7,7 @@ ghost use Rattle.std.specs.declared.option.Option.{Option};
 ghost use Rattle.mb_wire.specs.declared.link.LastTake.{LastTake};
 
 /// The result of a successful read from a link.
-#[derive(Clone, Copy, Debug, PartialEq, Eq)]
+#[derive(Clone, Copy, PartialEq, Eq)]
 pub enum Took {
     /// The number of bytes that arrived. They are at the front of the read buffer.
     Bytes(usize),
@@ -22,7 +22,7 @@ pub enum Took {
 pub struct LinkFailed;
 
 /// The buffer size in bytes and the result of the last read from a link.
-#[derive(Clone, Copy, Debug, PartialEq, Eq)]
+#[derive(Clone, Copy, PartialEq, Eq)]
 pub struct LastTake {
     pub room: usize,
     pub answer: Result<Took, LinkFailed>,

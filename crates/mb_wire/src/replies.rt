@@ -15,7 +15,7 @@ use crate::requests::{Request, Wanted};
 use byteorder::{BigEndian, ByteOrder};
 
 /// A device's response to a Modbus request. The data is borrowed from the PDU.
-#[derive(Clone, Copy, Debug)]
+#[derive(Clone, Copy)]
 pub enum Reply<'a> {
     /// Coils or discrete inputs, eight to a byte. The lowest bit of the first byte is the first
     /// coil or input. Spare bits of the last byte are ignored.

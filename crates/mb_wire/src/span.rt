@@ -6,7 +6,7 @@ use crate::limits::{ADDRESSES, MAX_READ_REGISTERS};
 use crate::requests::Request;
 
 /// A Modbus function that reads registers.
-#[derive(Clone, Copy, Debug, PartialEq, Eq)]
+#[derive(Clone, Copy, PartialEq, Eq)]
 pub enum ReadFunction {
     /// Function 3: reads holding registers.
     HoldingRegisters,
@@ -29,7 +29,7 @@ impl ReadFunction {
 }
 
 /// A range of 1 to 125 consecutive registers, within the 65536 addresses of a device.
-#[derive(Clone, Copy, Debug, PartialEq, Eq)]
+#[derive(Clone, Copy, PartialEq, Eq)]
 pub struct ReadSpan {
     pub function: ReadFunction,
     pub address: u16,

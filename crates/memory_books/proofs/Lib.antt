@@ -6,3 +6,4 @@ pub mod Counting
 pub mod Handed
 pub mod Reading
 pub mod Holding
+pub mod KeptLemmas

@@ -3,3 +3,4 @@ pub mod Tables
 pub mod Figures
 pub mod Looking
 pub mod Listed
+pub mod Kept

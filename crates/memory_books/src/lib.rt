@@ -1,8 +1,10 @@
-//! A store in memory, and a store that fails at chosen calls, for tests.
+//! A store in memory, and a store that fails at chosen calls, for tests. The module `kept` caches
+//! the lookups of any store.
 #![tactic(auto)]
 
 mod failing;
 mod figures;
+pub mod kept;
 mod kinds;
 mod late;
 mod list_books;

@@ -4,7 +4,7 @@ ghost use Rattle.office_books.specs.Spans.{is_within};
 
 /// A time span, in seconds since 1970-01-01 UTC. A quarter hour lies in the span if its start lies
 /// in the span.
-#[derive(Clone, Copy, Debug, PartialEq, Eq)]
+#[derive(Clone, Copy, PartialEq, Eq)]
 pub enum Span {
     /// The span of all times.
     All,

@@ -5,7 +5,7 @@ use mb_wire::ReadSpan;
 use read_plan::PlannedList;
 
 /// The command to add a device.
-#[derive(Clone, Copy, Debug, PartialEq, Eq)]
+#[derive(Clone, Copy, PartialEq, Eq)]
 pub struct AddDevice {
     pub name: Option<Name>,
     /// The Modbus unit identifier, 0 to 255.
@@ -24,7 +24,7 @@ pub struct PutList {
 }
 
 /// The source of an accounting register's scale, before the office checks its range.
-#[derive(Clone, Copy, Debug, PartialEq, Eq)]
+#[derive(Clone, Copy, PartialEq, Eq)]
 pub enum GivenScale {
     /// A fixed scale: a power of ten, -3 to 3.
     Fixed(i64),
@@ -34,7 +34,7 @@ pub enum GivenScale {
 
 /// The command to add an accounting register: an energy counter in two consecutive Modbus registers
 /// of a device.
-#[derive(Clone, Copy, Debug, PartialEq, Eq)]
+#[derive(Clone, Copy, PartialEq, Eq)]
 pub struct AddRegister {
     pub name: Option<Name>,
     pub device: Option<Name>,
@@ -46,7 +46,7 @@ pub struct AddRegister {
 }
 
 /// The command to install a meter at an accounting register.
-#[derive(Clone, Copy, Debug, PartialEq, Eq)]
+#[derive(Clone, Copy, PartialEq, Eq)]
 pub struct Install {
     pub register: Option<Name>,
     pub meter: Option<Name>,
@@ -62,7 +62,7 @@ pub struct Install {
 
 /// The command to close the meter at an accounting register and to install another meter at this
 /// register.
-#[derive(Clone, Copy, Debug, PartialEq, Eq)]
+#[derive(Clone, Copy, PartialEq, Eq)]
 pub struct Exchange {
     pub register: Option<Name>,
     /// The last count of the meter that is closed.
@@ -78,7 +78,7 @@ pub struct Exchange {
 
 /// The command to record a counter reset: the counter of an accounting register had reached
 /// `before` and was set to `after`.
-#[derive(Clone, Copy, Debug, PartialEq, Eq)]
+#[derive(Clone, Copy, PartialEq, Eq)]
 pub struct Reset {
     pub register: Option<Name>,
     pub before: u64,
@@ -87,7 +87,7 @@ pub struct Reset {
 
 /// The command to record a change of scale: the counter had reached `before`, and was set to
 /// `after` at another scale factor.
-#[derive(Clone, Copy, Debug, PartialEq, Eq)]
+#[derive(Clone, Copy, PartialEq, Eq)]
 pub struct Rescale {
     pub register: Option<Name>,
     pub before: u64,
@@ -96,7 +96,7 @@ pub struct Rescale {
 }
 
 /// The command to enter a manual reading of a meter.
-#[derive(Clone, Copy, Debug, PartialEq, Eq)]
+#[derive(Clone, Copy, PartialEq, Eq)]
 pub struct Manual {
     pub register: Option<Name>,
     pub raw: u64,
@@ -108,7 +108,7 @@ pub struct Manual {
 }
 
 /// The command to close the meter at an accounting register, with the meter's last count.
-#[derive(Clone, Copy, Debug, PartialEq, Eq)]
+#[derive(Clone, Copy, PartialEq, Eq)]
 pub struct Close {
     pub register: Option<Name>,
     pub raw: u64,
@@ -116,7 +116,7 @@ pub struct Close {
 }
 
 /// The command to send one Modbus read to a device.
-#[derive(Clone, Copy, Debug, PartialEq, Eq)]
+#[derive(Clone, Copy, PartialEq, Eq)]
 pub struct StartPoll {
     pub device: Option<Name>,
     pub span: ReadSpan,
@@ -124,7 +124,7 @@ pub struct StartPoll {
 
 /// The command to send the reads of a device's plan. `from` is the index of the first read to send,
 /// counted from 0.
-#[derive(Clone, Copy, Debug, PartialEq, Eq)]
+#[derive(Clone, Copy, PartialEq, Eq)]
 pub struct StartRound {
     pub device: Option<Name>,
     pub from: u64,
@@ -132,7 +132,7 @@ pub struct StartRound {
 
 /// The command to void an entry. `place` is the entry's sequence number in the meter's journal,
 /// where the opening has number 1.
-#[derive(Clone, Copy, Debug, PartialEq, Eq)]
+#[derive(Clone, Copy, PartialEq, Eq)]
 pub struct VoidEntry {
     pub meter: Option<Name>,
     pub place: u64,

@@ -11,7 +11,7 @@ use read_plan::PlannedList;
 
 /// A device of the office: its name, its Modbus unit identifier, its timeout, and its maximum
 /// number of pending polls.
-#[derive(Clone, Copy, Debug, PartialEq, Eq)]
+#[derive(Clone, Copy, PartialEq, Eq)]
 pub struct Device {
     pub name: Name,
     /// The Modbus unit identifier.
@@ -28,7 +28,7 @@ pub struct DeviceList {
 }
 
 /// The source of an accounting register's scale.
-#[derive(Clone, Copy, Debug, PartialEq, Eq)]
+#[derive(Clone, Copy, PartialEq, Eq)]
 pub enum ScaleSource {
     /// A fixed scale: a power of ten, -3 to 3.
     Fixed(i16),
@@ -38,7 +38,7 @@ pub enum ScaleSource {
 
 /// An accounting register: an energy counter in two consecutive Modbus registers of a device, the
 /// high word first.
-#[derive(Clone, Copy, Debug, PartialEq, Eq)]
+#[derive(Clone, Copy, PartialEq, Eq)]
 pub struct Register {
     pub name: Name,
     pub device: Name,
@@ -49,7 +49,7 @@ pub struct Register {
 
 /// The opening of a meter: its installation at an accounting register, with the meter's count at
 /// the installation.
-#[derive(Clone, Copy, Debug, PartialEq, Eq)]
+#[derive(Clone, Copy, PartialEq, Eq)]
 pub struct Opening {
     pub meter: Name,
     pub register: Name,
@@ -64,7 +64,7 @@ pub struct Opening {
 }
 
 /// A poll: one Modbus read that was sent to a device.
-#[derive(Clone, Copy, Debug, PartialEq, Eq)]
+#[derive(Clone, Copy, PartialEq, Eq)]
 pub struct Poll {
     /// The number of the poll, from 1.
     pub number: u64,
@@ -78,7 +78,7 @@ pub struct Poll {
 }
 
 /// The end of a poll: its time and its outcome.
-#[derive(Clone, Copy, Debug, PartialEq, Eq)]
+#[derive(Clone, Copy, PartialEq, Eq)]
 pub struct EndedPoll {
     pub poll: u64,
     /// The time of the poll's end, in seconds since 1970-01-01 UTC.
@@ -87,7 +87,7 @@ pub struct EndedPoll {
 }
 
 /// An entry of a meter other than its opening.
-#[derive(Clone, Copy, Debug, PartialEq, Eq)]
+#[derive(Clone, Copy, PartialEq, Eq)]
 pub struct BookedEntry {
     pub meter: Name,
     pub kind: EntryKind,
@@ -96,7 +96,7 @@ pub struct BookedEntry {
 
 /// A rejected reading with the cause of its rejection. It does not change the meter's state or
 /// energy.
-#[derive(Clone, Copy, Debug, PartialEq, Eq)]
+#[derive(Clone, Copy, PartialEq, Eq)]
 pub struct HeldReading {
     pub meter: Name,
     pub poll: u64,
@@ -108,7 +108,7 @@ pub struct HeldReading {
 }
 
 /// A void: the record that an entry of a meter was wrong and no longer counts.
-#[derive(Clone, Copy, Debug, PartialEq, Eq)]
+#[derive(Clone, Copy, PartialEq, Eq)]
 pub struct VoidedEntry {
     pub meter: Name,
     pub place: u64,

@@ -10,7 +10,7 @@ use std::marker::Model;
 
 /// The name of a device, accounting register or meter: 1 to 16 ASCII letters, digits, `_` or `-`,
 /// with a letter first.
-#[derive(Clone, Copy, Debug, PartialEq, Eq)]
+#[derive(Clone, Copy, PartialEq, Eq)]
 pub struct Name {
     bytes: [u8; MAX_NAME],
     len: usize,

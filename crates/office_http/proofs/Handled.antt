@@ -7,20 +7,20 @@ use Rattle.std.proofs.lemmas.List.{append-nil}
 use Rattle.mb_wire.specs.Links.{risen}
 use Rattle.mb_wire.specs.declared.link.LastTake.{LastTake}
 use Rattle.mb_wire.specs.declared.link.LinkFailed.{LinkFailed}
-use Rattle.http_messages.specs.Head.Heads.{IsOpenHead, Looks}
-use Rattle.http_messages.specs.declared.head.head.HeadState.{HeadState}
-use Rattle.http_messages.specs.declared.head.head.HeadState.TheVariants.{Open, TooLarge, NoHead, Whole}
-use Rattle.http_messages.specs.Reading.HeadAndBody.{ReadsHead, StopsAtOnce}
-use Rattle.http_messages.specs.Reading.Taking.{Came, CountsTakes, bytes_in}
-use Rattle.http_messages.specs.declared.reading.inbox.TheConstants.{MOST_TAKES}
-use Rattle.http_messages.specs.declared.reading.inbox.Inbox.{Inbox}
-use Rattle.http_messages.specs.declared.reading.inbox.TakeFault.{TakeFault}
-use Rattle.http_messages.specs.declared.reading.inbox.TakeFault.TheVariants as take
-use Rattle.http_messages.specs.Sending.Giving.{Gives}
-use Rattle.http_messages.specs.Sending.Sending.{HasPut, OnlyGives, Outgoing}
-use Rattle.http_messages.specs.Routing.Routes.{Table, routes}
-use Rattle.http_messages.specs.Whole.Whole.{IsUnfinished, Holds, ReadsRequest}
-use Rattle.http_messages.specs.Replies.{refused, reply_bytes}
+use Rattle.office_http.specs.Messages.Head.Heads.{IsOpenHead, Looks}
+use Rattle.office_http.specs.declared.messages.head.head.HeadState.{HeadState}
+use Rattle.office_http.specs.declared.messages.head.head.HeadState.TheVariants.{Open, TooLarge, NoHead, Whole}
+use Rattle.office_http.specs.Messages.Reading.HeadAndBody.{ReadsHead, StopsAtOnce}
+use Rattle.office_http.specs.Messages.Reading.Taking.{Came, CountsTakes, bytes_in}
+use Rattle.office_http.specs.declared.messages.reading.inbox.TheConstants.{MOST_TAKES}
+use Rattle.office_http.specs.declared.messages.reading.inbox.Inbox.{Inbox}
+use Rattle.office_http.specs.declared.messages.reading.inbox.TakeFault.{TakeFault}
+use Rattle.office_http.specs.declared.messages.reading.inbox.TakeFault.TheVariants as take
+use Rattle.office_http.specs.Messages.Sending.Giving.{Gives}
+use Rattle.office_http.specs.Messages.Sending.Sending.{HasPut, OnlyGives, Outgoing}
+use Rattle.office_http.specs.Messages.Routing.Routes.{Table, routes}
+use Rattle.office_http.specs.Messages.Whole.Whole.{IsUnfinished, Holds, ReadsRequest}
+use Rattle.office_http.specs.Messages.Replies.{refused, reply_bytes}
 use Rattle.office_events.specs.declared.refusals.Refusal.{Refusal}
 use Rattle.office_events.specs.declared.refusals.Refusal.TheVariants as refusal
 use Rattle.office_books.specs.Ledgers.{Ledger}

@@ -6,3 +6,4 @@ mod One
 pub mod RowsLemmas
 pub mod WantsLemmas
 pub mod ConnectionsLemmas
+pub mod MessagesLemmas

@@ -1,18 +1,18 @@
 -- Lemmas: a request has only one response.
 use Rattle.std.proofs.Common.{◌≡◌, ◌∙◌, ℕ, false, List, Option, Some, None, Result, inl, inr, refl, sym, ap, subst}
-use Rattle.http_messages.specs.declared.commands.fault.CommandFault.{CommandFault}
-use Rattle.http_messages.specs.HeadTests.{Start, head_fault}
-use Rattle.http_messages.specs.Routing.Routes.{routes}
-use Rattle.http_messages.specs.Routing.Targets.{is_question, name_in, route_in}
-use Rattle.http_messages.specs.declared.routing.routes.Route.{Route}
-use Rattle.http_messages.specs.declared.routing.routes.Route.TheVariants as route
-use Rattle.http_messages.specs.declared.status.Status.{Status}
-use Rattle.http_messages.proofs.WholeLemmas.Unique.{one_request}
+use Rattle.office_http.specs.declared.messages.commands.fault.CommandFault.{CommandFault}
+use Rattle.office_http.specs.Messages.HeadTests.{Start, head_fault}
+use Rattle.office_http.specs.Messages.Routing.Routes.{routes}
+use Rattle.office_http.specs.Messages.Routing.Targets.{is_question, name_in, route_in}
+use Rattle.office_http.specs.declared.messages.routing.routes.Route.{Route}
+use Rattle.office_http.specs.declared.messages.routing.routes.Route.TheVariants as route
+use Rattle.office_http.specs.declared.messages.status.Status.{Status}
+use Rattle.office_http.proofs.MessagesLemmas.WholeLemmas.Unique.{one_request}
 use Rattle.office_events.specs.declared.commands.Command.{Command}
-use Rattle.http_messages.specs.Offices.{Office}
-use Rattle.http_messages.specs.Replies.{ask, command_reply, found_reply, reply_bytes, reply_of, route_reply, unless_failed}
-use Rattle.http_messages.specs.Requests.{name_asked}
-use Rattle.http_messages.specs.WholeResponses.{BodyGives, RepliesToBadHead, RepliesToRequest}
+use Rattle.office_http.specs.Messages.Offices.{Office}
+use Rattle.office_http.specs.Messages.Replies.{ask, command_reply, found_reply, reply_bytes, reply_of, route_reply, unless_failed}
+use Rattle.office_http.specs.Messages.Requests.{name_asked}
+use Rattle.office_http.specs.Messages.WholeResponses.{BodyGives, RepliesToBadHead, RepliesToRequest}
 use Rattle.office_http.specs.Wants.Bodies.{BodiesGiveOne}
 use Rattle.office_http.specs.Laws.{RepliesAreOne}
 

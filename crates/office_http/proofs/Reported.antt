@@ -19,14 +19,14 @@ use Rattle.office_core.specs.Standing.{books_in, is_stopped}
 use Rattle.office_core.specs.Taking.{failures_of}
 use Rattle.office_core.specs.declared.office.Office.{Office as Run}
 use Rattle.interval_core.specs.Lines.{days_text, end_line}
-use Rattle.http_messages.specs.Sending.Replies.{text_head}
-use Rattle.http_messages.specs.Sending.Sending as sending
-use Rattle.http_messages.specs.Sending.Sending.{OnlyGives, Outgoing}
-use Rattle.http_messages.proofs.SendingLemmas.Giving.{Puts-none, Puts-then}
-use Rattle.http_messages.specs.Routing.Routes.{routes}
-use Rattle.http_messages.specs.Offices.{Office}
-use Rattle.http_messages.specs.Replies.{lines_reply, refused, reply_bytes}
-use Rattle.http_messages.specs.WholeResponses.{IsReply}
+use Rattle.office_http.specs.Messages.Sending.Replies.{text_head}
+use Rattle.office_http.specs.Messages.Sending.Sending as sending
+use Rattle.office_http.specs.Messages.Sending.Sending.{OnlyGives, Outgoing}
+use Rattle.office_http.proofs.MessagesLemmas.SendingLemmas.Giving.{Puts-none, Puts-then}
+use Rattle.office_http.specs.Messages.Routing.Routes.{routes}
+use Rattle.office_http.specs.Messages.Offices.{Office}
+use Rattle.office_http.specs.Messages.Replies.{lines_reply, refused, reply_bytes}
+use Rattle.office_http.specs.Messages.WholeResponses.{IsReply}
 use Rattle.office_http.specs.Rows.Reports.{EndsReport, PutsLine, Report, counted, head_before, rows_begun}
 use Rattle.office_http.proofs.RowsLemmas.Reports.{first_put}
 use Rattle.office_http.specs.Wants.Wanting.{AsksNothing}

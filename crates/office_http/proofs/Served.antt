@@ -14,12 +14,12 @@ use Rattle.office_core.specs.Standing.{Stands, books_in, is_stopped}
 use Rattle.office_core.specs.Taking.{Ends, IsAnswer, LeavesEvent, failures_of}
 use Rattle.office_core.specs.declared.office.Office.{Office as Run}
 use Rattle.office_core.proofs.Taken.{outside_more}
-use Rattle.http_messages.specs.declared.commands.fault.CommandFault.{CommandFault}
-use Rattle.http_messages.specs.Routing.Routes.{routes}
-use Rattle.http_messages.specs.Kinds.{done_text}
-use Rattle.http_messages.specs.Offices.{Office}
-use Rattle.http_messages.specs.Replies.{fault_said, refused, reply_bytes, row_reply}
-use Rattle.http_messages.specs.WholeResponses.{IsReply}
+use Rattle.office_http.specs.declared.messages.commands.fault.CommandFault.{CommandFault}
+use Rattle.office_http.specs.Messages.Routing.Routes.{routes}
+use Rattle.office_http.specs.Messages.Kinds.{done_text}
+use Rattle.office_http.specs.Messages.Offices.{Office}
+use Rattle.office_http.specs.Messages.Replies.{fault_said, refused, reply_bytes, row_reply}
+use Rattle.office_http.specs.Messages.WholeResponses.{IsReply}
 use Rattle.office_http.specs.Wants.Wanting.{AsksNothing, IsAskedFor, IsNoCommand}
 use Rattle.office_http.specs.Answering.{AnswersAt, reported}
 use Rattle.office_http.specs.Serving.{Lasts, Serves}

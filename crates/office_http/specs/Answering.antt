@@ -18,8 +18,8 @@ use Rattle.office_books.specs.Meters.{meter_of}
 use Rattle.office_books.specs.Readings.{poll_row_of}
 use Rattle.office_books.specs.Refusals.{decision_of}
 use Rattle.office_core.specs.Asking.{AreDaysNamed, intervals_of, or_not_found}
-use Rattle.http_messages.specs.Kinds.{kind_answered}
-use Rattle.http_messages.specs.Offices.{Office}
+use Rattle.office_http.specs.Messages.Kinds.{kind_answered}
+use Rattle.office_http.specs.Messages.Offices.{Office}
 
 -- The result of an executed command: its kind. A command's answer lacks the kind only if the store
 -- returned wrong data, so the result is then a damaged store.

@@ -10,16 +10,16 @@ use Rattle.office_books.specs.History.{History}
 use Rattle.office_books.specs.Ledgers.{Ledger}
 use Rattle.office_core.specs.Standing.{After}
 use Rattle.office_core.specs.declared.office.Office.{Office}
-use Rattle.http_messages.specs.Head.Heads.{Looks, is_open}
-use Rattle.http_messages.specs.declared.head.head.HeadState.{HeadState}
-use Rattle.http_messages.specs.Reading.HeadAndBody.{TakesWhatLacks}
-use Rattle.http_messages.specs.declared.reading.inbox.TheConstants.{MOST_TAKES}
-use Rattle.http_messages.specs.declared.reading.inbox.TakeFault.{TakeFault}
-use Rattle.http_messages.specs.declared.reading.inbox.TakeFault.TheVariants as take
-use Rattle.http_messages.specs.Sending.Giving.{Gives}
-use Rattle.http_messages.specs.Routing.Routes.{routes}
-use Rattle.http_messages.specs.Whole.Whole.{IsUnfinished}
-use Rattle.http_messages.specs.Replies.{refused, reply_bytes}
+use Rattle.office_http.specs.Messages.Head.Heads.{Looks, is_open}
+use Rattle.office_http.specs.declared.messages.head.head.HeadState.{HeadState}
+use Rattle.office_http.specs.Messages.Reading.HeadAndBody.{TakesWhatLacks}
+use Rattle.office_http.specs.declared.messages.reading.inbox.TheConstants.{MOST_TAKES}
+use Rattle.office_http.specs.declared.messages.reading.inbox.TakeFault.{TakeFault}
+use Rattle.office_http.specs.declared.messages.reading.inbox.TakeFault.TheVariants as take
+use Rattle.office_http.specs.Messages.Sending.Giving.{Gives}
+use Rattle.office_http.specs.Messages.Routing.Routes.{routes}
+use Rattle.office_http.specs.Messages.Whole.Whole.{IsUnfinished}
+use Rattle.office_http.specs.Messages.Replies.{refused, reply_bytes}
 use Rattle.office_http.specs.Serving.{Serves}
 use Rattle.office_http.specs.declared.fault.HandleFault.{HandleFault}
 use Rattle.office_http.specs.declared.fault.HandleFault.TheVariants.{Read, Write, Short, TurnsUsed, Cut}

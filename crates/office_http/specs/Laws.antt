@@ -1,8 +1,8 @@
 -- States that a request has only one response.
 use Rattle.std.specs.Prelude.{◌≡◌, ℕ, List}
-use Rattle.http_messages.specs.Routing.Routes.{routes}
-use Rattle.http_messages.specs.Offices.{Office}
-use Rattle.http_messages.specs.WholeResponses.{IsReply}
+use Rattle.office_http.specs.Messages.Routing.Routes.{routes}
+use Rattle.office_http.specs.Messages.Offices.{Office}
+use Rattle.office_http.specs.Messages.WholeResponses.{IsReply}
 
 -- If two requests are equal and the program's answers to them are equal, then their responses are
 -- equal.

@@ -5,3 +5,4 @@ pub mod Laws
 pub mod Rows
 pub mod Wants
 pub mod Connections
+pub mod Messages

@@ -16,12 +16,12 @@ use Rattle.office_core.specs.Standing.{After, Stands, books_in, is_stopped}
 use Rattle.office_core.specs.Taking.{failures_of}
 use Rattle.office_core.specs.declared.office.Office.{Office as Run}
 use Rattle.interval_core.specs.Lines.{days_text, end_line, intervals_text}
-use Rattle.http_messages.specs.Sending.Sending as sending
-use Rattle.http_messages.specs.Sending.Sending.{OnlyGives, Outgoing}
-use Rattle.http_messages.specs.Routing.Routes.{routes}
-use Rattle.http_messages.specs.Offices.{Office}
-use Rattle.http_messages.specs.Replies.{lines_reply, poll_reply, refused, reply_bytes}
-use Rattle.http_messages.specs.WholeResponses.{IsReply}
+use Rattle.office_http.specs.Messages.Sending.Sending as sending
+use Rattle.office_http.specs.Messages.Sending.Sending.{OnlyGives, Outgoing}
+use Rattle.office_http.specs.Messages.Routing.Routes.{routes}
+use Rattle.office_http.specs.Messages.Offices.{Office}
+use Rattle.office_http.specs.Messages.Replies.{lines_reply, poll_reply, refused, reply_bytes}
+use Rattle.office_http.specs.Messages.WholeResponses.{IsReply}
 use Rattle.office_http.specs.Wants.Wanting.{AsksNothing, AsksOffice}
 use Rattle.office_http.specs.Answering.{AnswersAt}
 

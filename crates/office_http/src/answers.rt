@@ -1,16 +1,16 @@
 //! Executes the query or command of a request, and writes the response.
 ghost use Rattle.std.specs.Prelude.{◌≡◌};
-ghost use Rattle.http_messages.specs.Routing.Routes.{routes};
+ghost use Rattle.office_http.specs.Messages.Routing.Routes.{routes};
 ghost use Rattle.office_http.specs.Wants.Wanting.{IsAskedFor, IsQuestion, Wants, HasFewFaults};
 ghost use Rattle.office_http.specs.Answering as answering;
 ghost use Rattle.office_http.specs.Serving.{AreDaysAsked, AreIntervalsAsked, IsPollAsked, PutsReply};
 
-use crate::rows::{Replied, RowLines};
-use crate::wants::Want;
-use http_messages::{
+use crate::messages::{
     Found, ResponseWriter, Route, append_fault, append_meter, append_poll, append_refusal,
     kind_answered, name_asked, number_asked, write_command_fault, write_done,
 };
+use crate::rows::{Replied, RowLines};
+use crate::wants::Want;
 use mb_wire::Link;
 use meter_journal::{interval_rows_are_accounts, rows_lie_within, voids_go_no_further};
 use office_books::{Books, facts_are_lawful};

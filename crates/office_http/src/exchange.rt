@@ -2,7 +2,7 @@
 ghost use Rattle.std.specs.Prelude.{◌≡◌, ◌≤◌, length};
 ghost use Rattle.std.specs.Io.KnownBytes.{Keeps};
 ghost use Rattle.mb_wire.specs.Links.{risen};
-ghost use Rattle.http_messages.specs.Routing.Routes.{routes};
+ghost use Rattle.office_http.specs.Messages.Routing.Routes.{routes};
 ghost use Rattle.office_http.specs.Wants.Wanting.{HasFewFaults, Wants};
 ghost use Rattle.office_core.specs.Standing.{After};
 ghost use Rattle.office_http.specs.Exchange.{CountsLink, GivesReplyTo, Handles, HandlesBare, IsEnd};
@@ -11,12 +11,12 @@ ghost use Rattle.office_http.specs.Serving.{Lasts};
 
 use crate::answers::append_reply;
 use crate::fault::HandleFault;
-use crate::rows::Replied;
-use crate::wants::{Want, wanted};
-use http_messages::{
+use crate::messages::{
     Inbox, MOST_BYTES, MOST_ROOM, ResponseWriter, Route, append_refusal, read_head, read_request,
     router,
 };
+use crate::rows::Replied;
+use crate::wants::{Want, wanted};
 use matchit::Router;
 use mb_wire::{Link, LinkFailed};
 use office_books::Books;

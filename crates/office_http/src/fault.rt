@@ -1,7 +1,7 @@
 //! The reasons why a request was not served.
 ghost use Rattle.std.specs.Prelude.{◌≡◌};
 
-use http_messages::TakeFault;
+use crate::messages::TakeFault;
 use std::error::Error;
 use std::fmt;
 use std::fmt::{Display, Formatter};

@@ -1,4 +1,5 @@
-//! Executes queries and commands on one store by HTTP, one request after the other.
+//! Executes queries and commands on one store by HTTP, one request after the other. The module
+//! `messages` reads the requests and writes the responses.
 #![tactic(auto)]
 
 mod answers;
@@ -6,6 +7,7 @@ mod connections;
 mod exchange;
 mod fault;
 mod laws;
+pub mod messages;
 mod rows;
 mod wants;
 

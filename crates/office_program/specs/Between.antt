@@ -7,7 +7,7 @@ use Rattle.std.specs.Prelude.{◌≡◌, ℕ, Bool, List, ◌∷◌, ◌++◌, O
 use Rattle.std.specs.Io.KnownBytes.{Appends, Consumes}
 use Rattle.std.specs.declared.io.Write as writers
 use Rattle.mb_wire.specs.declared.link.Link as links
-use Rattle.socket_link.specs.declared.clock.Clock as clocks
+use Rattle.mb_wire.specs.declared.sockets.clock.Clock as clocks
 use Rattle.script_text.specs.AnswerText.{accepted_text}
 use Rattle.office_events.specs.declared.answers.Answer.{Answer}
 use Rattle.office_events.specs.declared.events.Event.{Event}

@@ -1,7 +1,7 @@
 -- The events that a polling round fed to an office (the engine that records energy), with their
 -- answers, printed texts and frames. Lists have the latest event first.
 use Rattle.std.specs.Prelude.{◌≡◌, ℕ, List, [], ◌∷◌, ◌++◌, Option, Result, Ok, Err}
-use Rattle.socket_link.specs.Clocks.{ReportsMoment}
+use Rattle.mb_wire.specs.Sockets.Clocks.{ReportsMoment}
 use Rattle.script_text.specs.AnswerText.{accepted_text}
 use Rattle.office_events.specs.declared.answers.Answer.{Answer}
 use Rattle.office_events.specs.declared.events.Event.{Event}

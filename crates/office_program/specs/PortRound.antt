@@ -2,7 +2,7 @@
 -- engine that records meters' energy, over a store.
 use Rattle.std.specs.Prelude.{◌≡◌, ℕ, List, Option, Result}
 use Rattle.std.specs.declared.io.Write as writers
-use Rattle.socket_link.specs.declared.clock.Clock as clocks
+use Rattle.mb_wire.specs.declared.sockets.clock.Clock as clocks
 use Rattle.office_events.specs.Names.{named}
 use Rattle.office_books.specs.History.{History}
 use Rattle.office_books.specs.Ledgers.{Ledger}

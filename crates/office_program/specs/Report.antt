@@ -2,7 +2,7 @@
 -- civil day, from an office that is opened over a store.
 use Rattle.std.specs.Prelude.{◌⊎◌, ℕ, List, Option}
 use Rattle.std.specs.declared.io.Write as writers
-use Rattle.socket_link.specs.declared.clock.Clock as clocks
+use Rattle.mb_wire.specs.declared.sockets.clock.Clock as clocks
 use Rattle.command_io.specs.declared.status.ExitStatus.{ExitStatus}
 use Rattle.office_events.specs.Names.{named}
 use Rattle.office_books.specs.History.{History}

@@ -2,7 +2,7 @@
 -- the office, and the bytes that were read, written and printed.
 use Rattle.std.specs.Prelude.{◌≡◌, ◌⊎◌, ℕ, nat_lt, true, ◌||◌, List, [], ◌∷◌, Option, Some, Result, Ok, Err, if◌then◌else◌}
 use Rattle.std.specs.Io.KnownBytes.{Appends, Consumes}
-use Rattle.socket_link.specs.Clocks.{ReportsMoment}
+use Rattle.mb_wire.specs.Sockets.Clocks.{ReportsMoment}
 use Rattle.poll_core.specs.declared.outcome.Closing.TheVariants as closing
 use Rattle.office_events.specs.declared.events.Event.TheVariants as event
 use Rattle.office_events.specs.declared.refusals.Refusal.{Refusal}

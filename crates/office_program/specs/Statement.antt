@@ -2,7 +2,7 @@
 -- opened over a store. A statement lists what a bill of the meter is checked against.
 use Rattle.std.specs.Prelude.{◌⊎◌, ℕ, List, Option}
 use Rattle.std.specs.declared.io.Write as writers
-use Rattle.socket_link.specs.declared.clock.Clock as clocks
+use Rattle.mb_wire.specs.declared.sockets.clock.Clock as clocks
 use Rattle.command_io.specs.declared.status.ExitStatus.{ExitStatus}
 use Rattle.energy_report.specs.declared.form.StatementForm.{StatementForm}
 use Rattle.interval_core.specs.declared.zone.Zone.{Zone}

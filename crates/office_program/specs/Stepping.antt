@@ -4,7 +4,7 @@ use Rattle.std.specs.Io.KnownBytes.{Appends, Consumes}
 use Rattle.office_events.specs.declared.events.Event.{Event}
 use Rattle.office_events.specs.declared.events.Event.TheVariants as event
 use Rattle.poll_core.specs.declared.outcome.Closing.TheVariants as closing
-use Rattle.socket_link.specs.Clocks.{ReportsMoment}
+use Rattle.mb_wire.specs.Sockets.Clocks.{ReportsMoment}
 use Rattle.office_events.specs.declared.answers.Answer.{Answer}
 use Rattle.office_events.specs.declared.refusals.Refusal.{Refusal}
 use Rattle.office_events.specs.declared.refusals.Refusal.TheVariants as refusal

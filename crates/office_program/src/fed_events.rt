@@ -11,11 +11,11 @@ ghost use Rattle.office_program.specs.Stepping.{FeedStops};
 use crate::fault::RoundFault;
 use crate::progress::Progress;
 use crate::round_laws::rounds_hold;
+use mb_wire::sockets::Clock;
 use office_books::Books;
 use office_core::Office;
 use office_events::{Answer, Event};
 use script_text::write_accepted;
-use socket_link::Clock;
 use std::io::Write;
 
 // Prints the notifications, the frames and the answer of an accepted event in the format of a

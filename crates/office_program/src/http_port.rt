@@ -1,6 +1,6 @@
 //! Serves HTTP on a port, for an office (the engine that records meters' energy) that is opened
 //! over a store.
-ghost use Rattle.http_messages.specs.Hosts.{texts};
+ghost use Rattle.office_http.specs.Messages.Hosts.{texts};
 ghost use Rattle.office_core.specs.Standing.{After};
 ghost use Rattle.office_http.specs.Serving as http;
 ghost use Rattle.office_program.specs.Texts.Passing.{Lasts};
@@ -9,16 +9,16 @@ ghost use Rattle.office_program.specs.HttpPort.{ServesBooks, ServesPort, port, s
 use crate::command_end::CommandEnd;
 use crate::texts::open_office;
 use command_io::ExitStatus;
+use mb_wire::sockets::Clock;
 use office_books::Books;
 use office_core::Office;
 use office_http::serve_connections;
-use socket_link::Clock;
 use std::alloc::Global;
 use std::io::Write;
 use std::net::{Net, TcpListener};
 
 /// The ways in which a command that serves HTTP on a port ends.
-#[derive(Clone, Copy, Debug, PartialEq, Eq)]
+#[derive(Clone, Copy, PartialEq, Eq)]
 pub enum ServeEnd {
     /// The requested number of connections was served.
     Served,

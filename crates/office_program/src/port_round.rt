@@ -8,10 +8,10 @@ use crate::RoundFault;
 use crate::command_end::CommandEnd;
 use crate::texts::{open_office, poll_round};
 use command_io::ExitStatus;
+use mb_wire::sockets::{Clock, SocketLink};
 use office_books::Books;
 use office_core::Office;
 use office_events::Name;
-use socket_link::{Clock, SocketLink};
 use std::alloc::Global;
 use std::io::{self, Write};
 use std::net::{Net, TcpStream, ToSocketAddrs};
@@ -21,7 +21,7 @@ use std::time::Duration;
 pub const PATIENCE: u64 = 5;
 
 /// The ways in which a command that polls a device once ends.
-#[derive(Clone, Copy, Debug, PartialEq, Eq)]
+#[derive(Clone, Copy, PartialEq, Eq)]
 pub enum PollEnd {
     /// The polling round ended, or a fault ended it early.
     Polled(Result<(), RoundFault>),

@@ -6,9 +6,9 @@ use crate::command_end::CommandEnd;
 use crate::texts::{open_office_to_ask, report_range};
 use command_io::ExitStatus;
 use energy_report::ReportForm;
+use mb_wire::sockets::Clock;
 use office_books::Books;
 use office_events::Name;
-use socket_link::Clock;
 use std::alloc::Global;
 use std::io::Write;
 

@@ -5,9 +5,9 @@ ghost use Rattle.office_program.specs.Report.{ReportsOver};
 use crate::command_end::CommandEnd;
 use crate::texts::{open_office_to_ask, report_days};
 use command_io::ExitStatus;
+use mb_wire::sockets::Clock;
 use office_books::Books;
 use office_events::Name;
-use socket_link::Clock;
 use std::alloc::Global;
 use std::io::Write;
 

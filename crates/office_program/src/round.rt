@@ -14,10 +14,10 @@ use crate::progress::Progress;
 use crate::round_end::close;
 use crate::steps::{feed_requested, turn};
 use mb_wire::Link;
+use mb_wire::sockets::Clock;
 use office_books::Books;
 use office_core::Office;
 use office_events::Name;
-use socket_link::Clock;
 use std::alloc::Global;
 use std::io::Write;
 

@@ -10,11 +10,11 @@ ghost use Rattle.office_program.specs.Stepping as stepping;
 use crate::fault::RoundFault;
 use crate::fed_events::feed;
 use crate::progress::Progress;
+use mb_wire::sockets::Clock;
 use office_books::Books;
 use office_core::Office;
 use office_events::Event;
 use poll_core::{Closing, LAST_MOMENT};
-use socket_link::Clock;
 use std::io::Write;
 
 // Returns the timestamp of the event `Gone` (the device is disconnected): the clock's time

@@ -7,9 +7,9 @@ use crate::command_end::CommandEnd;
 use crate::texts::{open_office_to_ask, report_statement};
 use command_io::ExitStatus;
 use energy_report::StatementForm;
+use mb_wire::sockets::Clock;
 use office_books::Books;
 use office_events::Name;
-use socket_link::Clock;
 use std::alloc::Global;
 use std::io::Write;
 

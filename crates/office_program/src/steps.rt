@@ -12,12 +12,12 @@ ghost use Rattle.office_program.specs.Taking.{Brings, TurnTakes, brought};
 use crate::fault::RoundFault;
 use crate::fed_events::feed_next;
 use crate::progress::Progress;
+use mb_wire::sockets::Clock;
 use mb_wire::{Link, LinkFailed, Took, give_all};
 use office_books::Books;
 use office_core::Office;
 use office_events::{Event, Name, Piece, Refusal};
 use poll_core::Closing;
-use socket_link::Clock;
 use std::alloc::Global;
 use std::io::Write;
 

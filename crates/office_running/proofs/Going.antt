@@ -15,8 +15,8 @@ use Rattle.office_core.specs.EventRun.{Answered}
 use Rattle.office_core.specs.Standing.{After, Stands, books_in}
 use Rattle.office_core.specs.Taking.{Ends}
 use Rattle.office_core.specs.declared.office.Office.{Office}
-use Rattle.http_clients.specs.Clients as clients
-use Rattle.http_clients.specs.Clients.{ServesClients}
+use Rattle.office_running.specs.Http.Clients as clients
+use Rattle.office_running.specs.Http.Clients.{ServesClients}
 use Rattle.office_http.specs.Connections.Connections as connections
 use Rattle.office_http.specs.Connections.Connections.{Connection}
 use Rattle.office_http.specs.Serving.{with_asked}
@@ -35,7 +35,7 @@ use Rattle.office_program.specs.declared.driver.device_events.DeviceEvent.{Devic
 use Rattle.office_program.specs.declared.driver.device_events.DeviceEvent.TheVariants.{Connected, Received, Closed, Tick}
 use Rattle.office_program.specs.Texts.OpenedOffice.{Opens}
 use Rattle.office_program.specs.Texts.Passing.{Lasts}
-use Rattle.run_status.specs.Advice.Lacks.{LooksUp}
+use Rattle.run_http.specs.Status.Advice.Lacks.{LooksUp}
 use Rattle.office_running.specs.Runs.{AreAt, BooksRun, Goes, IsOfRound, ReadsClock, RunsOn, Step, Fed, Asks, TakesTurns, TurnsFrom, history_with, latest_of, steps_of, with_step}
 
 -- ---- Steps of a run at one timestamp

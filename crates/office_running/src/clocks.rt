@@ -3,10 +3,10 @@
 ghost use Rattle.std.specs.Prelude.{◌≡◌};
 ghost use Rattle.office_running.specs.Runs.{ReadsClock};
 
+use crate::http::even_milliseconds;
 use crate::voice::Voice;
-use http_clients::even_milliseconds;
+use mb_wire::sockets::Clock;
 use run_schedule::{RunTime, SteadyClock};
-use socket_link::Clock;
 use std::time::{SystemTime, UNIX_EPOCH};
 
 // Returns the milliseconds since the present second of the system clock began; 0 if the clock

@@ -4,9 +4,9 @@ ghost use Rattle.std.specs.Prelude.{ℕ, List};
 ghost use Rattle.office_running.specs.Runs.{Goes};
 
 use crate::devices::{Seen, Slot};
+use crate::http::Now;
 use crate::settings::Site;
 use crate::voice::{Standing, Voice};
-use http_clients::Now;
 use mio::{Registry, Token};
 use office_books::Books;
 use office_core::Office;

@@ -1,9 +1,9 @@
 //! The TCP connections to devices.
 ghost use Rattle.std.specs.Prelude.{◌≤◌, ◌<◌, ◌^◌};
 
+use crate::http::{Outbox, Went, went_by};
 use crate::settings::Site;
 use crate::voice::Standing;
-use http_clients::{Outbox, Went, went_by};
 use mio::net::TcpStream;
 use mio::{Interest, Registry, Token};
 use poll_core::Closing;

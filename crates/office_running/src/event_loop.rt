@@ -1,7 +1,7 @@
 //! The event loop of a run of `sunreg run`. Each turn of the loop processes at most one event of
 //! each device, serves the clients, prints output, and waits for sockets.
 ghost use Rattle.std.specs.Prelude.{◌≡◌, ℕ, List};
-ghost use Rattle.http_messages.specs.Hosts.{texts};
+ghost use Rattle.office_http.specs.Messages.Hosts.{texts};
 ghost use Rattle.office_running.specs.Runs.{Goes, ReadsClock, RunsOn, TakesTurns, TurnsFrom};
 
 use crate::clocks::{read_clock, read_time, time_from, to_next_second};
@@ -9,21 +9,21 @@ use crate::descriptors::find_clients;
 use crate::device_polls::Polling;
 use crate::fault::RunFault;
 use crate::file_watch::{FileWatch, Watching};
+use crate::http::{EarlierFiles, HttpPort, KeptRoom, Now, PORT_TOKEN, RunContext};
 use crate::leftovers::{Left, print_left};
 use crate::outlet::Outlet;
 use crate::settings::{Settings, Site};
 use crate::voice::Voice;
-use http_clients::{EarlierFiles, HttpPort, KeptRoom, Now, PORT_TOKEN, RunContext};
 use interval_core::Zone;
+use mb_wire::sockets::Clock;
 use mio::net::TcpListener;
 use mio::{Events, Interest, Poll, Registry, Token};
 use office_books::Books;
 use office_core::Office;
 use office_program::DeviceEvent;
 use poll_core::Closing;
+use run_http::status::DeviceLack;
 use run_schedule::{MOST_CLIENTS, RunTime, SteadyClock, place_at};
-use run_status::DeviceLack;
-use socket_link::Clock;
 use std::alloc::{AllocError, Global};
 use std::io::{ErrorKind, Write};
 use std::net::{Net, SocketAddr};

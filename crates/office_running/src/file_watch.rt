@@ -1,6 +1,6 @@
 //! Watches the store's open files, to detect when one was removed, replaced or cut short. Records
 //! that are written to such a file would be lost.
-use http_clients::RunSystem;
+use crate::http::RunSystem;
 use run_schedule::{FileLoss, FileMark, file_loss};
 use std::alloc::{AllocError, Global};
 use std::fs;

@@ -3,11 +3,11 @@
 ghost use Rattle.office_core.specs.Leaving.{BooksStand};
 ghost use Rattle.office_books.specs.History.{History};
 ghost use Rattle.office_program.specs.Texts.Passing.{Lasts};
-ghost use Rattle.run_status.specs.Advice.Lacks.{LooksUp};
+ghost use Rattle.run_http.specs.Status.Advice.Lacks.{LooksUp};
 
 use crate::settings::Site;
 use office_books::Books;
-use run_status::{DeviceLack, add_lacks};
+use run_http::status::{DeviceLack, add_lacks};
 use std::alloc::Global;
 
 // Appends what a device lacks to `lacks`. If the store or memory fails, the earlier items of

@@ -7,8 +7,8 @@ ghost use Rattle.office_program.specs.Texts.Passing.{Lasts};
 ghost use Rattle.office_running.specs.Runs.{IsLeft};
 
 use crate::fault::RunFault;
+use mb_wire::sockets::Clock;
 use office_books::Books;
-use socket_link::Clock;
 use std::io::Write;
 
 /// The timestamp of a store's latest record, and the number of the store's pending polls.

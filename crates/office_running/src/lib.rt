@@ -9,6 +9,7 @@ mod devices;
 mod event_loop;
 mod fault;
 mod file_watch;
+pub mod http;
 mod lacking;
 mod leftovers;
 mod office;

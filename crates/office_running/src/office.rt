@@ -1,5 +1,5 @@
 //! Runs an office over a store: polls devices on a schedule and serves HTTP.
-ghost use Rattle.http_messages.specs.Hosts.{texts};
+ghost use Rattle.office_http.specs.Messages.Hosts.{texts};
 ghost use Rattle.office_core.specs.Leaving.{BooksStand};
 ghost use Rattle.office_books.specs.History.{History};
 ghost use Rattle.office_program.specs.Texts.Passing.{Lasts};
@@ -10,9 +10,9 @@ use crate::fault::RunFault;
 use crate::lacking::lacks_in;
 use crate::leftovers::{left_in, say_unopened};
 use crate::settings::{Settings, Site};
+use mb_wire::sockets::Clock;
 use office_books::Books;
 use office_program::open_office;
-use socket_link::Clock;
 use std::alloc::Global;
 use std::io::Write;
 use std::net::Net;

@@ -2,7 +2,7 @@
 //! terminal is slow.
 use mio::unix::SourceFd;
 use mio::{Events, Interest, Poll, Token};
-use run_status::LineQueue;
+use run_http::status::LineQueue;
 use std::alloc::Global;
 use std::io::{self, ErrorKind, Write};
 use std::net::Net;

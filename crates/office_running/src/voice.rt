@@ -5,17 +5,17 @@ use crate::leftovers::Left;
 use office_events::{Answer, Event, Name, Note, Observer, Refusal};
 use office_program::Sum;
 use poll_core::Closing;
-use run_schedule::FileLoss;
-use run_status::{
+use run_http::status::{
     DeviceLack, Lack, Reported, ReportedNumber, RunMonitor, Topic, append_bytes, append_refusal,
     write_head, write_held, write_lack, write_lines, write_number, write_sum,
 };
+use run_schedule::FileLoss;
 use script_text::write_note;
 use std::alloc::{AllocError, Global};
 use std::{io, mem};
 
 /// The state of a device after its last polling round.
-#[derive(Clone, Copy, Debug, PartialEq, Eq)]
+#[derive(Clone, Copy, PartialEq, Eq)]
 pub(crate) enum Standing {
     Unknown,
     /// The device answered at least one poll of its last round.

@@ -2,11 +2,11 @@
 //! polls.
 use crate::offices::{assert_list_accepted, inv, office_after};
 use mb_wire::Link;
+use mb_wire::sockets::FixedClock;
 use office_books::Books;
 use office_core::Office;
 use office_program::{RoundFault, round_over};
 use poll_core::{LostCause, Outcome};
-use socket_link::FixedClock;
 use std::alloc::Global;
 use std::process::Abort;
 

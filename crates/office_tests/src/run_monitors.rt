@@ -4,7 +4,7 @@ use crate::offices::{inv, new_books};
 use office_events::{Answer, Event, Refusal};
 use office_program::Sum;
 use poll_core::Closing;
-use run_status::{RunMonitor, write_lines, write_sum};
+use run_http::status::{RunMonitor, write_lines, write_sum};
 use std::alloc::Global;
 use std::process::Abort;
 use std::str;

@@ -1,6 +1,6 @@
 //! Tests messages that are printed only once, and log lines that are not read.
 use office_events::Name;
-use run_status::{LineQueue, Reported, ReportedNumber, Topic};
+use run_http::status::{LineQueue, Reported, ReportedNumber, Topic};
 
 fn refused(name: &[u8], number: u8) -> ReportedNumber {
     ReportedNumber {

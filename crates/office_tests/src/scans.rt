@@ -1,8 +1,8 @@
 //! Tests of a scan of a simulated device over a link that fails. `tests/stand_in.py` scans
 //! simulators over sockets.
-use device_scan::{ScanFault, ScanObserver};
 use mb_wire::MemoryLink;
 use sun_chain::Model;
+use sun_chain::scans::{ScanFault, ScanObserver};
 use sunspec_text::{ScanForm, scan_text};
 
 // An observer of a scan that ignores all progress.

@@ -4,8 +4,8 @@ use mb_wire::ReadFunction;
 use office_core::SiteRow;
 use office_events::{Installation, Name, Note, Opening, Register, ScaleSource};
 use poll_core::{LostCause, Outcome};
+use run_http::status::{Counts, DeviceLack, DeviceState, Lack, write_lack, write_status};
 use run_http::write_metrics;
-use run_status::{Counts, DeviceLack, DeviceState, Lack, write_lack, write_status};
 use std::str;
 
 fn outcome(outcome: Outcome) -> Note {

@@ -7,7 +7,7 @@ use std::marker::Model;
 
 /// A list of at most 512 points with distinct names. The scale point of each point is in the list,
 /// close enough for one Modbus read of both.
-#[derive(Debug, Drop)]
+#[derive(Drop)]
 pub struct PointList {
     points: Vec<ListedPoint>,
 }

@@ -6,7 +6,7 @@ ghost use Rattle.point_list.specs.Names.{is_name, is_name_byte};
 use std::marker::Model;
 
 /// The name of a point: 1 to 32 ASCII letters, digits, `_` and `.`, with a letter first.
-#[derive(Debug, Drop)]
+#[derive(Drop)]
 pub struct PointName {
     bytes: Vec<u8>,
 }

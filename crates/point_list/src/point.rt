@@ -8,7 +8,7 @@ use mb_wire::ReadFunction;
 use sun_points::{PointType, Scale};
 
 /// The power of ten that multiplies the value of a point.
-#[derive(Debug, Drop)]
+#[derive(Drop)]
 pub enum PointScale {
     /// The value has no scale and is printed unchanged.
     Unscaled,
@@ -20,7 +20,7 @@ pub enum PointScale {
 
 /// A point of a point list: its registers from `address`, the function that reads them, and their
 /// area number. No Modbus read includes points with different area numbers.
-#[derive(Debug, Drop)]
+#[derive(Drop)]
 pub struct ListedPoint {
     pub name: PointName,
     pub function: ReadFunction,

@@ -21,7 +21,7 @@ pub struct Turn<'a> {
 
 /// The next transaction identifier, and the number of consecutive starts that would succeed, at
 /// times not before the session's latest time.
-#[derive(Clone, Copy, Debug, PartialEq, Eq)]
+#[derive(Clone, Copy, PartialEq, Eq)]
 pub struct Ready {
     pub id: u16,
     pub count: usize,

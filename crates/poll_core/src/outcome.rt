@@ -4,7 +4,7 @@ use mb_wire::ReplyFault;
 
 /// The kind of a call that may have several outcomes to report. Each call reports one, and the
 /// session stores the kind until the caller has repeated the call for all outcomes.
-#[derive(Clone, Copy, Debug, PartialEq, Eq)]
+#[derive(Clone, Copy, PartialEq, Eq)]
 pub enum Call {
     Piece,
     Tick,
@@ -12,7 +12,7 @@ pub enum Call {
 }
 
 /// The outcome of a poll.
-#[derive(Clone, Copy, Debug, PartialEq, Eq)]
+#[derive(Clone, Copy, PartialEq, Eq)]
 pub enum Outcome {
     /// The device sent the requested registers.
     Answered,
@@ -53,7 +53,7 @@ pub enum LostCause {
 }
 
 /// The way in which a connection ended.
-#[derive(Clone, Copy, Debug, PartialEq, Eq)]
+#[derive(Clone, Copy, PartialEq, Eq)]
 pub enum Closing {
     /// The device closed the connection.
     Gone,

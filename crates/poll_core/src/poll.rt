@@ -85,7 +85,7 @@ impl Default for PendingPoll {
 }
 
 /// The kind of event that completed a poll: a timeout, a frame, or the end of the session.
-#[derive(Clone, Copy, Debug, PartialEq, Eq)]
+#[derive(Clone, Copy, PartialEq, Eq)]
 pub enum SettledBy {
     Silence,
     Frame,

@@ -3,7 +3,7 @@ ghost use Rattle.std.specs.Prelude.{◌≡◌};
 ghost use Rattle.printed_numbers.specs.Kinds.{kind_named, kinds};
 
 /// The kind of a printed number. A number has a different meaning for each kind.
-#[derive(Clone, Copy, Debug, PartialEq, Eq)]
+#[derive(Clone, Copy, PartialEq, Eq)]
 pub enum Kind {
     /// `refused 12`: the program refused a script line, a request or an event of a device.
     Refused,

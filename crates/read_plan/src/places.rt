@@ -7,7 +7,7 @@ use crate::run::Run;
 use std::marker::Model;
 
 /// The location of a point in the reads of a plan.
-#[derive(Clone, Copy, Debug, PartialEq, Eq)]
+#[derive(Clone, Copy, PartialEq, Eq)]
 pub struct Place {
     /// The index of the read in the plan, from 0.
     pub read: usize,

@@ -8,7 +8,7 @@ use mb_wire::{ADDRESSES, ReadSpan};
 use std::alloc::{AllocError, Global};
 
 /// One read of a plan: a range of registers of one area number.
-#[derive(Clone, Copy, Debug, PartialEq, Eq)]
+#[derive(Clone, Copy, PartialEq, Eq)]
 pub struct PlannedRead {
     pub area: u8,
     pub span: ReadSpan,

@@ -3,7 +3,7 @@
 use Rattle.std.proofs.Common.{◌≡◌, ℕ, List, [], ◌∷◌, Option, Some, None, Err, true, false, refl}
 use Rattle.std.specs.Prelude.{pos, negsuc, codes}
 use Rattle.std.specs.Fmt.{digits}
-use Rattle.http_messages.specs.declared.status.Status.TheVariants.{BadRequest, MethodNotAllowed}
+use Rattle.office_http.specs.declared.messages.status.Status.TheVariants.{BadRequest, MethodNotAllowed}
 use Rattle.office_events.specs.declared.questions.Installation.{Installation}
 use Rattle.office_events.specs.declared.refusals.Refusal.TheVariants as refusal
 use Rattle.run_http.specs.Browsers.{with_headers}

@@ -12,3 +12,4 @@ pub mod Voids
 pub mod RegisterTargets
 pub mod RegisterReplies
 pub mod Texts
+pub mod Status

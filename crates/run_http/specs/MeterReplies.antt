@@ -3,7 +3,7 @@
 use Rattle.std.specs.Prelude.{◌≡◌, ℕ, true, List, [], ◌∷◌, ◌++◌, Option, Result, Ok, Err, IfOk, OnOk, codes}
 use Rattle.std.specs.declared.alloc.Global.{Global}
 use Rattle.std.specs.declared.vec.Vec.{Vec}
-use Rattle.http_messages.specs.declared.status.Status.TheVariants.{Fine}
+use Rattle.office_http.specs.declared.messages.status.Status.TheVariants.{Fine}
 use Rattle.interval_core.specs.declared.shares.Share.{Share}
 use Rattle.office_events.specs.declared.facts.Fact.{Fact}
 use Rattle.office_events.specs.declared.refusals.Refusal.{Refusal}

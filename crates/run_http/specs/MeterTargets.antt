@@ -3,8 +3,8 @@
 -- entries from the sequence number PLACE on. `/meters/NAME/voids` returns the voided (withdrawn)
 -- entries.
 use Rattle.std.specs.Prelude.{ℕ, ◌+◌, ◌==◌, List, length, take, drop, position, bytes_eq, is_some, if◌then◌else◌, Option, Some, None, codes}
-use Rattle.http_messages.specs.Values.{digits_in}
-use Rattle.http_messages.specs.declared.status.Status.TheVariants.{BadRequest}
+use Rattle.office_http.specs.Messages.Values.{digits_in}
+use Rattle.office_http.specs.declared.messages.status.Status.TheVariants.{BadRequest}
 use Rattle.office_events.specs.Names.{named}
 use Rattle.office_books.specs.declared.spans.Span.{Span}
 use Rattle.office_books.specs.declared.spans.Span.TheVariants.{Between}

@@ -4,13 +4,13 @@
 use Rattle.std.specs.Prelude.{◌≡◌, ◌&&◌, List, ℕ, Bool, false, Option, codes, is_some}
 use Rattle.std.specs.Str.{bytes_eq}
 use Rattle.httparse.specs.Spans.{span_bytes}
-use Rattle.http_messages.specs.Offices.{Office}
-use Rattle.http_messages.specs.Replies.{lines_reply, reply_bytes}
-use Rattle.http_messages.specs.WholeResponses.{IsReply}
-use Rattle.http_messages.specs.Head.Heads.{Looks}
-use Rattle.http_messages.specs.Routing.Routes.{Table}
-use Rattle.http_messages.specs.declared.head.head.HeadState.{HeadState}
-use Rattle.http_messages.specs.declared.head.head.HeadState.TheVariants.{Open, TooLarge, NoHead, Whole}
+use Rattle.office_http.specs.Messages.Offices.{Office}
+use Rattle.office_http.specs.Messages.Replies.{lines_reply, reply_bytes}
+use Rattle.office_http.specs.Messages.WholeResponses.{IsReply}
+use Rattle.office_http.specs.Messages.Head.Heads.{Looks}
+use Rattle.office_http.specs.Messages.Routing.Routes.{Table}
+use Rattle.office_http.specs.declared.messages.head.head.HeadState.{HeadState}
+use Rattle.office_http.specs.declared.messages.head.head.HeadState.TheVariants.{Open, TooLarge, NoHead, Whole}
 use Rattle.interval_core.specs.Lines.{intervals_text}
 use Rattle.run_http.specs.MeterTargets.{after}
 

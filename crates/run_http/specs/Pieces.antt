@@ -5,8 +5,8 @@ use Rattle.std.specs.Prelude.{◌≡◌, ℕ, ◌+◌, ◌-◌, ◌<◌, ◌≤�
 use Rattle.std.specs.Option.{option_and_then}
 use Rattle.std.specs.declared.alloc.Global.{Global}
 use Rattle.std.specs.declared.vec.Vec.{Vec}
-use Rattle.http_messages.specs.Replies.{lines_reply, reply_bytes}
-use Rattle.http_messages.specs.declared.status.Status.TheVariants.{Fine}
+use Rattle.office_http.specs.Messages.Replies.{lines_reply, reply_bytes}
+use Rattle.office_http.specs.declared.messages.status.Status.TheVariants.{Fine}
 use Rattle.interval_core.specs.Lines.{end_line, intervals_text, share_line}
 use Rattle.interval_core.specs.declared.shares.Share.{Share}
 use Rattle.office_books.specs.Ledgers.{Ledger}

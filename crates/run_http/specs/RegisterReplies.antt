@@ -6,7 +6,7 @@ use Rattle.energy_report.specs.Texts.{report_text}
 use Rattle.energy_report.specs.Writing.{Finishes}
 use Rattle.energy_report.specs.declared.form.ReportForm.{ReportForm}
 use Rattle.energy_report.specs.declared.report_rows.ReportRows.{ReportRows}
-use Rattle.http_messages.specs.declared.status.Status.TheVariants.{Fine}
+use Rattle.office_http.specs.declared.messages.status.Status.TheVariants.{Fine}
 use Rattle.interval_core.specs.Days.{account_of}
 use Rattle.interval_core.specs.declared.totals.DayTotal.{DayTotal}
 use Rattle.interval_core.specs.declared.zone.Zone.{Zone}

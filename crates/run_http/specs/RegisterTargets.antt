@@ -11,7 +11,7 @@ use Rattle.energy_report.specs.declared.form.Period.{Period}
 use Rattle.energy_report.specs.declared.form.Period.TheVariants as period
 use Rattle.energy_report.specs.declared.form.ReportForm.{ReportForm}
 use Rattle.interval_core.specs.declared.day_range.DayRange.{DayRange}
-use Rattle.http_messages.specs.declared.status.Status.TheVariants.{BadRequest}
+use Rattle.office_http.specs.declared.messages.status.Status.TheVariants.{BadRequest}
 use Rattle.office_events.specs.Names.{named}
 use Rattle.run_http.specs.MeterTargets.{after, slash_in}
 use Rattle.run_http.specs.declared.route.RunRoute.{RunRoute}

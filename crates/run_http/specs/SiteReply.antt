@@ -2,9 +2,9 @@
 use Rattle.std.specs.Prelude.{◌≡◌, ℕ, List, [], Result, Ok, Err, OnOk, codes}
 use Rattle.std.specs.declared.alloc.Global.{Global}
 use Rattle.std.specs.declared.vec.Vec.{Vec}
-use Rattle.http_messages.specs.declared.status.Status.TheVariants.{Fine}
-use Rattle.http_messages.specs.Sending.Bodies.{refused_text}
-use Rattle.http_messages.specs.Statuses.{status_of}
+use Rattle.office_http.specs.declared.messages.status.Status.TheVariants.{Fine}
+use Rattle.office_http.specs.Messages.Sending.Bodies.{refused_text}
+use Rattle.office_http.specs.Messages.Statuses.{status_of}
 use Rattle.office_events.specs.Numbers.{refusal_number}
 use Rattle.office_events.specs.declared.refusals.Refusal.{Refusal}
 use Rattle.office_books.specs.Ledgers.{Ledger}

@@ -4,22 +4,22 @@ use Rattle.std.specs.Prelude.{◌≡◌, ℕ, Bool, true, false, not, ◌&&◌, 
 use Rattle.std.specs.Option.{option_map}
 use Rattle.std.specs.Str.{bytes_eq}
 use Rattle.httparse.specs.Spans.{span_bytes}
-use Rattle.http_messages.specs.Head.Heads.{Looks}
-use Rattle.http_messages.specs.Hosts.{may_ask_in}
-use Rattle.http_messages.specs.Routing.Targets.{has_query}
-use Rattle.http_messages.specs.Sites.{is_cross_site_in}
-use Rattle.http_messages.specs.Status.Statuses.{number_of_status, reason_of_status}
-use Rattle.http_messages.specs.declared.head.head.HeadState.{HeadState}
-use Rattle.http_messages.specs.declared.head.head.HeadState.TheVariants.{Open, TooLarge, NoHead, Whole}
-use Rattle.http_messages.specs.declared.status.Status.{Status as HttpStatus}
-use Rattle.http_messages.specs.declared.status.Status.TheVariants.{Fine, Forbidden, MethodNotAllowed, Misdirected}
-use Rattle.http_messages.specs.Sending.Bodies.{fault_text}
+use Rattle.office_http.specs.Messages.Head.Heads.{Looks}
+use Rattle.office_http.specs.Messages.Hosts.{may_ask_in}
+use Rattle.office_http.specs.Messages.Routing.Targets.{has_query}
+use Rattle.office_http.specs.Messages.Sites.{is_cross_site_in}
+use Rattle.office_http.specs.Messages.Status.Statuses.{number_of_status, reason_of_status}
+use Rattle.office_http.specs.declared.messages.head.head.HeadState.{HeadState}
+use Rattle.office_http.specs.declared.messages.head.head.HeadState.TheVariants.{Open, TooLarge, NoHead, Whole}
+use Rattle.office_http.specs.declared.messages.status.Status.{Status as HttpStatus}
+use Rattle.office_http.specs.declared.messages.status.Status.TheVariants.{Fine, Forbidden, MethodNotAllowed, Misdirected}
+use Rattle.office_http.specs.Messages.Sending.Bodies.{fault_text}
 use Rattle.run_http.specs.MeterTargets.{meter_target}
 use Rattle.run_http.specs.RegisterTargets.{IsRegisterTarget}
-use Rattle.run_status.specs.Status.StatusText.{with_status}
-use Rattle.run_status.specs.declared.advice.lacks.DeviceLack.{DeviceLack}
-use Rattle.run_status.specs.declared.status.counts.Counts.{Counts}
-use Rattle.run_status.specs.declared.status.status.DeviceState.{DeviceState}
+use Rattle.run_http.specs.Status.Status.StatusText.{with_status}
+use Rattle.run_http.specs.declared.status.advice.lacks.DeviceLack.{DeviceLack}
+use Rattle.run_http.specs.declared.status.status.counts.Counts.{Counts}
+use Rattle.run_http.specs.declared.status.status.status.DeviceState.{DeviceState}
 use Rattle.run_http.specs.declared.route.RunRoute.{RunRoute}
 use Rattle.run_http.specs.declared.route.RunRoute.TheVariants.{Own, Metrics, Site, Intervals, Entries, Voids, Energy, Meters}
 use Rattle.run_http.specs.declared.route.StatusRoute.{StatusRoute}

@@ -1,11 +1,11 @@
 //! Adds the response headers that protect users of browsers.
 ghost use Rattle.std.specs.Prelude.{◌≡◌, IfOk};
-ghost use Rattle.http_messages.specs.Hosts.{texts};
+ghost use Rattle.office_http.specs.Messages.Hosts.{texts};
 ghost use Rattle.run_http.specs.Browsers as browsers;
 ghost use Rattle.run_http.specs.Browsers.{IsForBrowsers};
 
 use crate::route::{RunRoute, StatusRoute, run_route};
-use run_status::append_bytes;
+use crate::status::append_bytes;
 use std::alloc::{AllocError, Global};
 
 static OF_PAGE: &[u8] =

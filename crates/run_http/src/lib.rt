@@ -1,5 +1,5 @@
 //! Routes the requests of HTTP clients, and builds the responses from the store, from counts, or
-//! from the files of the web page.
+//! from the files of the web page. The module `status` has the counts and states of a run.
 #![tactic(auto)]
 
 mod answer;
@@ -18,6 +18,7 @@ mod reply_link;
 mod route;
 mod row_sizes;
 mod site;
+pub mod status;
 mod texts;
 mod voids;
 

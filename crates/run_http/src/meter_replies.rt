@@ -9,11 +9,11 @@ use crate::kept_rows::KeptRows;
 use crate::route::append_reply;
 use crate::site::append_refusal;
 use crate::texts::{write_entries, write_shares};
-use http_messages::Status;
 use interval_core::Share;
 use office_books::{Books, MeterEntry, Span};
 use office_core::Office;
 use office_events::{Name, Refusal};
+use office_http::messages::Status;
 use std::alloc::{AllocError, Global};
 
 /// The most meter entries in one response.

@@ -3,9 +3,9 @@ ghost use Rattle.std.specs.Prelude.{◌≡◌, option_map};
 ghost use Rattle.run_http.specs.MeterTargets as targets;
 
 use crate::route::{RunRoute, StatusRoute};
-use http_messages::{Status, digits};
 use office_books::Span;
 use office_events::Name;
+use office_http::messages::{Status, digits};
 
 /// Returns the text after the prefix `word`, or `None` if the text has another beginning.
 pub(crate) fn after<'t>(word: &[u8], text: &'t [u8]) -> Option<&'t [u8]>

@@ -5,12 +5,12 @@ ghost use Rattle.run_http.specs.SiteReply.{RepliesSite};
 
 use crate::route::append_reply;
 use crate::site::append_refusal;
+use crate::status::{Counts, DeviceState};
 use crate::texts::write_metrics;
-use http_messages::Status;
 use office_books::Books;
 use office_core::{Office, SiteRow};
 use office_events::Refusal;
-use run_status::{Counts, DeviceState};
+use office_http::messages::Status;
 use std::alloc::{AllocError, Global};
 
 // Appends the response with the metrics, or an error response if the program refused the query.

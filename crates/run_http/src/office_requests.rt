@@ -2,17 +2,17 @@
 //! response. A request to void an entry (to withdraw a false reading) can change rows of streamed
 //! responses.
 ghost use Rattle.std.specs.Prelude.{◌≡◌, IfSome};
-ghost use Rattle.http_messages.specs.Head.Heads.{Looks};
-ghost use Rattle.http_messages.specs.declared.head.head.HeadState.TheVariants.{Whole};
+ghost use Rattle.office_http.specs.Messages.Head.Heads.{Looks};
+ghost use Rattle.office_http.specs.declared.messages.head.head.HeadState.TheVariants.{Whole};
 ghost use Rattle.run_http.specs.OfficeRequests as requests;
 ghost use Rattle.run_http.specs.OfficeRequests.{AsksAllRows, MayVoid};
 
 use crate::meter_targets::after;
-use http_messages::{
-    Ask, Head, HeadState, Route, ask_of, name_asked, parse_head, questions_are_replied_to,
-};
 use matchit::Router;
 use office_events::Name;
+use office_http::messages::{
+    Ask, Head, HeadState, Route, ask_of, name_asked, parse_head, questions_are_replied_to,
+};
 
 // Returns the meter if the complete head requests all quarter hours of a meter.
 fn meter_asked(

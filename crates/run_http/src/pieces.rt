@@ -1,6 +1,6 @@
 //! Streams the quarter hours of a meter in chunks, so that no complete response is in memory.
 ghost use Rattle.std.specs.Prelude.{◌≡◌, ◌+◌, ◌<◌, ◌≤◌, [], ◌++◌, length, flat_map, IfOk, IfSome, OnOk};
-ghost use Rattle.http_messages.specs.Sending.Replies.{text_head};
+ghost use Rattle.office_http.specs.Messages.Sending.Replies.{text_head};
 ghost use Rattle.interval_core.specs.Lines.{intervals_text, share_line};
 ghost use Rattle.run_http.specs.Copies as copies;
 ghost use Rattle.run_http.specs.Pieces as pieces;
@@ -10,14 +10,14 @@ ghost use Rattle.run_http.specs.Pieces.{TextStays};
 use crate::meter_replies::ask_intervals;
 use crate::route::write_start_of;
 use crate::row_sizes::{RowSizes, Sizes};
+use crate::status::{append_bytes, write_number, write_word};
 use crate::texts::{append_end, write_share_lines};
 use energy_core::INTERVAL_SECONDS;
-use http_messages::Status;
 use interval_core::{Share, shares_add_up};
 use office_books::{Books, Span, facts_are_lawful};
 use office_core::Office;
 use office_events::{Installation, Name, Refusal};
-use run_status::{append_bytes, write_number, write_word};
+use office_http::messages::Status;
 use std::alloc::{AllocError, Global};
 
 /// The remaining part of a streamed response with quarter hours of a meter.

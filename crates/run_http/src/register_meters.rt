@@ -7,10 +7,10 @@ ghost use Rattle.run_http.specs.Texts.RegisterLines.{meters_text};
 use crate::route::append_reply;
 use crate::site::append_refusal;
 use crate::texts::write_register_meters;
-use http_messages::Status;
 use office_books::Books;
 use office_core::Office;
 use office_events::{Installation, Name, Refusal};
+use office_http::messages::Status;
 use std::alloc::{AllocError, Global};
 
 // Appends the response with the meters at an accounting register, or an error response if the

@@ -6,10 +6,10 @@ ghost use Rattle.run_http.specs.RegisterReplies.{with_energy_reply};
 use crate::route::append_reply;
 use crate::site::append_refusal;
 use energy_report::{ReportForm, ReportRows};
-use http_messages::Status;
 use office_books::Books;
 use office_core::Office;
 use office_events::{Name, Refusal};
+use office_http::messages::Status;
 use std::alloc::{AllocError, Global};
 use std::io::Write;
 

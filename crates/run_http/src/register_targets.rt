@@ -7,9 +7,9 @@ ghost use Rattle.run_http.specs.RegisterTargets as targets;
 use crate::meter_targets::{after, slash_in};
 use crate::route::{RunRoute, StatusRoute};
 use energy_report::{EnergyUnit, Format, Period, ReportForm, read_day};
-use http_messages::Status;
 use interval_core::{Day, DayRange};
 use office_events::Name;
+use office_http::messages::Status;
 use std::str::from_utf8;
 
 // Parses a day as `YYYY-MM-DD`.

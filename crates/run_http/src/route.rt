@@ -1,20 +1,20 @@
 //! The routes of `sunreg run`: the status, metrics, the site, rows of a meter, the energy and
 //! meters of a register, and the web page.
 ghost use Rattle.std.specs.Prelude.{◌≡◌, IfOk, OnOk};
-ghost use Rattle.http_messages.specs.Head.Heads.{Looks};
-ghost use Rattle.http_messages.specs.Sending.Bodies.{fault_text};
-ghost use Rattle.http_messages.specs.Hosts as hosts;
+ghost use Rattle.office_http.specs.Messages.Head.Heads.{Looks};
+ghost use Rattle.office_http.specs.Messages.Sending.Bodies.{fault_text};
+ghost use Rattle.office_http.specs.Messages.Hosts as hosts;
 ghost use Rattle.run_http.specs.StatusRoute as texts;
 
 use crate::meter_targets::meter_target;
 use crate::register_targets::register_target;
-use energy_report::ReportForm;
-use http_messages::{HeadState, Status, has_query, is_cross_site, may_ask, parse_head};
-use office_books::Span;
-use office_events::Name;
-use run_status::{
+use crate::status::{
     Counts, DeviceLack, DeviceState, append_bytes, write_number, write_status, write_word,
 };
+use energy_report::ReportForm;
+use office_books::Span;
+use office_events::Name;
+use office_http::messages::{HeadState, Status, has_query, is_cross_site, may_ask, parse_head};
 use std::alloc::{AllocError, Global};
 use web_page::{PagePart, part_of};
 

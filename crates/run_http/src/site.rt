@@ -4,8 +4,8 @@ ghost use Rattle.run_http.specs.SiteReply.{with_refusal, with_site_reply};
 
 use crate::route::append_reply;
 use crate::texts::{SiteLine, write_site};
-use http_messages::{Status, refused_body, status_of};
 use office_events::Refusal;
+use office_http::messages::{Status, refused_body, status_of};
 use std::alloc::{AllocError, Global};
 
 /// Appends the response that reports the program's refusal of a query.

@@ -8,10 +8,10 @@ ghost use Rattle.run_http.specs.Voids.{voids_of};
 use crate::route::append_reply;
 use crate::site::append_refusal;
 use crate::texts::write_voids;
-use http_messages::Status;
 use office_books::{Books, MeterEntry};
 use office_core::Office;
 use office_events::{Name, Refusal};
+use office_http::messages::Status;
 use std::alloc::{AllocError, Global};
 
 // The most entries that one query returns, and the most queries for one response: nearly 2^64

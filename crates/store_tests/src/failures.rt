@@ -1,7 +1,7 @@
 //! Tests the texts of all failures of a command.
-use device_scan::ScanFault;
 use office_store::OpenFault;
 use stored_files::{AuditFault, CopyFault, Failure, FileFault};
+use sun_chain::scans::ScanFault;
 
 /// Every failure of a command, with its text.
 static FAILURES: [(Failure<'static>, &str); 42] = [

@@ -1,8 +1,8 @@
 //! Tests a meter whose energy in all files together exceeds the maximum for a meter. The rows of
 //! valid files never add up to so much energy.
 use energy_core::{Last, MAX_TOTAL};
-use meter_audit::Standing;
 use meter_journal::Installed;
+use meter_journal::audit::Standing;
 use std::alloc::Global;
 use std::process::Abort;
 use table_seals::{FiledMeter, FiledOffice, Joining, append_joins};

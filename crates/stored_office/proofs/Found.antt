@@ -7,8 +7,8 @@ use Rattle.office_books.specs.Ledgers.{Ledger}
 use Rattle.office_core.specs.Leaving.{BooksStand}
 use Rattle.office_store.specs.Database.{HoldsAlone}
 use Rattle.office_store.specs.declared.books.SqlBooks.{SqlBooks}
-use Rattle.kept_books.specs.declared.kept.CachedBooks.{CachedBooks}
-use Rattle.kept_books.specs.Keeping.{StandsAs, beneath}
+use Rattle.memory_books.specs.declared.kept.kept.CachedBooks.{CachedBooks}
+use Rattle.memory_books.specs.Kept.Keeping.{StandsAs, beneath}
 use Rattle.stored_files.proofs.Standing.{stands_alone}
 use Rattle.stored_files.specs.BooksFound.{ledger_beneath}
 use Rattle.stored_office.specs.OverBooks.{OverBooks, ledger_in}

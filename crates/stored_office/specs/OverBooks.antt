@@ -3,8 +3,8 @@ use Rattle.std.specs.Prelude.{ℕ, List}
 use Rattle.sqlite.specs.Store.{Ghosts}
 use Rattle.office_books.specs.History.{History, facts_of}
 use Rattle.office_books.specs.Ledgers.{Ledger}
-use Rattle.kept_books.specs.declared.kept.CachedBooks.{CachedBooks}
-use Rattle.kept_books.specs.Keeping.{beneath, ledger_over}
+use Rattle.memory_books.specs.declared.kept.kept.CachedBooks.{CachedBooks}
+use Rattle.memory_books.specs.Kept.Keeping.{beneath, ledger_over}
 use Rattle.office_store.specs.Database.{HoldsAlone}
 use Rattle.office_store.specs.declared.books.SqlBooks.{SqlBooks}
 use Rattle.stored_files.specs.BooksFound.{ledger_beneath}

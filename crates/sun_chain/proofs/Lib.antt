@@ -7,3 +7,4 @@ pub mod SomeChain
 pub mod Splices
 pub mod TableRules
 mod Examples
+pub mod ScanLemmas

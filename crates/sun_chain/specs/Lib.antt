@@ -8,3 +8,4 @@ pub mod Replaced
 pub mod Common
 pub mod TableRules
 pub mod Laws
+pub mod Scanning

@@ -1,4 +1,5 @@
-//! SunSpec models: the memory image of a device, and the chain of models in the image.
+//! SunSpec models: the memory image of a device, and the chain of models in the image. The module
+//! `scans` reads the chain of a live device.
 #![tactic(auto)]
 
 mod chain;
@@ -11,6 +12,7 @@ mod laws;
 mod model;
 mod named_point;
 mod points;
+pub mod scans;
 mod tables;
 
 pub use chain::Chain;

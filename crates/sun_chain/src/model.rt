@@ -3,7 +3,7 @@ ghost use Rattle.std.specs.Prelude.{◌≡◌};
 
 /// A SunSpec model: the address of its ID register, its ID, and its length. The length is the
 /// number of registers after the ID and length registers.
-#[derive(Clone, Copy, Debug, PartialEq, Eq)]
+#[derive(Clone, Copy, PartialEq, Eq)]
 pub struct Model {
     pub address: u16,
     pub id: u16,

@@ -8,7 +8,7 @@ use std::io;
 use sun_points::{Point, PointType, Scale, Sink};
 
 /// The scale of a point: the power of ten for its value.
-#[derive(Clone, Copy, Debug, PartialEq, Eq)]
+#[derive(Clone, Copy, PartialEq, Eq)]
 pub enum PointScale {
     /// The point has no scale point.
     Unscaled,

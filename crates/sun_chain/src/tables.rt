@@ -9,7 +9,7 @@ use EntryType::{Acc32, Bitfield32, Enum16, Int16, String8, String16, Sunssf, Uin
 use sun_points::{PointType, TextLength};
 
 /// The SunSpec point types that occur in the model tables.
-#[derive(Clone, Copy, Debug)]
+#[derive(Clone, Copy)]
 pub(crate) enum EntryType {
     Int16,
     Uint16,

@@ -6,7 +6,7 @@ use std::marker::Model;
 
 /// The number of registers of a text point, 1 to 125. One Modbus read requests at most 125
 /// registers.
-#[derive(Clone, Copy, Debug, PartialEq, Eq)]
+#[derive(Clone, Copy, PartialEq, Eq)]
 pub struct TextLength {
     registers: u16,
 }
@@ -54,7 +54,7 @@ impl TextLength {
 }
 
 /// A SunSpec point type. A 32-bit value occupies two registers, the high word first.
-#[derive(Clone, Copy, Debug, PartialEq, Eq)]
+#[derive(Clone, Copy, PartialEq, Eq)]
 pub enum PointType {
     Int16,
     Uint16,

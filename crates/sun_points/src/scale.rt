@@ -5,7 +5,7 @@ ghost use Rattle.sun_points.specs.Scale.{scale_of};
 use std::marker::Model;
 
 /// A scale factor: the power of ten that multiplies a value, -10 to 10.
-#[derive(Clone, Copy, Debug, PartialEq, Eq)]
+#[derive(Clone, Copy, PartialEq, Eq)]
 pub struct Scale {
     exponent: i8,
 }

@@ -25,7 +25,7 @@ type ShownText = ArrayVec<u8, 1000>;
 
 /// A text in registers, two bytes each, high byte first. The text ends before its first zero byte.
 /// Only the first 125 registers are printed.
-#[derive(Clone, Copy, Debug, PartialEq, Eq)]
+#[derive(Clone, Copy, PartialEq, Eq)]
 pub struct Text<'a> {
     pub words: &'a [u16],
 }

@@ -2,18 +2,18 @@
 use crate::run_words::bare_host;
 use crate::scans::connect;
 use command_words::Device;
-use device_scan::{CounterScale, ScanFault, read_counter};
 use mb_wire::Link;
+use mb_wire::sockets::{Clock, DeadlineLink, SystemClock};
 use office_events::{Name, Register, ScaleSource};
 use office_program::Shown;
-use socket_link::{Clock, DeadlineLink, SystemClock};
 use std::fmt;
 use std::fmt::{Display, Formatter};
 use std::str::from_utf8;
 use stored_files::Failure;
+use sun_chain::scans::{CounterScale, ScanFault, read_counter};
 
 /// A reason why a device's counter could not be read.
-#[derive(Clone, Copy, Debug, Drop)]
+#[derive(Clone, Copy, Drop)]
 pub(crate) enum Unread<'a> {
     /// The arguments have no address for the device.
     Nowhere {

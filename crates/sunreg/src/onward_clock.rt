@@ -1,7 +1,7 @@
 //! The clock for the timestamps of records. When `run --carry` changes to a new file, the new file
 //! gets no earlier timestamps than the old file, even if the system clock was set back.
+use mb_wire::sockets::Clock;
 use run_schedule::OnwardTime;
-use socket_link::Clock;
 
 /// A clock that returns no time before its lower bound.
 #[derive(Drop)]

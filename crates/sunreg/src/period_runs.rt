@@ -15,11 +15,11 @@ use file_commands::{
     open_in, write_why,
 };
 use interval_core::{Day, LAST_MOMENT, Zone, day_of};
+use mb_wire::sockets::{Clock, SystemClock};
 use office_program::NamedFiles;
 use office_running::{Settings, Site, write_without_waiting};
 use office_store::OpenFault;
 use run_schedule::{Plan, next_try, period_until, plan_of};
-use socket_link::{Clock, SystemClock};
 use sqlite::types::ValueRef;
 use sqlite::{Alter, Connection};
 use std::alloc::AllocError;

@@ -1,7 +1,7 @@
 //! Executes scripts with a store in memory, or with a database file as the store.
 use file_commands::open_in;
 use interval_core::Zone;
-use kept_books::CachedBooks;
+use memory_books::kept::CachedBooks;
 use office_store::SqlBooks;
 use script_run::{replay, replay_books};
 use std::io;

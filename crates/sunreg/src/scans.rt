@@ -1,14 +1,14 @@
 //! Scans the SunSpec models of a live device over a socket.
 use command_io::Buffered;
-use device_scan::{ScanFault, ScanObserver};
 use mb_wire::Link;
+use mb_wire::sockets::{Clock, DeadlineLink, SocketLink, SystemClock};
 use office_events::Name;
-use socket_link::{Clock, DeadlineLink, SocketLink, SystemClock};
 use std::io::{self, IsTerminal, Write};
 use std::net::{Net, TcpStream, ToSocketAddrs};
 use std::time::Duration;
 use stored_files::{Ending, Failure, ending_of};
 use sun_chain::Model;
+use sun_chain::scans::{ScanFault, ScanObserver};
 use sunspec_text::{ScanForm, Site, scan_text};
 
 /// The timeout for connecting to each address of a host, in seconds.

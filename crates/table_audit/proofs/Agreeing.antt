@@ -6,14 +6,14 @@ use Rattle.energy_core.specs.declared.entries.Last.{Last}
 use Rattle.interval_core.specs.declared.shares.Share.{Share}
 use Rattle.meter_journal.specs.declared.lines.Installed.{Installed}
 use Rattle.meter_journal.specs.declared.lines.EntryRow.{EntryRow}
-use Rattle.meter_audit.specs.declared.faults.RowFault.{RowFault}
-use Rattle.meter_audit.specs.declared.progress.Progress.{Progress}
-use Rattle.meter_audit.specs.declared.rows.TableRow.{TableRow}
-use Rattle.meter_audit.specs.Rows.{opening_row, later_rows}
-use Rattle.meter_audit.specs.Fitting.{AreReported, Tables, AreFine}
-use Rattle.meter_audit.specs.Passing.{MayBeChecked, passed}
-use Rattle.meter_audit.specs.Going.{HasGone, GoesOver, Agrees, FinishedIsFine, RefusedIsNotFine}
-use Rattle.meter_audit.proofs.Apart.{same_head, reported_more}
+use Rattle.meter_journal.specs.declared.audit.faults.RowFault.{RowFault}
+use Rattle.meter_journal.specs.declared.audit.progress.Progress.{Progress}
+use Rattle.meter_journal.specs.declared.audit.rows.TableRow.{TableRow}
+use Rattle.meter_journal.specs.Audit.Rows.{opening_row, later_rows}
+use Rattle.meter_journal.specs.Audit.Fitting.{AreReported, Tables, AreFine}
+use Rattle.meter_journal.specs.Audit.Passing.{MayBeChecked, passed}
+use Rattle.meter_journal.specs.Audit.Going.{HasGone, GoesOver, Agrees, FinishedIsFine, RefusedIsNotFine}
+use Rattle.meter_journal.proofs.AuditLemmas.Apart.{same_head, reported_more}
 use Rattle.store_tables.specs.declared.meters.rows.InstallationRow.{InstallationRow}
 use Rattle.table_audit.specs.Lawful.{last_shown, IsOpenedBy, tables_from, IsLawful, RestAgrees}
 

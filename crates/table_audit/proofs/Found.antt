@@ -2,8 +2,8 @@
 -- journal, a history that the rules accept.
 use Rattle.std.proofs.Common.{◌≡◌, ◌↔◌, ℕ, Bool, false, List, [], ◌∷◌, Option, Some, None, Result, Ok, Err, Vec, IfOk, IsTrue, sym, ap, subst, ◌∙◌}
 use Rattle.interval_core.specs.declared.shares.Share.{Share}
-use Rattle.meter_audit.specs.declared.rows.TableRow.{TableRow}
-use Rattle.meter_audit.proofs.Apart.{same_head}
+use Rattle.meter_journal.specs.declared.audit.rows.TableRow.{TableRow}
+use Rattle.meter_journal.proofs.AuditLemmas.Apart.{same_head}
 use Rattle.sqlite.specs.Order.{Row}
 use Rattle.store_tables.specs.declared.faults.RowFault.{RowFault}
 use Rattle.store_tables.specs.declared.meters.rows.InstallationRow.{InstallationRow}

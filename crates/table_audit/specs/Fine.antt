@@ -1,7 +1,7 @@
 -- Defines when a meter's rows are fine, which means that an audit finds no difference in them.
 use Rattle.std.specs.Prelude.{◌≡◌, ◌↔◌, ℕ, Bool, List, [], ◌∷◌, Ok, IsTrue}
 use Rattle.interval_core.specs.declared.shares.Share.{Share}
-use Rattle.meter_audit.specs.declared.rows.TableRow.{TableRow}
+use Rattle.meter_journal.specs.declared.audit.rows.TableRow.{TableRow}
 use Rattle.store_tables.specs.declared.meters.rows.InstallationRow.{InstallationRow}
 use Rattle.table_audit.specs.declared.rows.MeterRows.{MeterRows}
 use Rattle.table_audit.specs.Reading.{entry_in, place_in, share_in, range_in, all_in}

@@ -4,12 +4,12 @@ use Rattle.std.specs.Prelude.{◌≡◌, ℕ, Bool, true, nat_lt, nat_le, ◌&&�
 use Rattle.energy_core.specs.declared.entries.Last.{Last}
 use Rattle.interval_core.specs.declared.shares.Share.{Share}
 use Rattle.meter_journal.specs.declared.lines.Installed.{Installed}
-use Rattle.meter_audit.specs.declared.checks.Check.{Check}
-use Rattle.meter_audit.specs.declared.progress.Progress.{Progress}
-use Rattle.meter_audit.specs.declared.rows.TableRow.{TableRow}
-use Rattle.meter_audit.specs.Rows.{opening_row}
-use Rattle.meter_audit.specs.Fitting.{Tables, AreFine}
-use Rattle.meter_audit.specs.Passing.{MayBeChecked}
+use Rattle.meter_journal.specs.declared.audit.checks.Check.{Check}
+use Rattle.meter_journal.specs.declared.audit.progress.Progress.{Progress}
+use Rattle.meter_journal.specs.declared.audit.rows.TableRow.{TableRow}
+use Rattle.meter_journal.specs.Audit.Rows.{opening_row}
+use Rattle.meter_journal.specs.Audit.Fitting.{Tables, AreFine}
+use Rattle.meter_journal.specs.Audit.Passing.{MayBeChecked}
 use Rattle.store_tables.specs.declared.meters.rows.LastRow.{LastRow}
 use Rattle.store_tables.specs.declared.meters.rows.InstallationRow.{InstallationRow}
 

@@ -5,9 +5,9 @@ use Rattle.std.specs.List.{list_any}
 use Rattle.std.specs.Option.{option_and_then}
 use Rattle.energy_core.specs.declared.limits.TheConstants.{MAX_RANGE, MAX_SHOWN, MAX_TOTAL, MIN_RANGE}
 use Rattle.interval_core.specs.declared.shares.Share.{Share}
-use Rattle.meter_audit.specs.declared.rows.RowKind.{RowKind}
-use Rattle.meter_audit.specs.declared.rows.RowKind.TheVariants.{Opening, Reading, Manual, Closing, Reset, Rescale}
-use Rattle.meter_audit.specs.declared.rows.TableRow.{TableRow}
+use Rattle.meter_journal.specs.declared.audit.rows.RowKind.{RowKind}
+use Rattle.meter_journal.specs.declared.audit.rows.RowKind.TheVariants.{Opening, Reading, Manual, Closing, Reset, Rescale}
+use Rattle.meter_journal.specs.declared.audit.rows.TableRow.{TableRow}
 use Rattle.sqlite.specs.declared.types.Value.{Value}
 use Rattle.sqlite.specs.declared.types.Value.TheVariants.{Text}
 use Rattle.sqlite.specs.Order.{Row, column}

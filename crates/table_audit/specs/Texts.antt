@@ -6,10 +6,10 @@ use Rattle.std.specs.Fmt.{signed_decimal}
 use Rattle.energy_core.specs.declared.entries.Last.{Last}
 use Rattle.energy_core.specs.Verdict.{cause_number}
 use Rattle.energy_core.specs.Admission.{fault_number}
-use Rattle.meter_audit.specs.declared.faults.RowFault.{RowFault}
-use Rattle.meter_audit.specs.declared.faults.RowFault.TheVariants as cause
-use Rattle.meter_audit.specs.declared.intervals.IntervalFault.{IntervalFault}
-use Rattle.meter_audit.specs.declared.intervals.IntervalFault.TheVariants as fault
+use Rattle.meter_journal.specs.declared.audit.faults.RowFault.{RowFault}
+use Rattle.meter_journal.specs.declared.audit.faults.RowFault.TheVariants as cause
+use Rattle.meter_journal.specs.declared.audit.intervals.IntervalFault.{IntervalFault}
+use Rattle.meter_journal.specs.declared.audit.intervals.IntervalFault.TheVariants as fault
 use Rattle.table_audit.specs.declared.differences.Difference.{Difference}
 use Rattle.table_audit.specs.declared.differences.Difference.TheVariants as difference
 use Rattle.table_audit.specs.declared.differences.PollFault.{PollFault}

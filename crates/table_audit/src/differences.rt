@@ -3,11 +3,11 @@
 ghost use Rattle.std.specs.Prelude.{◌≡◌, ◌<◌, ◌≤◌, [], length, OnOk};
 
 use energy_core::Last;
-use meter_audit::{IntervalFault, RowFault};
+use meter_journal::audit::{IntervalFault, RowFault};
 use std::alloc::{AllocError, Global};
 
 /// An SQL table whose rows belong to meters.
-#[derive(Clone, Copy, Debug, PartialEq, Eq)]
+#[derive(Clone, Copy, PartialEq, Eq)]
 pub enum Table {
     Installations,
     Ranges,

@@ -18,7 +18,7 @@ pub struct Finding {
 }
 
 /// The numbers of rows that an audit read.
-#[derive(Clone, Copy, Debug, PartialEq, Eq)]
+#[derive(Clone, Copy, PartialEq, Eq)]
 pub struct Counts {
     pub meters: u64,
     pub entries: u64,

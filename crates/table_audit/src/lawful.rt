@@ -1,9 +1,9 @@
 //! Compares a meter's rows with the rows that follow from the meter's entries.
 ghost use Rattle.std.specs.Prelude.{◌≡◌, ◌<◌, ◌≤◌, ◌^◌, ◌↔◌, [], All, reverse, length, true};
 ghost use Rattle.std.specs.Prelude.{IsTrue, IsNone, IfSome, IfOk, OnOk, MatchOption};
-ghost use Rattle.meter_audit.specs.Fitting.{AreReported};
-ghost use Rattle.meter_audit.specs.Going.{IsSoundProgress, HasGone};
-ghost use Rattle.meter_audit.specs.Passing.{MayBeChecked};
+ghost use Rattle.meter_journal.specs.Audit.Fitting.{AreReported};
+ghost use Rattle.meter_journal.specs.Audit.Going.{IsSoundProgress, HasGone};
+ghost use Rattle.meter_journal.specs.Audit.Passing.{MayBeChecked};
 ghost use Rattle.table_audit.specs.Lawful as agreeing;
 ghost use Rattle.table_audit.specs.Reporting.{Reports};
 
@@ -11,11 +11,11 @@ use crate::differences::{Difference, Differences, MOST};
 use crate::opening::opened;
 use energy_core::Last;
 use interval_core::Share;
-use meter_audit::{
+use meter_journal::Installed;
+use meter_journal::audit::{
     Check, Progress, RefusedRow, Standing, TableRow, finished_is_fine, first_difference,
     refused_is_not_fine, standing_faults, start, take_row,
 };
-use meter_journal::Installed;
 use std::alloc::{AllocError, Global};
 use store_tables::InstallationRow;
 

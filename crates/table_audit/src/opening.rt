@@ -1,13 +1,13 @@
 //! Builds the description of an installed meter from its opening, the first entry.
 ghost use Rattle.std.specs.Prelude.{◌≡◌, ◌↔◌, IsTrue, IsSome, IfSome};
 ghost use Rattle.meter_journal.specs.declared.lines.Installed.{Installed as TheMeter};
-ghost use Rattle.meter_audit.specs.Rows.{opening_row};
-ghost use Rattle.meter_audit.specs.Passing.{MayBeChecked};
+ghost use Rattle.meter_journal.specs.Audit.Rows.{opening_row};
+ghost use Rattle.meter_journal.specs.Audit.Passing.{MayBeChecked};
 ghost use Rattle.table_audit.specs.Lawful.{last_shown, IsOpenedBy};
 
 use energy_core::{Last, MAX_CEILING, MAX_SCALE, MIN_SCALE, Ranged};
-use meter_audit::{RowKind, TableRow};
 use meter_journal::Installed;
+use meter_journal::audit::{RowKind, TableRow};
 
 /// Returns whether a row of `entries` is a valid opening, the first entry of a meter.
 fn is_opening(row: &TableRow) -> bool

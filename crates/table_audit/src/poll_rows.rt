@@ -15,7 +15,7 @@ pub struct RunRows {
 }
 
 /// The number and the start time of a poll.
-#[derive(Clone, Copy, Debug, PartialEq, Eq)]
+#[derive(Clone, Copy, PartialEq, Eq)]
 pub struct PollRow {
     pub number: u64,
     /// The time at which the poll started, in seconds since 1970-01-01 UTC.

@@ -8,7 +8,7 @@ ghost use Rattle.table_audit.specs.Reading as values;
 
 use energy_core::{MAX_CEILING, MAX_RANGE, MAX_SHOWN, MAX_TOTAL, MIN_RANGE};
 use interval_core::Share;
-use meter_audit::{RowKind, TableRow};
+use meter_journal::audit::{RowKind, TableRow};
 use sqlite::{Error, ErrorCode, Row};
 use std::alloc::{AllocError, Global};
 use store_tables::{

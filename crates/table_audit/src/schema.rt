@@ -17,7 +17,7 @@ use sqlite::{Alter, Connection};
 use sqlite_schema::schema::{Index, Schema};
 
 /// How the schema of a file differs from the program's.
-#[derive(Clone, Copy, Debug, PartialEq, Eq)]
+#[derive(Clone, Copy, PartialEq, Eq)]
 pub enum SchemaFault {
     /// The table with this name has another definition.
     Table(&'static str),

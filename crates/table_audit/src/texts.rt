@@ -7,7 +7,7 @@ use crate::differences::{Difference, PollFault, Table};
 use crate::findings::{Counts, Finding, Findings};
 use energy_core::Last;
 use itoa::Buffer;
-use meter_audit::{IntervalFault, RowFault};
+use meter_journal::audit::{IntervalFault, RowFault};
 use std::alloc::AllocError;
 
 // ---- parts of a printed line; if memory runs out, the text is incomplete

@@ -1,7 +1,7 @@
 -- Lemmas on the list of a file's meters, which is built row by row from `installations`.
 use Rattle.std.proofs.Common.{◌≡◌, ℕ, ◌+◌, ◌<◌, List, [], ◌∷◌, ◌++◌, take, length, get_or, drop, Some, sym, ap, subst, ◌∙◌, arith}
 use Rattle.std.proofs.lemmas.List.{take_more}
-use Rattle.meter_audit.specs.declared.rows.TableRow.{TableRow}
+use Rattle.meter_journal.specs.declared.audit.rows.TableRow.{TableRow}
 use Rattle.sqlite.specs.Order.{Row}
 use Rattle.store_tables.specs.Content.{Content}
 use Rattle.table_seals.specs.declared.filed.FiledMeter.{FiledMeter}

@@ -4,10 +4,10 @@ use Rattle.std.specs.List.{AllByRecursion}
 use Rattle.energy_core.specs.declared.entries.Last.{Last}
 use Rattle.meter_journal.specs.declared.lines.Installed.{Installed}
 use Rattle.meter_journal.specs.Books.{IsWellInstalled}
-use Rattle.meter_audit.specs.declared.rows.TableRow.{TableRow}
-use Rattle.meter_audit.specs.declared.standing.Standing.{Standing}
-use Rattle.meter_audit.specs.CarriedFiles.{GoesOnAs, InFile, GoOn, reported_by_both, entry_from_all_rows, FilesAreOneHistory}
-use Rattle.meter_audit.specs.Fitting.{Tables, AreFine}
+use Rattle.meter_journal.specs.declared.audit.rows.TableRow.{TableRow}
+use Rattle.meter_journal.specs.declared.audit.standing.Standing.{Standing}
+use Rattle.meter_journal.specs.Audit.CarriedFiles.{GoesOnAs, InFile, GoOn, reported_by_both, entry_from_all_rows, FilesAreOneHistory}
+use Rattle.meter_journal.specs.Audit.Fitting.{Tables, AreFine}
 use Rattle.store_tables.specs.declared.meters.rows.InstallationRow.{InstallationRow}
 use Rattle.store_tables.proofs.ReadLemmas.{ok_is}
 use Rattle.table_audit.specs.Lawful.{last_shown, tables_from}

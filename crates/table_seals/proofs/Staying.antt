@@ -19,8 +19,8 @@ use Rattle.meter_journal.specs.Books.{last_after}
 use Rattle.meter_journal.specs.Fitting.{AreFitting, is_free}
 use Rattle.meter_journal.specs.Journal.{Entered, Held, Voided, Journal, Around, is_reading, is_read, entries_in, with_rolls, rolled, struck, with_void, rows_of, passed, row_at}
 use Rattle.meter_journal.proofs.Keeping.{entries_standing, entries_struck, mapped_some, above, all_three}
-use Rattle.meter_audit.specs.declared.rows.TableRow.{TableRow}
-use Rattle.meter_audit.specs.Rows.{scale_after, table_row, opening_row, later_rows, table_rows}
+use Rattle.meter_journal.specs.declared.audit.rows.TableRow.{TableRow}
+use Rattle.meter_journal.specs.Audit.Rows.{scale_after, table_row, opening_row, later_rows, table_rows}
 use Rattle.table_seals.specs.Laws.{entries_by, is_voided_at, FirstEntriesStay, VoidsStay}
 use Rattle.table_seals.specs.Texts.{entry_line, entries_text}
 

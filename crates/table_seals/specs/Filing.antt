@@ -2,8 +2,8 @@
 -- continues their counts.
 use Rattle.std.specs.Prelude.{⊤, ◌≡◌, ℕ, List, [], ◌∷◌, Option, Some, None, Ok, Vec, string_bytes}
 use Rattle.std.specs.List.{slice_get}
-use Rattle.meter_audit.specs.declared.rows.TableRow.{TableRow}
-use Rattle.meter_audit.specs.declared.standing.Standing.{Standing}
+use Rattle.meter_journal.specs.declared.audit.rows.TableRow.{TableRow}
+use Rattle.meter_journal.specs.declared.audit.standing.Standing.{Standing}
 use Rattle.sqlite.specs.declared.types.Value.TheVariants.{Text}
 use Rattle.sqlite.specs.Order.{Row, column}
 use Rattle.store_tables.specs.Content.{Content}

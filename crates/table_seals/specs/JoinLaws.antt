@@ -4,9 +4,9 @@ use Rattle.std.specs.Prelude.{⊤, ◌≡◌, ◌↔◌, ◌≤◌, ◌+◌, ℕ
 use Rattle.std.specs.List.{AllByRecursion, filter}
 use Rattle.energy_core.specs.declared.limits.TheConstants.{MAX_TOTAL}
 use Rattle.meter_journal.specs.Books.{IsWellInstalled}
-use Rattle.meter_audit.specs.CarriedFiles.{GoesOnAs, InFile, entry_from_all_rows}
-use Rattle.meter_audit.specs.Fitting.{Tables, AreFine}
-use Rattle.meter_audit.specs.Laws.{AreLawful}
+use Rattle.meter_journal.specs.Audit.CarriedFiles.{GoesOnAs, InFile, entry_from_all_rows}
+use Rattle.meter_journal.specs.Audit.Fitting.{Tables, AreFine}
+use Rattle.meter_journal.specs.Audit.Laws.{AreLawful}
 use Rattle.sqlite.specs.Order.{Row}
 use Rattle.store_tables.specs.Meters.Rows.{installation_in}
 use Rattle.store_tables.specs.declared.meters.rows.InstallationRow.{InstallationRow}

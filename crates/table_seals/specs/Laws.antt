@@ -6,8 +6,8 @@ use Rattle.meter_journal.specs.declared.lines.Installed.{Installed}
 use Rattle.meter_journal.specs.Books.{IsWellInstalled}
 use Rattle.meter_journal.specs.Fitting.{AreFitting}
 use Rattle.meter_journal.specs.Journal.{Journal, rows_of}
-use Rattle.meter_audit.specs.declared.rows.TableRow.{TableRow}
-use Rattle.meter_audit.specs.Rows.{table_rows}
+use Rattle.meter_journal.specs.declared.audit.rows.TableRow.{TableRow}
+use Rattle.meter_journal.specs.Audit.Rows.{table_rows}
 use Rattle.table_audit.specs.declared.poll_rows.RunRows.{RunRows}
 use Rattle.table_seals.specs.PollReading.{ReadPoll, polls_of}
 use Rattle.table_seals.specs.PollTexts.{polls_text, polls_text_then, pending_among}

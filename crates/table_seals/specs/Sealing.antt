@@ -2,7 +2,7 @@
 use Rattle.std.specs.Prelude.{⊤, ◌≡◌, ◌⊎◌, ℕ, true, List, [], ◌∷◌, Option, Some, None, Vec, length}
 use Rattle.std.specs.List.{slice_get}
 use Rattle.sha2.specs.Sha256.{sha256}
-use Rattle.meter_audit.specs.declared.rows.TableRow.{TableRow}
+use Rattle.meter_journal.specs.declared.audit.rows.TableRow.{TableRow}
 use Rattle.sqlite.specs.Order.{Row}
 use Rattle.store_tables.specs.Content.{Content}
 use Rattle.table_audit.specs.declared.rows.MeterRows.{MeterRows}

@@ -2,7 +2,7 @@
 use Rattle.std.specs.Prelude.{◌≡◌, ℕ, nat_lt, Bool, List, [], ◌∷◌, Option, Some, None, Ok, string_bytes, IsUtf8}
 use Rattle.std.specs.List.{list_all}
 use Rattle.energy_core.specs.declared.limits.TheConstants.{MAX_CEILING}
-use Rattle.meter_audit.specs.declared.rows.TableRow.{TableRow}
+use Rattle.meter_journal.specs.declared.audit.rows.TableRow.{TableRow}
 use Rattle.sqlite.specs.declared.types.Value.TheVariants.{Text}
 use Rattle.sqlite.specs.Order.{Row, column}
 use Rattle.store_tables.specs.Columns.{whole_in, or_damaged}

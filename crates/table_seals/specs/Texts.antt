@@ -5,9 +5,9 @@ use Rattle.std.specs.Prelude.{codes, decimal, String, string_bytes}
 use Rattle.std.specs.Fmt.{signed_decimal}
 use Rattle.hex.specs.Hex.{encode_lower}
 use Rattle.sha2.specs.Sha256.{sha256}
-use Rattle.meter_audit.specs.declared.rows.RowKind.{RowKind}
-use Rattle.meter_audit.specs.declared.rows.RowKind.TheVariants.{Opening, Reading, Manual, Closing, Reset, Rescale}
-use Rattle.meter_audit.specs.declared.rows.TableRow.{TableRow}
+use Rattle.meter_journal.specs.declared.audit.rows.RowKind.{RowKind}
+use Rattle.meter_journal.specs.declared.audit.rows.RowKind.TheVariants.{Opening, Reading, Manual, Closing, Reset, Rescale}
+use Rattle.meter_journal.specs.declared.audit.rows.TableRow.{TableRow}
 use Rattle.table_seals.specs.declared.checks.Checked.{Checked}
 use Rattle.table_seals.specs.declared.seals.MeterSeal.{MeterSeal}
 use Rattle.table_seals.specs.Sealed.{Sealed, SealedPolls, SealedTables, sealed_of}

@@ -9,7 +9,7 @@ use std::alloc::AllocError;
 /// The result of checking a file against its seal, which has digests of earlier records. It has the
 /// names of the meters that don't match the seal, the number of sealed meters, and whether the
 /// polls differ from the seal.
-#[derive(Debug, Drop)]
+#[derive(Drop)]
 pub struct Checked {
     pub differing: Vec<String>,
     pub meters: u64,

@@ -1,11 +1,11 @@
 //! The data that the check of successive database files reads from each file. The check decides
 //! whether each file continues the previous file.
-use meter_audit::Standing;
 use meter_journal::Installed;
+use meter_journal::audit::Standing;
 
 /// A meter in a database file: its accounting register (a named counter of a device), its opening
 /// (the first entry), and its state after its last entry.
-#[derive(Debug, Drop)]
+#[derive(Drop)]
 pub struct FiledMeter<'a> {
     /// The name of the file, for messages.
     pub file: &'a str,
@@ -18,7 +18,7 @@ pub struct FiledMeter<'a> {
 /// The time zone and the meters of one database file, or of several successive files. `file` and
 /// `zone` are the name and the time zone of the latest file. The first `latest` meters belong to
 /// the latest file, and the meters of earlier files follow.
-#[derive(Debug, Drop)]
+#[derive(Drop)]
 pub struct FiledOffice<'a> {
     pub file: &'a str,
     pub zone: String,

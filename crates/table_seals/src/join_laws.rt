@@ -3,7 +3,7 @@
 ghost use Rattle.table_seals.specs.JoinLaws.{JoinedFilesAreOne, JoinedMetersGoOn};
 ghost use Rattle.table_seals.specs.JoinLaws.{FiledMetersAreReported, JoinedFilesAreLawful};
 
-use meter_audit::files_are_one_history;
+use meter_journal::audit::files_are_one_history;
 
 /// Theorem: the check of successive files reports no difference for a meter if and only if the
 /// meter continues from its last entry in the earlier file.

@@ -29,7 +29,7 @@ fn with_next<'a>(
 
 /// The result of checking successive database files, the oldest first. It has the meters of these
 /// files, and a line for each difference between a file and the earlier files.
-#[derive(Debug, Drop)]
+#[derive(Drop)]
 pub struct Joining<'a> {
     pub known: Option<FiledOffice<'a>>,
     pub lines: Vec<Vec<u8>>,

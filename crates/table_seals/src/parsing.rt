@@ -15,7 +15,7 @@ use crate::texts::append_seal;
 use std::alloc::{AllocError, Global};
 
 /// A reason why a text can't be parsed as a seal.
-#[derive(Clone, Copy, Debug, PartialEq, Eq)]
+#[derive(Clone, Copy, PartialEq, Eq)]
 pub enum NoSeal {
     /// The text does not have the format of a seal, or its digest is wrong.
     Other,

@@ -6,7 +6,7 @@ ghost use Rattle.table_seals.specs.Tables.{TermsAreRead, RowsAreRead};
 ghost use Rattle.table_seals.specs.Tables as tables;
 
 use energy_core::MAX_CEILING;
-use meter_audit::TableRow;
+use meter_journal::audit::TableRow;
 use sqlite::{Error, ErrorCode, Row};
 use std::alloc::{AllocError, Global};
 use store_tables::whole;

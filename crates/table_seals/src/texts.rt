@@ -8,7 +8,7 @@ ghost use Rattle.table_seals.specs.Texts as say;
 
 use crate::seals::{MeterSeal, PollSeal, Seal};
 use itoa::Buffer;
-use meter_audit::{RowKind, TableRow};
+use meter_journal::audit::{RowKind, TableRow};
 use sha2::{Digest, Sha256};
 use std::alloc::{AllocError, Global};
 

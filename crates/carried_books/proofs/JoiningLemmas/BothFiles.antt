@@ -18,7 +18,7 @@ use Rattle.interval_core.specs.Ranges.{has_moment}
 use Rattle.interval_core.specs.declared.day_range.DayRange.{DayRange}
 use Rattle.interval_core.specs.declared.shares.Share.{Share}
 use Rattle.interval_core.specs.declared.zone.Zone.{Zone}
-use Rattle.meter_audit.specs.Carried.{AreCountedOnce, energy_from}
+use Rattle.meter_journal.specs.Audit.Carried.{AreCountedOnce, energy_from}
 use Rattle.meter_journal.specs.declared.lines.EntryKind.{EntryKind}
 use Rattle.office_books.specs.declared.entries.MeterEntry.{MeterEntry}
 use Rattle.office_books.specs.declared.entries.MeterEntry.TheVariants as entry

@@ -7,7 +7,7 @@ use Rattle.std.proofs.lemmas.Bool.{cases_Bool, cond-false, cond-true}
 use Rattle.std.proofs.lemmas.List.Elements.{All-cons, All-contains_itself, Contains-append_right}
 use Rattle.std.proofs.lemmas.Slice.Eq.{bytes_eq-Decides}
 use Rattle.std.specs.Str.{bytes_eq}
-use Rattle.meter_audit.specs.CarriedFiles.{GoesOnAs}
+use Rattle.meter_journal.specs.Audit.CarriedFiles.{GoesOnAs}
 use Rattle.office_events.specs.declared.questions.Installation.{Installation}
 use Rattle.carried_books.specs.declared.joining.meters.Apart.{Apart}
 use Rattle.office_books.specs.Meters.{installed}

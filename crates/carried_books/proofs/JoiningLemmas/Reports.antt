@@ -15,7 +15,7 @@ use Rattle.energy_report.specs.Writing.{GotUnless, IsFresh, TakesDay}
 use Rattle.energy_report.specs.declared.form.ReportForm.{ReportForm}
 use Rattle.energy_report.specs.declared.report_rows.ReportRows.{ReportRows}
 use Rattle.interval_core.specs.Account.{energy_of, starts_of}
-use Rattle.meter_audit.specs.Carried.{AreCountedOnce}
+use Rattle.meter_journal.specs.Audit.Carried.{AreCountedOnce}
 use Rattle.interval_core.specs.Days.{AccountsAreOne, AreAccounts, DayAccount, account_of, distinct_count, rows_on}
 use Rattle.interval_core.specs.Ranges.{days_in, has_day, is_in}
 use Rattle.interval_core.specs.Zone.{day_at}

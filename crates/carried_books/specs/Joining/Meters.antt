@@ -3,7 +3,7 @@
 --
 -- Lists have the first installed meter first.
 use Rattle.std.specs.Prelude.{◌≡◌, ◌⊎◌, ◌+◌, ◌-◌, ◌^◌, nat_le, min, Bool, true, false, not, ◌&&◌, List, [], ◌∷◌, ◌++◌, All, Contains, Option, Some, None}
-use Rattle.meter_audit.specs.CarriedFiles.{GoesOnAs}
+use Rattle.meter_journal.specs.Audit.CarriedFiles.{GoesOnAs}
 use Rattle.office_events.specs.declared.questions.Installation.{Installation}
 use Rattle.office_books.specs.Facts.{same}
 use Rattle.office_books.specs.Meters.{installed}

@@ -10,7 +10,7 @@ use Rattle.interval_core.specs.declared.shares.Share.{Share}
 use Rattle.interval_core.specs.declared.day_range.DayRange.{DayRange}
 use Rattle.interval_core.specs.declared.totals.DayTotal.{DayTotal}
 use Rattle.interval_core.specs.declared.zone.Zone.{Zone}
-use Rattle.meter_audit.specs.Carried.{AreCountedOnce}
+use Rattle.meter_journal.specs.Audit.Carried.{AreCountedOnce}
 use Rattle.office_core.specs.DayRange.{AreDaysWithin, accounts_within, span_of}
 use Rattle.office_events.specs.declared.facts.Fact.{Fact}
 use Rattle.office_program.specs.Texts.EndTexts.{IsReported}

@@ -17,7 +17,7 @@ use Rattle.energy_report.specs.declared.tallies.EntryTally.{EntryTally}
 use Rattle.interval_core.specs.declared.day_range.DayRange.{DayRange}
 use Rattle.interval_core.specs.declared.shares.Share.{Share}
 use Rattle.interval_core.specs.declared.zone.Zone.{Zone}
-use Rattle.meter_audit.specs.Carried.{AreCountedOnce, moved_row}
+use Rattle.meter_journal.specs.Audit.Carried.{AreCountedOnce, moved_row}
 use Rattle.office_books.specs.Entries.{all_entries, installations_of}
 use Rattle.office_books.specs.Holds.{holds_of}
 use Rattle.office_books.specs.Rows.{TakesAll}

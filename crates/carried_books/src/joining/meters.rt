@@ -1,6 +1,6 @@
 //! Joins the meters at an accounting register over several files, the oldest file first.
 ghost use Rattle.std.specs.Prelude.{◌≡◌, ◌↔◌, ◌&&◌, IsTrue, not, find, IfOk};
-ghost use Rattle.meter_audit.specs.CarriedFiles.{GoesOnAs};
+ghost use Rattle.meter_journal.specs.Audit.CarriedFiles.{GoesOnAs};
 ghost use Rattle.carried_books.specs.Joining.Meters as meters;
 ghost use Rattle.carried_books.specs.Joining.Meters.{AddOrAreApart, AddsNext, AddsOrIsApart, GoesOn};
 

@@ -6,7 +6,7 @@ ghost use Rattle.mb_device.specs.StandIn.Exchanges.{Exchanged};
 
 use crate::{Bank, ServeFault, Server, Trick};
 use mb_wire::Link;
-use socket_link::SocketLink;
+use mb_wire::sockets::SocketLink;
 use std::io::{self, Read, Write};
 use std::net::{OpenListener, OpenStream};
 

@@ -4,18 +4,18 @@ use Rattle.std.specs.Io.KnownBytes.{Consumes, Keeps}
 use Rattle.std.proofs.KnownBytes.{Consumes-kept, Keeps-refl}
 use Rattle.std.proofs.lemmas.List.{append-nil}
 use Rattle.mb_wire.specs.declared.link.LastTake.{LastTake}
-use Rattle.http_messages.specs.Head.Heads.{IsOpenHead, Looks}
-use Rattle.http_messages.specs.Hosts.{may_ask_in}
-use Rattle.http_messages.specs.declared.head.head.HeadState.{HeadState}
-use Rattle.http_messages.specs.declared.head.head.HeadState.TheVariants.{Open}
-use Rattle.http_messages.specs.Reading.HeadAndBody.{EndsAt, ReadsHead, StopsAtOnce}
-use Rattle.http_messages.specs.Reading.Taking.{Came, CountsTakes, brought, bytes_in}
-use Rattle.http_messages.specs.declared.reading.inbox.Inbox.{Inbox}
-use Rattle.http_messages.specs.declared.reading.inbox.TakeFault.{TakeFault}
-use Rattle.http_messages.specs.declared.reading.inbox.TakeFault.TheVariants as take
-use Rattle.http_messages.specs.Routing.Routes.{routes}
-use Rattle.http_messages.specs.Whole.Whole.{IsUnfinished, ReadsRequest}
-use Rattle.http_messages.proofs.ReadingLemmas.Coming.{Came-then}
+use Rattle.office_http.specs.Messages.Head.Heads.{IsOpenHead, Looks}
+use Rattle.office_http.specs.Messages.Hosts.{may_ask_in}
+use Rattle.office_http.specs.declared.messages.head.head.HeadState.{HeadState}
+use Rattle.office_http.specs.declared.messages.head.head.HeadState.TheVariants.{Open}
+use Rattle.office_http.specs.Messages.Reading.HeadAndBody.{EndsAt, ReadsHead, StopsAtOnce}
+use Rattle.office_http.specs.Messages.Reading.Taking.{Came, CountsTakes, brought, bytes_in}
+use Rattle.office_http.specs.declared.messages.reading.inbox.Inbox.{Inbox}
+use Rattle.office_http.specs.declared.messages.reading.inbox.TakeFault.{TakeFault}
+use Rattle.office_http.specs.declared.messages.reading.inbox.TakeFault.TheVariants as take
+use Rattle.office_http.specs.Messages.Routing.Routes.{routes}
+use Rattle.office_http.specs.Messages.Whole.Whole.{IsUnfinished, ReadsRequest}
+use Rattle.office_http.proofs.MessagesLemmas.ReadingLemmas.Coming.{Came-then}
 use Rattle.office_books.specs.Ledgers.{Ledger}
 use Rattle.office_core.specs.Standing.{After}
 use Rattle.office_core.specs.declared.office.Office.{Office}

@@ -8,7 +8,7 @@ use Rattle.office_books.specs.Ledgers.{Ledger}
 use Rattle.office_core.specs.Standing.{After, Stands, books_in}
 use Rattle.office_core.specs.declared.office.Office.{Office}
 use Rattle.std.specs.Io.KnownBytes.{Consumes}
-use Rattle.socket_link.specs.Clocks.{ReportsMoment}
+use Rattle.mb_wire.specs.Sockets.Clocks.{ReportsMoment}
 use Rattle.office_events.specs.declared.events.Asked.{Asked}
 use Rattle.office_http.specs.Exchange.{Does, Handles, Passage, Replies}
 use Rattle.office_http.specs.Serving.{Asks, IsAnswered, IsServed, Lasts}

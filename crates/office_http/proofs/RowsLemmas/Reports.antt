@@ -3,9 +3,9 @@ use Rattle.std.proofs.Common.{◌≡◌, ◌∙◌, ◌+◌, ◌<◌, ◌≤◌,
 use Rattle.std.specs.Prelude.{flat_map, min}
 use Rattle.std.proofs.lemmas.Bool.Decides.{nat_tests}
 use Rattle.office_books.specs.Rows.{TakesAll}
-use Rattle.http_messages.specs.Sending.Replies.{text_head}
-use Rattle.http_messages.specs.Sending.Sending.{Puts}
-use Rattle.http_messages.proofs.SendingLemmas.Giving.{Puts-none, Puts-then}
+use Rattle.office_http.specs.Messages.Sending.Replies.{text_head}
+use Rattle.office_http.specs.Messages.Sending.Sending.{Puts}
+use Rattle.office_http.proofs.MessagesLemmas.SendingLemmas.Giving.{Puts-none, Puts-then}
 use Rattle.office_http.specs.Rows.Reports.{PutsLine, Report, counted, head_before, rows_begun}
 
 head_later : (count : ℕ) → 0 < count → head_before count ≡ []

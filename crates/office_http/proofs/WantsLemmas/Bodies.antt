@@ -2,12 +2,12 @@
 use Rattle.std.proofs.Common.{◌≡◌, ◌∙◌, ◌≢◌, ◌⊎◌, ℕ, List, Option, Some, Result, Ok, Err, inl, inr, refl, sym, ap, subst}
 use Rattle.serde_json.specs.Data.{Data}
 use Rattle.serde_json.specs.Read.{read}
-use Rattle.http_messages.specs.Commands.Commands.{command_of}
-use Rattle.http_messages.specs.Commands.Given.{Gives, GivesJson, GivesList, IsBody, IsJson, IsListBody, IsNoJson, reported}
-use Rattle.http_messages.specs.declared.commands.fault.CommandFault.{CommandFault}
-use Rattle.http_messages.specs.declared.commands.fault.CommandFault.TheVariants.{Malformed, Negative, Faulty, Memory}
-use Rattle.http_messages.specs.declared.routing.routes.Route.{Route}
-use Rattle.http_messages.specs.declared.routing.routes.Route.TheVariants as route
+use Rattle.office_http.specs.Messages.Commands.Commands.{command_of}
+use Rattle.office_http.specs.Messages.Commands.Given.{Gives, GivesJson, GivesList, IsBody, IsJson, IsListBody, IsNoJson, reported}
+use Rattle.office_http.specs.declared.messages.commands.fault.CommandFault.{CommandFault}
+use Rattle.office_http.specs.declared.messages.commands.fault.CommandFault.TheVariants.{Malformed, Negative, Faulty, Memory}
+use Rattle.office_http.specs.declared.messages.routing.routes.Route.{Route}
+use Rattle.office_http.specs.declared.messages.routing.routes.Route.TheVariants as route
 use Rattle.office_events.specs.declared.commands.Command.{Command}
 use Rattle.office_events.specs.declared.commands.Command.TheVariants.{PutList}
 use Rattle.read_plan.specs.PlannedLists.{ListsArePlannedOnce}

@@ -1,27 +1,27 @@
 -- Lemmas on bytes that hold no request for any command.
 use Rattle.std.proofs.Common.{◌≡◌, ◌∙◌, ◌≢◌, ℕ, true, false, List, Some, None, Result, Ok, Err, refl, sym, ap, subst}
-use Rattle.http_messages.specs.Commands.Given.{Gives}
-use Rattle.http_messages.specs.declared.commands.fault.CommandFault.{CommandFault}
-use Rattle.http_messages.specs.declared.commands.fault.CommandFault.TheVariants.{Memory}
-use Rattle.http_messages.specs.Head.Heads.{IsBadHead}
-use Rattle.http_messages.specs.declared.head.head.Head.{Head}
-use Rattle.http_messages.specs.declared.head.head.HeadState.{HeadState}
-use Rattle.http_messages.specs.declared.head.head.HeadState.TheVariants as head_state
-use Rattle.http_messages.specs.Asking.{TestsHead}
-use Rattle.http_messages.specs.HeadTests.{Start, head_fault, start_at}
-use Rattle.http_messages.specs.declared.ask.Ask.TheVariants.{Command as AskedCommand, Question}
-use Rattle.http_messages.specs.declared.post.Posted.{Posted}
-use Rattle.http_messages.specs.Routing.Routes.{Table}
-use Rattle.http_messages.specs.Routing.Targets.{is_question, name_in, name_of, route_in}
-use Rattle.http_messages.specs.declared.routing.routes.Route.{Route}
-use Rattle.http_messages.specs.declared.routing.targets.Found.{Found}
-use Rattle.http_messages.specs.declared.status.Status.{Status}
-use Rattle.http_messages.proofs.WholeLemmas.Unique.{request_of_whole, one_request}
-use Rattle.http_messages.specs.Whole.Whole.{Holds, HoldsRequest, IsWhole, TestsRequest, body_of}
+use Rattle.office_http.specs.Messages.Commands.Given.{Gives}
+use Rattle.office_http.specs.declared.messages.commands.fault.CommandFault.{CommandFault}
+use Rattle.office_http.specs.declared.messages.commands.fault.CommandFault.TheVariants.{Memory}
+use Rattle.office_http.specs.Messages.Head.Heads.{IsBadHead}
+use Rattle.office_http.specs.declared.messages.head.head.Head.{Head}
+use Rattle.office_http.specs.declared.messages.head.head.HeadState.{HeadState}
+use Rattle.office_http.specs.declared.messages.head.head.HeadState.TheVariants as head_state
+use Rattle.office_http.specs.Messages.Asking.{TestsHead}
+use Rattle.office_http.specs.Messages.HeadTests.{Start, head_fault, start_at}
+use Rattle.office_http.specs.declared.messages.ask.Ask.TheVariants.{Command as AskedCommand, Question}
+use Rattle.office_http.specs.declared.messages.post.Posted.{Posted}
+use Rattle.office_http.specs.Messages.Routing.Routes.{Table}
+use Rattle.office_http.specs.Messages.Routing.Targets.{is_question, name_in, name_of, route_in}
+use Rattle.office_http.specs.declared.messages.routing.routes.Route.{Route}
+use Rattle.office_http.specs.declared.messages.routing.targets.Found.{Found}
+use Rattle.office_http.specs.declared.messages.status.Status.{Status}
+use Rattle.office_http.proofs.MessagesLemmas.WholeLemmas.Unique.{request_of_whole, one_request}
+use Rattle.office_http.specs.Messages.Whole.Whole.{Holds, HoldsRequest, IsWhole, TestsRequest, body_of}
 use Rattle.office_events.specs.declared.commands.Command.{Command}
 use Rattle.office_events.specs.declared.events.Asked.{Asked}
-use Rattle.http_messages.specs.Replies.{asked_of}
-use Rattle.http_messages.specs.Requests.{name_asked}
+use Rattle.office_http.specs.Messages.Replies.{asked_of}
+use Rattle.office_http.specs.Messages.Requests.{name_asked}
 use Rattle.office_http.specs.Wants.Bodies.{BodiesGiveOne}
 use Rattle.office_http.specs.Wants.Wanting.{AsksNothing, AsksOffice}
 

@@ -1,24 +1,24 @@
 -- Lemmas on the query or command of a request.
 use Rattle.std.proofs.Common.{◌≡◌, ◌∙◌, ◌≢◌, ℕ, List, Option, Result, Ok, Err, inr, refl, sym, ap, subst}
-use Rattle.http_messages.specs.Commands.Given.{Gives}
-use Rattle.http_messages.specs.declared.commands.fault.CommandFault.{CommandFault}
-use Rattle.http_messages.specs.declared.commands.fault.CommandFault.TheVariants.{Memory}
-use Rattle.http_messages.specs.declared.head.head.Head.{Head}
-use Rattle.http_messages.specs.Asking.{TestsHead}
-use Rattle.http_messages.specs.HeadTests.{start_at}
-use Rattle.http_messages.specs.declared.ask.Ask.TheVariants.{Command as AskedCommand}
-use Rattle.http_messages.specs.declared.post.Posted.{Posted}
-use Rattle.http_messages.specs.Routing.Routes.{Table}
-use Rattle.http_messages.specs.Routing.Targets.{name_of}
-use Rattle.http_messages.specs.declared.routing.targets.Found.{Found}
-use Rattle.http_messages.specs.Whole.Whole.{IsWhole, body_of}
+use Rattle.office_http.specs.Messages.Commands.Given.{Gives}
+use Rattle.office_http.specs.declared.messages.commands.fault.CommandFault.{CommandFault}
+use Rattle.office_http.specs.declared.messages.commands.fault.CommandFault.TheVariants.{Memory}
+use Rattle.office_http.specs.declared.messages.head.head.Head.{Head}
+use Rattle.office_http.specs.Messages.Asking.{TestsHead}
+use Rattle.office_http.specs.Messages.HeadTests.{start_at}
+use Rattle.office_http.specs.declared.messages.ask.Ask.TheVariants.{Command as AskedCommand}
+use Rattle.office_http.specs.declared.messages.post.Posted.{Posted}
+use Rattle.office_http.specs.Messages.Routing.Routes.{Table}
+use Rattle.office_http.specs.Messages.Routing.Targets.{name_of}
+use Rattle.office_http.specs.declared.messages.routing.targets.Found.{Found}
+use Rattle.office_http.specs.Messages.Whole.Whole.{IsWhole, body_of}
 use Rattle.office_events.specs.declared.commands.Command.{Command}
 use Rattle.office_events.specs.declared.events.Asked.{Asked}
-use Rattle.http_messages.specs.Kinds.{done_text}
-use Rattle.http_messages.specs.Offices.{Office}
-use Rattle.http_messages.specs.Replies.{ask, asked_of, command_reply, reply_bytes, row_reply}
-use Rattle.http_messages.specs.Requests.{kept_request, name_asked}
-use Rattle.http_messages.specs.WholeResponses.{IsReply}
+use Rattle.office_http.specs.Messages.Kinds.{done_text}
+use Rattle.office_http.specs.Messages.Offices.{Office}
+use Rattle.office_http.specs.Messages.Replies.{ask, asked_of, command_reply, reply_bytes, row_reply}
+use Rattle.office_http.specs.Messages.Requests.{kept_request, name_asked}
+use Rattle.office_http.specs.Messages.WholeResponses.{IsReply}
 use Rattle.office_http.proofs.WantsLemmas.Nothing.{by_a_command, where_the_body_fails}
 use Rattle.office_http.specs.Wants.Bodies.{BodiesGiveOne}
 use Rattle.office_http.specs.Wants.Wanting.{IsAskedFor, IsNoCommand}

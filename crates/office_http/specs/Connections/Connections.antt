@@ -1,12 +1,12 @@
 -- The program's state after HTTP connections were served.
 use Rattle.std.specs.Prelude.{◌≡◌, ℕ, ◌≤◌, List, [], ◌∷◌, length, Option, Some, None}
-use Rattle.socket_link.specs.Clocks.{ReportsMoment}
+use Rattle.mb_wire.specs.Sockets.Clocks.{ReportsMoment}
 use Rattle.office_events.specs.declared.events.Asked.{Asked}
 use Rattle.office_books.specs.History.{History}
 use Rattle.office_books.specs.Ledgers.{Ledger}
 use Rattle.office_core.specs.Standing.{Stands}
 use Rattle.office_core.specs.declared.office.Office.{Office}
-use Rattle.http_messages.specs.Routing.Routes.{routes}
+use Rattle.office_http.specs.Messages.Routing.Routes.{routes}
 use Rattle.office_http.specs.Serving.{with_asked}
 use Rattle.office_http.specs.Wants.Wanting.{AsksOffice}
 use Rattle.office_http.specs.Connections.Named.{MayAsk}

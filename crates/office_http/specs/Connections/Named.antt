@@ -5,12 +5,12 @@ use Rattle.std.specs.Io.KnownBytes.{Consumes}
 use Rattle.mb_wire.specs.declared.link.LinkFailed.{LinkFailed}
 use Rattle.office_books.specs.Ledgers.{Ledger}
 use Rattle.office_core.specs.declared.office.Office.{Office}
-use Rattle.http_messages.specs.Head.Heads.{Looks}
-use Rattle.http_messages.specs.Hosts.{may_ask_in}
-use Rattle.http_messages.specs.declared.head.head.HeadState.{HeadState}
-use Rattle.http_messages.specs.declared.status.Status.TheVariants.{Misdirected}
-use Rattle.http_messages.specs.Sending.Giving.{Gives}
-use Rattle.http_messages.specs.Replies.{fault, reply_bytes}
+use Rattle.office_http.specs.Messages.Head.Heads.{Looks}
+use Rattle.office_http.specs.Messages.Hosts.{may_ask_in}
+use Rattle.office_http.specs.declared.messages.head.head.HeadState.{HeadState}
+use Rattle.office_http.specs.declared.messages.status.Status.TheVariants.{Misdirected}
+use Rattle.office_http.specs.Messages.Sending.Giving.{Gives}
+use Rattle.office_http.specs.Messages.Replies.{fault, reply_bytes}
 use Rattle.office_http.specs.Exchange.{Does, DoesBare, Passage, StopsReading, ended}
 use Rattle.office_http.specs.declared.fault.HandleFault.{HandleFault}
 

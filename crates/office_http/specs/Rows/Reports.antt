@@ -1,10 +1,10 @@
 -- A report that is streamed row by row as an HTTP response.
 use Rattle.std.specs.Prelude.{◌≡◌, ◌<◌, ◌+◌, ◌++◌, ◌==◌, ℕ, min, if◌then◌else◌, List, [], ◌∷◌, flat_map, Option, Some, None, Result, Ok, Err}
-use Rattle.http_messages.specs.Sending.Replies.{text_head}
-use Rattle.http_messages.specs.Sending.Sending.{Outgoing, Puts}
+use Rattle.office_http.specs.Messages.Sending.Replies.{text_head}
+use Rattle.office_http.specs.Messages.Sending.Sending.{Outgoing, Puts}
 use Rattle.office_events.specs.declared.refusals.Refusal.{Refusal}
 use Rattle.interval_core.specs.Lines.{end_line}
-use Rattle.http_messages.specs.Replies.{refused, reply_bytes}
+use Rattle.office_http.specs.Messages.Replies.{refused, reply_bytes}
 
 -- The model of a report: its response writer, and the number of rows that were written.
 pub record Report : Type 0 where

@@ -1,9 +1,9 @@
 -- The body of a request parses to one command or one fault.
 use Rattle.std.specs.Prelude.{◌≡◌, ◌≢◌, ℕ, List, Option, Result, Err}
-use Rattle.http_messages.specs.Commands.Given.{Gives}
-use Rattle.http_messages.specs.declared.commands.fault.CommandFault.{CommandFault}
-use Rattle.http_messages.specs.declared.commands.fault.CommandFault.TheVariants.{Memory}
-use Rattle.http_messages.specs.declared.routing.routes.Route.{Route}
+use Rattle.office_http.specs.Messages.Commands.Given.{Gives}
+use Rattle.office_http.specs.declared.messages.commands.fault.CommandFault.{CommandFault}
+use Rattle.office_http.specs.declared.messages.commands.fault.CommandFault.TheVariants.{Memory}
+use Rattle.office_http.specs.declared.messages.routing.routes.Route.{Route}
 use Rattle.office_events.specs.declared.commands.Command.{Command}
 
 -- Two results of parsing one body for one route are equal, unless memory ran out.

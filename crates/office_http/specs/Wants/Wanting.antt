@@ -1,23 +1,23 @@
 -- The query or command of a request, or why there is none.
 use Rattle.std.specs.Prelude.{◌≡◌, ◌⊎◌, ℕ, true, List, Ok, Err}
-use Rattle.http_messages.specs.Commands.Given.{Gives}
-use Rattle.http_messages.specs.Commands.Few.{HasFewRows}
-use Rattle.http_messages.specs.declared.commands.fault.CommandFault.{CommandFault}
-use Rattle.http_messages.specs.declared.commands.fault.CommandFault.TheVariants.{Memory}
-use Rattle.http_messages.specs.HeadTests.{Start}
-use Rattle.http_messages.specs.Routing.Routes.{Table}
-use Rattle.http_messages.specs.Routing.Targets.{is_question, name_in, name_of}
-use Rattle.http_messages.specs.declared.routing.routes.Route.{Route}
-use Rattle.http_messages.specs.declared.routing.targets.Found.{Found}
-use Rattle.http_messages.specs.declared.status.Status.{Status}
-use Rattle.http_messages.specs.Whole.Whole.{HoldsRequest}
+use Rattle.office_http.specs.Messages.Commands.Given.{Gives}
+use Rattle.office_http.specs.Messages.Commands.Few.{HasFewRows}
+use Rattle.office_http.specs.declared.messages.commands.fault.CommandFault.{CommandFault}
+use Rattle.office_http.specs.declared.messages.commands.fault.CommandFault.TheVariants.{Memory}
+use Rattle.office_http.specs.Messages.HeadTests.{Start}
+use Rattle.office_http.specs.Messages.Routing.Routes.{Table}
+use Rattle.office_http.specs.Messages.Routing.Targets.{is_question, name_in, name_of}
+use Rattle.office_http.specs.declared.messages.routing.routes.Route.{Route}
+use Rattle.office_http.specs.declared.messages.routing.targets.Found.{Found}
+use Rattle.office_http.specs.declared.messages.status.Status.{Status}
+use Rattle.office_http.specs.Messages.Whole.Whole.{HoldsRequest}
 use Rattle.office_events.specs.declared.commands.Command.{Command}
 use Rattle.office_events.specs.declared.events.Asked.{Asked}
-use Rattle.http_messages.specs.Kinds.{done_text}
-use Rattle.http_messages.specs.Offices.{Office}
-use Rattle.http_messages.specs.Replies.{asked_of, fault, fault_said, question_reply, reply_bytes, row_reply}
-use Rattle.http_messages.specs.Requests.{name_asked}
-use Rattle.http_messages.specs.WholeResponses.{IsCommand, IsReply}
+use Rattle.office_http.specs.Messages.Kinds.{done_text}
+use Rattle.office_http.specs.Messages.Offices.{Office}
+use Rattle.office_http.specs.Messages.Replies.{asked_of, fault, fault_said, question_reply, reply_bytes, row_reply}
+use Rattle.office_http.specs.Messages.Requests.{name_asked}
+use Rattle.office_http.specs.Messages.WholeResponses.{IsCommand, IsReply}
 use Rattle.office_http.specs.declared.wants.kinds.Want.{Want}
 use Rattle.office_http.specs.declared.wants.kinds.Want.TheVariants as want
 

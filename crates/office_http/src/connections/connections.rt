@@ -1,15 +1,15 @@
 //! Serves HTTP connections, one after the other.
 ghost use Rattle.std.specs.Prelude.{[]};
-ghost use Rattle.http_messages.specs.Hosts.{texts};
+ghost use Rattle.office_http.specs.Messages.Hosts.{texts};
 ghost use Rattle.office_core.specs.Standing.{After};
 ghost use Rattle.office_http.specs.Serving.{Lasts};
 ghost use Rattle.office_http.specs.Connections.Connections.{ServesOne, ServesUpTo};
 
 use crate::connections::named::handle_named;
 use crate::connections::time::{Even, StoppedClock};
+use mb_wire::sockets::{Clock, DeadlineLink, SocketLink};
 use office_books::Books;
 use office_core::Office;
-use socket_link::{Clock, DeadlineLink, SocketLink};
 use std::alloc::Global;
 use std::io::{self, ErrorKind, Read, Write};
 use std::net::{OpenListener, OpenStream};

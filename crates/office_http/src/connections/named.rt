@@ -2,19 +2,19 @@
 ghost use Rattle.std.specs.Prelude.{◌≡◌, ◌≤◌, false, length};
 ghost use Rattle.std.specs.Io.KnownBytes.{Keeps};
 ghost use Rattle.mb_wire.specs.Links.{risen};
-ghost use Rattle.http_messages.specs.Hosts.{texts};
-ghost use Rattle.http_messages.specs.Routing.Routes.{routes};
+ghost use Rattle.office_http.specs.Messages.Hosts.{texts};
+ghost use Rattle.office_http.specs.Messages.Routing.Routes.{routes};
 ghost use Rattle.office_http.specs.Exchange.{CountsLink, IsEnd, is_link_fault, passage};
 ghost use Rattle.office_http.specs.Serving.{Lasts};
 ghost use Rattle.office_http.specs.Connections.Named.{HandlesNamed, RepliesMisdirected};
 
 use crate::exchange::{ended, refuse, reply};
 use crate::fault::HandleFault;
-use crate::wants::wanted;
-use http_messages::{
+use crate::messages::{
     Inbox, MOST_ROOM, ResponseWriter, Route, Status, append_fault, may_ask, read_head,
     read_request, router,
 };
+use crate::wants::wanted;
 use matchit::Router;
 use mb_wire::Link;
 use office_books::Books;

@@ -1,5 +1,5 @@
 //! The monotonic clock, which measures the deadlines of connections.
-use socket_link::Clock;
+use mb_wire::sockets::Clock;
 use std::io::{self, ErrorKind};
 use std::time::Duration;
 

@@ -1,11 +1,11 @@
 //! Writes the rows of a report as lines of a response.
 ghost use Rattle.std.specs.Prelude.{◌≡◌};
-ghost use Rattle.http_messages.specs.Sending.Sending.{Puts};
+ghost use Rattle.office_http.specs.Messages.Sending.Sending.{Puts};
 ghost use Rattle.interval_core.specs.Lines.{share_line};
 ghost use Rattle.interval_core.specs.Report.{day_line};
 ghost use Rattle.office_http.specs.Rows.Reports.{EndsReport, PutsLine, Report, head_before};
 
-use http_messages::{
+use crate::messages::{
     ResponseWriter, append_day, append_end, append_refusal, write_share, write_text_head,
 };
 use interval_core::{DayTotal, Share};

@@ -1,5 +1,5 @@
 //! The query or command of a request, or why there is none.
-use http_messages::{CommandFault, Found, Status};
+use crate::messages::{CommandFault, Found, Status};
 use office_events::Asked;
 
 /// The query or command of a request, or why there is none.

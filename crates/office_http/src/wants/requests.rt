@@ -1,18 +1,18 @@
 //! Parses a complete request into a query or command.
 ghost use Rattle.std.specs.Prelude.{◌≡◌, ◌⊎◌, Ok, Err};
-ghost use Rattle.http_messages.specs.Asking.{TestsHead};
-ghost use Rattle.http_messages.specs.HeadTests.{start_at};
-ghost use Rattle.http_messages.specs.declared.ask.Ask.TheVariants.{Command as AskedCommand};
-ghost use Rattle.http_messages.specs.Whole.Whole.{Holds, IsWhole};
+ghost use Rattle.office_http.specs.Messages.Asking.{TestsHead};
+ghost use Rattle.office_http.specs.Messages.HeadTests.{start_at};
+ghost use Rattle.office_http.specs.declared.messages.ask.Ask.TheVariants.{Command as AskedCommand};
+ghost use Rattle.office_http.specs.Messages.Whole.Whole.{Holds, IsWhole};
 ghost use Rattle.office_http.specs.Wants.Wanting.{HasFewFaults, Wants};
 
-use crate::wants::kinds::Want;
-use crate::wants::laws::bodies_give_one_command;
-use http_messages::{
+use crate::messages::{
     Ask, CommandFault, Found, Head, HeadState, Posted, Route, asked, command_in,
     commands_are_replied_to, faults_are_replied_to, head_gives_body_size, kept_request, name_asked,
     questions_are_replied_to, request_body, test_request,
 };
+use crate::wants::kinds::Want;
+use crate::wants::laws::bodies_give_one_command;
 use matchit::Router;
 use std::alloc::Global;
 

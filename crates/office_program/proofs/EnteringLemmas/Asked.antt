@@ -7,7 +7,7 @@ use Rattle.command_io.specs.Lines.{Line}
 use Rattle.command_io.specs.declared.status.ExitStatus.{ExitStatus}
 use Rattle.command_io.specs.declared.status.ExitStatus.TheVariants.{Fine, Refused, Failed}
 use Rattle.point_list.specs.declared.fault.FaultyRow.{FaultyRow}
-use Rattle.socket_link.specs.Clocks.{ReportsMoment}
+use Rattle.mb_wire.specs.Sockets.Clocks.{ReportsMoment}
 use Rattle.script_text.specs.declared.line_fault.LineFault.{LineFault}
 use Rattle.script_text.specs.declared.line_fault.LineFault.TheVariants.{Bad, Memory}
 use Rattle.script_text.specs.AnswerText.{accepted_text, refused_line}

@@ -2,7 +2,7 @@
 use Rattle.std.proofs.Common.{◌≡◌, inl, inr, ℕ, List, [], ◌∷◌, Option, Some, sym, ap, subst, ◌∙◌}
 use Rattle.command_io.specs.Lines.{speaking_lines}
 use Rattle.command_io.specs.declared.status.ExitStatus.{ExitStatus}
-use Rattle.socket_link.specs.Clocks.{ReportsMoment, next_moment}
+use Rattle.mb_wire.specs.Sockets.Clocks.{ReportsMoment, next_moment}
 use Rattle.office_events.specs.Names.{named}
 use Rattle.office_books.specs.History.{History, Opened}
 use Rattle.office_books.specs.Ledgers.{Ledger}

@@ -7,7 +7,7 @@ use Rattle.std.specs.declared.io.Write as writers
 use Rattle.command_io.specs.Lines.{Line}
 use Rattle.command_io.specs.declared.status.ExitStatus.{ExitStatus}
 use Rattle.command_io.specs.declared.status.ExitStatus.TheVariants.{Refused, Failed}
-use Rattle.socket_link.specs.declared.clock.Clock as clocks
+use Rattle.mb_wire.specs.declared.sockets.clock.Clock as clocks
 use Rattle.sun_points.specs.Writing.{GotPart, GotText}
 use Rattle.script_text.specs.declared.line_fault.LineFault.{LineFault}
 use Rattle.script_text.specs.declared.line_fault.LineFault.TheVariants.{Bad, Memory}

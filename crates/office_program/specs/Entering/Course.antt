@@ -10,7 +10,7 @@ use Rattle.command_io.specs.Lines.{Line}
 use Rattle.command_io.specs.declared.status.ExitStatus.{ExitStatus}
 use Rattle.command_io.specs.declared.status.ExitStatus.TheVariants.{Fine, Refused, Failed}
 use Rattle.point_list.specs.declared.fault.FaultyRow.{FaultyRow}
-use Rattle.socket_link.specs.Clocks.{ReportsMoment}
+use Rattle.mb_wire.specs.Sockets.Clocks.{ReportsMoment}
 use Rattle.sun_points.specs.Writing.{GotPart, GotText}
 use Rattle.script_text.specs.AnswerText.{accepted_text, bad_line, fault_line, refused_line}
 use Rattle.office_events.specs.declared.answers.Answer.{Answer}

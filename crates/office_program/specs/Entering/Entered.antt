@@ -6,7 +6,7 @@ use Rattle.std.specs.declared.io.Write as writers
 use Rattle.command_io.specs.Lines.{Line, speaking_lines}
 use Rattle.command_io.specs.declared.status.ExitStatus.{ExitStatus}
 use Rattle.command_io.specs.declared.status.ExitStatus.TheVariants.{Fine, Refused, Failed}
-use Rattle.socket_link.specs.declared.clock.Clock as clocks
+use Rattle.mb_wire.specs.declared.sockets.clock.Clock as clocks
 use Rattle.sun_points.specs.Writing.{GotPart}
 use Rattle.script_text.specs.AnswerText.{bad_line}
 use Rattle.office_events.specs.Names.{named}

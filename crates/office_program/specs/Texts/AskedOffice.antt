@@ -2,7 +2,7 @@
 -- timestamp in the store if that timestamp is later.
 use Rattle.std.specs.Prelude.{ℕ, List, ◌∷◌, Option, Result, IfOk, IfErr}
 use Rattle.std.specs.declared.io.Write as writers
-use Rattle.socket_link.specs.declared.clock.Clock as a_clock
+use Rattle.mb_wire.specs.declared.sockets.clock.Clock as a_clock
 use Rattle.command_io.specs.declared.status.ExitStatus.{ExitStatus}
 use Rattle.command_io.specs.declared.status.ExitStatus.TheVariants.{Refused}
 use Rattle.office_events.specs.declared.refusals.Refusal.{Refusal}
@@ -14,7 +14,7 @@ use Rattle.office_core.specs.Reopening.{IsNotOpened, asking_moment}
 use Rattle.office_core.specs.Standing.{Stands, books_in}
 use Rattle.office_core.specs.declared.office.Office.{Office}
 use Rattle.script_text.specs.AnswerText.{refused_line}
-use Rattle.socket_link.specs.Clocks as clocks
+use Rattle.mb_wire.specs.Sockets.Clocks as clocks
 use Rattle.office_program.specs.Texts.EndTexts.{IsReported}
 use Rattle.office_program.specs.declared.texts.opened_office.Unopened.{Unopened}
 

@@ -1,7 +1,7 @@
 -- The result of opening an office over a store at the clock's time.
 use Rattle.std.specs.Prelude.{ℕ, List, ◌∷◌, Option, Result, IfOk, IfErr, MatchResult}
 use Rattle.std.specs.declared.io.Write as writers
-use Rattle.socket_link.specs.declared.clock.Clock as a_clock
+use Rattle.mb_wire.specs.declared.sockets.clock.Clock as a_clock
 use Rattle.command_io.specs.declared.status.ExitStatus.{ExitStatus}
 use Rattle.command_io.specs.declared.status.ExitStatus.TheVariants.{Refused}
 use Rattle.office_events.specs.declared.refusals.Refusal.{Refusal}
@@ -13,7 +13,7 @@ use Rattle.office_core.specs.Reopening.{IsNotOpened}
 use Rattle.office_core.specs.Standing.{Stands, books_in}
 use Rattle.office_core.specs.declared.office.Office.{Office}
 use Rattle.script_text.specs.AnswerText.{refused_line}
-use Rattle.socket_link.specs.Clocks as clocks
+use Rattle.mb_wire.specs.Sockets.Clocks as clocks
 use Rattle.office_program.specs.Texts.EndTexts.{IsReported}
 use Rattle.office_program.specs.Texts.Passing.{Lasts}
 use Rattle.office_program.specs.declared.texts.opened_office.Unopened.{Unopened}

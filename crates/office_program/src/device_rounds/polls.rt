@@ -66,7 +66,7 @@ pub(crate) fn add(polls: &mut Polls, first: u64, count: u64)
 /// otherwise.
 ///
 /// Each number saturates at 2^64 - 1.
-#[derive(Clone, Copy, Debug, PartialEq, Eq)]
+#[derive(Clone, Copy, PartialEq, Eq)]
 pub struct Sum {
     pub answered: u64,
     pub silent: u64,

@@ -2,7 +2,7 @@
 use poll_core::Closing;
 
 /// The stage of a polling round, which determines the event that the round requests next.
-#[derive(Clone, Copy, Debug, PartialEq, Eq)]
+#[derive(Clone, Copy, PartialEq, Eq)]
 pub enum Stage {
     /// The device is not connected. The round requests nothing.
     Off,

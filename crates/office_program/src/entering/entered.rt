@@ -10,10 +10,10 @@ use crate::entering::files::NamedFiles;
 use crate::entering::progress::Progress;
 use crate::texts::open_office;
 use command_io::{ExitStatus, InputLines};
+use mb_wire::sockets::{Clock, FixedClock};
 use office_books::Books;
 use office_core::Office;
 use office_events::Name;
-use socket_link::{Clock, FixedClock};
 use std::alloc::Global;
 use std::io::Write;
 

@@ -15,7 +15,7 @@ use script_text::{Words, end_of_words, next_name, next_number, next_range};
 ///
 /// - `NUMBER install REGISTER METER @read CEILING [RANGE]`
 /// - `NUMBER exchange REGISTER LAST ROLLS METER @read CEILING [RANGE]`
-#[derive(Clone, Copy, Debug, PartialEq, Eq)]
+#[derive(Clone, Copy, PartialEq, Eq)]
 pub(crate) enum ReadLine {
     Install {
         number: u64,

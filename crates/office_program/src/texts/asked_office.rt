@@ -7,9 +7,9 @@ ghost use Rattle.office_program.specs.Texts.OpenedOffice.{LastsInside};
 use crate::texts::end_texts::print_refusal;
 use crate::texts::opened_office::Unopened;
 use command_io::ExitStatus;
+use mb_wire::sockets::Clock;
 use office_books::Books;
 use office_core::Office;
-use socket_link::Clock;
 use std::alloc::Global;
 use std::io::Write;
 

@@ -5,9 +5,9 @@ ghost use Rattle.office_program.specs.Texts.OpenedOffice.{LastsInside, OpensOver
 
 use crate::texts::end_texts::print_refusal;
 use command_io::ExitStatus;
+use mb_wire::sockets::Clock;
 use office_books::Books;
 use office_core::Office;
-use socket_link::Clock;
 use std::alloc::Global;
 use std::io::Write;
 

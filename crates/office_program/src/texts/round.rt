@@ -8,10 +8,10 @@ use crate::texts::end_texts::print_refusal;
 use crate::{RoundFault, round_over};
 use command_io::ExitStatus;
 use mb_wire::Link;
+use mb_wire::sockets::Clock;
 use office_books::Books;
 use office_core::Office;
 use office_events::Name;
-use socket_link::Clock;
 use std::alloc::Global;
 use std::io::Write;
 

@@ -18,7 +18,7 @@ use store_tables::{
 
 /// The state of a meter: the index of its next entry, its last entry with the total energy, and the
 /// range of its counter.
-#[derive(Clone, Copy, Debug, PartialEq, Eq)]
+#[derive(Clone, Copy, PartialEq, Eq)]
 pub struct Standing {
     pub place: u64,
     pub last: LastRow,

@@ -1,22 +1,22 @@
 -- Lemmas on requests for all quarter hours of a meter.
 use Rattle.std.proofs.Common.{◌≡◌, ℕ, List, Option, Ok, refl, sym, subst, arith}
-use Rattle.http_messages.specs.Offices.{Office}
-use Rattle.http_messages.specs.Replies.{lines_reply, question_reply, reply_bytes}
-use Rattle.http_messages.specs.Requests.{name_asked}
-use Rattle.http_messages.specs.WholeResponses.{IsReply}
-use Rattle.http_messages.specs.Asking.{TestsHead}
-use Rattle.http_messages.specs.Head.Heads.{IsHeadAt, Looks}
-use Rattle.http_messages.specs.HeadTests.{start_at}
-use Rattle.http_messages.specs.Routing.Routes.{Table}
-use Rattle.http_messages.specs.Routing.Targets.{name_of}
-use Rattle.http_messages.specs.Whole.Whole.{Holds, IsWhole, TestsRequest, body_size}
-use Rattle.http_messages.specs.declared.ask.Ask.TheVariants.{Question}
-use Rattle.http_messages.specs.declared.head.head.Head.{Head}
-use Rattle.http_messages.specs.declared.head.head.HeadState.{HeadState}
-use Rattle.http_messages.specs.declared.head.head.HeadState.TheVariants.{Whole}
-use Rattle.http_messages.specs.declared.routing.routes.Route.{Route}
-use Rattle.http_messages.specs.declared.routing.routes.Route.TheVariants as route
-use Rattle.http_messages.specs.declared.routing.targets.Found.{Found}
+use Rattle.office_http.specs.Messages.Offices.{Office}
+use Rattle.office_http.specs.Messages.Replies.{lines_reply, question_reply, reply_bytes}
+use Rattle.office_http.specs.Messages.Requests.{name_asked}
+use Rattle.office_http.specs.Messages.WholeResponses.{IsReply}
+use Rattle.office_http.specs.Messages.Asking.{TestsHead}
+use Rattle.office_http.specs.Messages.Head.Heads.{IsHeadAt, Looks}
+use Rattle.office_http.specs.Messages.HeadTests.{start_at}
+use Rattle.office_http.specs.Messages.Routing.Routes.{Table}
+use Rattle.office_http.specs.Messages.Routing.Targets.{name_of}
+use Rattle.office_http.specs.Messages.Whole.Whole.{Holds, IsWhole, TestsRequest, body_size}
+use Rattle.office_http.specs.declared.messages.ask.Ask.TheVariants.{Question}
+use Rattle.office_http.specs.declared.messages.head.head.Head.{Head}
+use Rattle.office_http.specs.declared.messages.head.head.HeadState.{HeadState}
+use Rattle.office_http.specs.declared.messages.head.head.HeadState.TheVariants.{Whole}
+use Rattle.office_http.specs.declared.messages.routing.routes.Route.{Route}
+use Rattle.office_http.specs.declared.messages.routing.routes.Route.TheVariants as route
+use Rattle.office_http.specs.declared.messages.routing.targets.Found.{Found}
 use Rattle.interval_core.specs.Lines.{intervals_text}
 use Rattle.run_http.specs.OfficeRequests.{AsksAllRows}
 

@@ -6,7 +6,7 @@ use Rattle.std.specs.declared.alloc.Global.{Global}
 use Rattle.std.specs.declared.vec.Vec.{Vec}
 use Rattle.std.proofs.lemmas.Bool.{cases_lt}
 use Rattle.std.proofs.lemmas.List.Concat.{flat_map-append}
-use Rattle.http_messages.specs.Sending.Replies.{text_head}
+use Rattle.office_http.specs.Messages.Sending.Replies.{text_head}
 use Rattle.interval_core.specs.Account.{SharesAddUp}
 use Rattle.interval_core.specs.Lines.{end_line, intervals_text, share_line}
 use Rattle.interval_core.specs.declared.shares.Share.{Share}

@@ -1,13 +1,13 @@
 -- The text of `/metrics`: counts, devices and open meters, in Prometheus's text format, version
 -- 0.0.4. Each definition appends to a text.
 use Rattle.std.specs.Prelude.{ℕ, Bool, true, false, List, [], ◌∷◌, ◌++◌, Option, Some, None, codes, decimal, slice_index}
-use Rattle.run_status.specs.declared.status.counts.Counts.{Counts}
-use Rattle.run_status.specs.declared.status.status.DeviceState.{DeviceState}
+use Rattle.run_http.specs.declared.status.status.counts.Counts.{Counts}
+use Rattle.run_http.specs.declared.status.status.status.DeviceState.{DeviceState}
 use Rattle.office_core.specs.declared.site.SiteRow.{SiteRow}
 use Rattle.run_http.specs.Texts.EnergyLines.{with_meters}
 use Rattle.run_http.specs.Texts.Families.{family_text}
 use Rattle.run_http.specs.declared.texts.families.MetricKind.TheVariants.{Counter, Gauge}
-use Rattle.run_status.specs.Status.StatusText.{with_name}
+use Rattle.run_http.specs.Status.Status.StatusText.{with_name}
 
 -- The metric with the number of ended polls, by outcome.
 abbrev pub with_outcomes : List ℕ → Counts → List ℕ

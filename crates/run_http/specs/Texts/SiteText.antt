@@ -4,7 +4,7 @@ use Rattle.std.specs.Prelude.{ℕ, List, [], ◌∷◌, ◌++◌, Option, Some, 
 use Rattle.std.specs.Fmt.{signed_decimal}
 use Rattle.office_events.specs.declared.questions.Installation.{Installation}
 use Rattle.office_core.specs.declared.site.SiteRow.{SiteRow}
-use Rattle.http_messages.specs.Rows.{bool_text}
+use Rattle.office_http.specs.Messages.Rows.{bool_text}
 use Rattle.run_http.specs.declared.texts.site.SiteLine.{SiteLine}
 
 -- The last valid entry of a meter, as JSON members.

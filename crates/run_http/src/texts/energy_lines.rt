@@ -4,10 +4,10 @@ ghost use Rattle.std.specs.Fmt.{digit_glyph};
 ghost use Rattle.sun_points.specs.Decimal.{low_digits, magnitude_text};
 ghost use Rattle.run_http.specs.Texts.EnergyLines as energy;
 
+use crate::status::{append_bytes, write_number};
 use crate::texts::families::{MetricKind, write_family, write_next_family};
 use office_core::SiteRow;
 use office_events::{Installation, Name};
-use run_status::{append_bytes, write_number};
 use std::alloc::AllocError;
 
 // Appends a byte of a Prometheus label's value, escaped if necessary.

@@ -2,7 +2,7 @@
 ghost use Rattle.std.specs.Prelude.{◌≡◌, ◌++◌, OnOk, codes};
 ghost use Rattle.run_http.specs.Texts.Families as families;
 
-use run_status::{append_bytes, write_word};
+use crate::status::{append_bytes, write_word};
 use std::alloc::AllocError;
 
 /// The type of a Prometheus metric.

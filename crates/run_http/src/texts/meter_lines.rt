@@ -4,11 +4,11 @@ ghost use Rattle.energy_core.specs.Account.{moment_of};
 ghost use Rattle.interval_core.specs.Lines.{end_line, intervals_text, share_line};
 ghost use Rattle.run_http.specs.Texts.MeterLines as lines;
 
+use crate::status::{append_bytes, write_number, write_scale};
 use energy_core::{Entry, Last};
 use interval_core::Share;
 use meter_journal::{EntryKind, EntryRow};
 use office_books::MeterEntry;
-use run_status::{append_bytes, write_number, write_scale};
 use std::alloc::AllocError;
 
 /// Appends the last line of a report, with the number of rows.

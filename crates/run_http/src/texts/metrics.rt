@@ -2,10 +2,10 @@
 ghost use Rattle.std.specs.Prelude.{◌≡◌, OnOk};
 ghost use Rattle.run_http.specs.Texts.MetricsText as metrics;
 
+use crate::status::{Counts, DeviceState, append_bytes, append_name, write_number};
 use crate::texts::energy_lines::write_meters;
 use crate::texts::families::{MetricKind, write_family, write_next_family};
 use office_core::SiteRow;
-use run_status::{Counts, DeviceState, append_bytes, append_name, write_number};
 use std::alloc::AllocError;
 
 fn write_outcomes(text: &mut Vec<u8>, counts: &Counts) -> Result<(), AllocError>

@@ -2,10 +2,10 @@
 ghost use Rattle.std.specs.Prelude.{◌≡◌, ◌++◌, OnOk, flat_map};
 ghost use Rattle.run_http.specs.Texts.RegisterLines as lines;
 
+use crate::status::{append_bytes, write_number, write_scale};
 use crate::texts::meter_lines::append_end;
 use energy_core::Last;
 use office_events::Installation;
-use run_status::{append_bytes, write_number, write_scale};
 use std::alloc::AllocError;
 
 fn write_latest(text: &mut Vec<u8>, last: &Last) -> Result<(), AllocError>

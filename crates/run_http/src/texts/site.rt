@@ -1,11 +1,11 @@
 //! Formats the accounting registers and their meters as the JSON of `/site`.
 ghost use Rattle.std.specs.Prelude.{◌≡◌, ◌++◌, OnOk};
-ghost use Rattle.http_messages.specs.Rows.{bool_text};
+ghost use Rattle.office_http.specs.Messages.Rows.{bool_text};
 ghost use Rattle.run_http.specs.Texts.SiteText as json;
 
+use crate::status::{append_bytes, write_number, write_scale, write_word};
 use office_core::SiteRow;
 use office_events::Installation;
-use run_status::{append_bytes, write_number, write_scale, write_word};
 use std::alloc::AllocError;
 
 /// An accounting register with its latest meter. `earlier` is the part of the meter's energy in mWh

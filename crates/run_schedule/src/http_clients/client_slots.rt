@@ -6,7 +6,7 @@ use crate::http_clients::place::Place;
 pub const MOST_CLIENTS: usize = 64;
 
 /// The slot that a new HTTP connection got.
-#[derive(Clone, Copy, Debug, PartialEq, Eq)]
+#[derive(Clone, Copy, PartialEq, Eq)]
 pub struct Admission {
     pub place: usize,
     /// Whether the slot had an idle connection. The caller must close that connection.

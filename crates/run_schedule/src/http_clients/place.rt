@@ -1,7 +1,7 @@
 //! The state of a slot for HTTP connections: free, idle, or waiting for a response.
 
 /// The state of a slot for HTTP connections. Times are seconds since 1970-01-01 UTC.
-#[derive(Clone, Copy, Debug, PartialEq, Eq)]
+#[derive(Clone, Copy, PartialEq, Eq)]
 pub enum Place {
     /// The slot has no HTTP connection.
     Free,

@@ -16,7 +16,7 @@ const MOST_MILLISECONDS: u64 = 20;
 
 /// The requests, bytes and milliseconds that one iteration of the main loop may still use for HTTP
 /// responses.
-#[derive(Clone, Copy, Debug, PartialEq, Eq)]
+#[derive(Clone, Copy, PartialEq, Eq)]
 pub struct TurnShare {
     requests: usize,
     bytes: usize,

@@ -12,7 +12,7 @@ use interval_core::{Day, LAST_MOMENT, Zone};
 const HOUR: u64 = 3600;
 
 /// The decision about the current file, in which energy is recorded.
-#[derive(Clone, Copy, Debug, PartialEq, Eq)]
+#[derive(Clone, Copy, PartialEq, Eq)]
 pub enum Plan {
     /// Continue in the file: its period is the current one.
     Stay,

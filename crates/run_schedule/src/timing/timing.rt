@@ -5,7 +5,7 @@ use crate::timing::limits::{CONNECT_SECONDS, round_until, until};
 use crate::timing::pauses::{next_pause, retry_at};
 
 /// The state of the connection to a device.
-#[derive(Clone, Copy, Debug, PartialEq, Eq)]
+#[derive(Clone, Copy, PartialEq, Eq)]
 pub enum Phase {
     /// The device has no connection.
     Resting,
@@ -16,7 +16,7 @@ pub enum Phase {
 }
 
 /// The time at which a device needs attention next, and why.
-#[derive(Clone, Copy, Debug, PartialEq, Eq)]
+#[derive(Clone, Copy, PartialEq, Eq)]
 pub struct Timing {
     pub phase: Phase,
     /// The time of the next connection attempt while the device has no connection. Otherwise the

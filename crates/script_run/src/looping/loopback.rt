@@ -1,6 +1,6 @@
 //! Connections to the simulator over the loopback network interface.
 use crate::looping::wires::{Connects, Ends};
-use socket_link::SocketLink;
+use mb_wire::sockets::SocketLink;
 use std::io;
 use std::net::{Net, OpenListener, OpenStream, SocketAddr, TcpListener, TcpStream};
 use std::time::Duration;

@@ -5,7 +5,7 @@ use std::marker::Model;
 
 /// An iterator over the words of a line. A single space separates two words, so two adjacent spaces
 /// enclose an empty word.
-#[derive(Debug, Drop)]
+#[derive(Drop)]
 pub struct Words<'a> {
     // The unread part of the line, after the last returned word and its space. `None` after the
     // last word.

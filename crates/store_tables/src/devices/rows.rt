@@ -5,7 +5,7 @@ use mb_wire::ReadFunction;
 
 /// A Modbus device without its name, as the table `devices` stores it. The numbers are the settings
 /// of its polls.
-#[derive(Clone, Copy, Debug, PartialEq, Eq)]
+#[derive(Clone, Copy, PartialEq, Eq)]
 pub struct DeviceRow {
     /// The index of the device, from 1.
     pub place: u64,
@@ -18,7 +18,7 @@ pub struct DeviceRow {
 }
 
 /// A Modbus device with its name, as the table `devices` stores it.
-#[derive(Debug, Drop)]
+#[derive(Drop)]
 pub struct Device {
     pub name: String,
     pub row: DeviceRow,
@@ -46,7 +46,7 @@ pub struct Point {
 }
 
 /// The source of an accounting register's scale factor: a fixed number, or a Modbus register.
-#[derive(Clone, Copy, Debug, PartialEq, Eq)]
+#[derive(Clone, Copy, PartialEq, Eq)]
 pub enum RegisterScale {
     /// A fixed scale factor, -3 to 3.
     Fixed(i16),
@@ -56,7 +56,7 @@ pub enum RegisterScale {
 
 /// An accounting register (a named counter of a device) without its name and the name of its
 /// device.
-#[derive(Clone, Copy, Debug, PartialEq, Eq)]
+#[derive(Clone, Copy, PartialEq, Eq)]
 pub struct RegisterRow {
     /// The index of the accounting register, from 1.
     pub place: u64,
@@ -67,7 +67,7 @@ pub struct RegisterRow {
 }
 
 /// An accounting register: a named counter of a device, at which meters are installed.
-#[derive(Debug, Drop)]
+#[derive(Drop)]
 pub struct Register {
     pub name: String,
     pub device: String,

@@ -4,7 +4,7 @@ ghost use Rattle.store_tables.specs.Entries.Rows.{kind_number, kind_of};
 
 /// The kind of a meter's entry. An entry is a reading or a change of the meter's counter that the
 /// store has accepted.
-#[derive(Clone, Copy, Debug, PartialEq, Eq)]
+#[derive(Clone, Copy, PartialEq, Eq)]
 pub enum EntryKind {
     /// The first entry of a meter: the counter's value when the meter was installed.
     Opening,
@@ -54,7 +54,7 @@ impl EntryKind {
 
 /// An entry of a meter: an accepted reading, or a change of its counter. Timestamps are seconds
 /// since 1970-01-01 UTC.
-#[derive(Clone, Copy, Debug, PartialEq, Eq)]
+#[derive(Clone, Copy, PartialEq, Eq)]
 pub struct EntryRow {
     /// The index of the entry among the meter's entries. The first entry, made at installation, has
     /// index 1.

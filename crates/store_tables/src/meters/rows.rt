@@ -2,7 +2,7 @@
 
 /// The last entry of a meter, and its total energy since its installation, in milliwatt-hours
 /// (mWh).
-#[derive(Clone, Copy, Debug, PartialEq, Eq)]
+#[derive(Clone, Copy, PartialEq, Eq)]
 pub struct LastRow {
     pub moment: u64,
     pub raw: u32,
@@ -12,7 +12,7 @@ pub struct LastRow {
 
 /// The columns of a meter's row in `installations`, except the names of the meter and its
 /// accounting register.
-#[derive(Clone, Copy, Debug, PartialEq, Eq)]
+#[derive(Clone, Copy, PartialEq, Eq)]
 pub struct InstallationRow {
     /// The index of the row, from 1 in the order of installation.
     pub place: u64,
@@ -25,7 +25,7 @@ pub struct InstallationRow {
 
 /// A row of `installations`: a meter with the accounting register (named counter of a device) at
 /// which it is installed.
-#[derive(Debug, Drop)]
+#[derive(Drop)]
 pub struct Installation {
     pub meter: String,
     pub register: String,

@@ -7,7 +7,7 @@ use office_events::CommandKind;
 use poll_core::Outcome;
 
 /// A poll (a Modbus read that was started) without the name of its device.
-#[derive(Clone, Copy, Debug, PartialEq, Eq)]
+#[derive(Clone, Copy, PartialEq, Eq)]
 pub struct PollRow {
     /// The number of the poll, from 1.
     pub number: u64,
@@ -25,7 +25,7 @@ pub struct PollRow {
 }
 
 /// A poll of a device, as a row of the table `polls`. A poll is one Modbus read that was started.
-#[derive(Debug, Drop)]
+#[derive(Drop)]
 pub struct Poll {
     pub device: String,
     pub row: PollRow,

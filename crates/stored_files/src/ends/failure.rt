@@ -3,11 +3,11 @@ use crate::audits::AuditFault;
 use crate::backups::CopyFault;
 use crate::ends::named::Named;
 use crate::files::FileFault;
-use device_scan::ScanFault;
 use office_store::OpenFault;
 use std::error::Error;
 use std::fmt;
 use std::fmt::{Display, Formatter};
+use sun_chain::scans::ScanFault;
 
 /// A reason why a command failed. The exit status is then 3.
 #[derive(Clone, Copy, Debug, Drop)]

@@ -4,7 +4,7 @@ use std::fmt::{Display, Formatter};
 
 /// The name of a file in a message. A line feed in the name is printed as `\x0a`, so that the
 /// message stays on one line.
-#[derive(Clone, Copy, Debug)]
+#[derive(Clone, Copy)]
 pub struct Named<'a>(pub &'a str);
 
 impl<'a> Display for Named<'a> {

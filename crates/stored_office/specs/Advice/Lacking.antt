@@ -3,9 +3,9 @@
 use Rattle.std.specs.Prelude.{◌≡◌, ℕ, List, [], ◌∷◌, Option, Result, OnOk}
 use Rattle.office_events.specs.declared.facts.Fact.{Fact}
 use Rattle.office_books.specs.Ledgers.{Ledger}
-use Rattle.run_status.specs.Advice.Lacks.{lacks_of}
-use Rattle.run_status.specs.Advice.Sentences.{with_lack}
-use Rattle.run_status.specs.declared.advice.lacks.DeviceLack.{DeviceLack}
+use Rattle.run_http.specs.Status.Advice.Lacks.{lacks_of}
+use Rattle.run_http.specs.Status.Advice.Sentences.{with_lack}
+use Rattle.run_http.specs.declared.status.advice.lacks.DeviceLack.{DeviceLack}
 
 -- The text with a line appended for each missing part of a device's setup, in order.
 abbrev pub with_lacks : List DeviceLack → List ℕ → List ℕ

@@ -5,7 +5,7 @@ use Rattle.std.specs.Str.{bytes_eq}
 use Rattle.printed_numbers.specs.Numbers.{has_number}
 use Rattle.printed_numbers.specs.declared.kind.Kind.{Kind}
 use Rattle.printed_numbers.specs.declared.kind.Kind.TheVariants as kind
-use Rattle.run_status.specs.Advice.Sentences.{MeansAfter, with_subject}
+use Rattle.run_http.specs.Status.Advice.Sentences.{MeansAfter, with_subject}
 use Rattle.script_text.specs.LineWords.Fields.{AnyName, Number, first_value, end_of_words, ◌>>=◌}
 use Rattle.stored_office.specs.declared.advice.remarks.Remark.{Remark}
 use Rattle.stored_office.specs.declared.advice.remarks.Remark.TheVariants.{Refused, Held}

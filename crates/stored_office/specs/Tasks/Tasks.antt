@@ -3,7 +3,7 @@ use Rattle.std.specs.Prelude.{ℕ, List, Option}
 use Rattle.sqlite.specs.Store.{Ghosts}
 use Rattle.office_books.specs.History.{History}
 use Rattle.office_books.specs.Ledgers.{Ledger}
-use Rattle.http_messages.specs.Hosts.{texts}
+use Rattle.office_http.specs.Messages.Hosts.{texts}
 use Rattle.office_program.specs.Report.{ReportsReport}
 use Rattle.office_program.specs.RangedReport.{AnswersRange}
 use Rattle.office_program.specs.Statement.{ReportsStatement}
@@ -14,7 +14,7 @@ use Rattle.office_program.specs.Entering.Entered.{ReportsEntering}
 use Rattle.office_program.specs.Entering.Lines.{Reporting}
 use Rattle.office_running.specs.Runs.{BooksRun}
 use Rattle.office_program.specs.declared.port_round.PollEnd.{PollEnd}
-use Rattle.run_status.specs.Advice.Lacks.{LooksUp}
+use Rattle.run_http.specs.Status.Advice.Lacks.{LooksUp}
 use Rattle.stored_office.specs.OverBooks.{OverBooks, ledger_in}
 use Rattle.stored_office.specs.declared.tasks.tasks.Task.{Task}
 use Rattle.stored_office.specs.declared.tasks.tasks.Task.TheVariants as task

@@ -1,7 +1,7 @@
 //! Writes messages about missing parts of a device's setup, such as its point list, after a round
 //! of polls.
 ghost use Rattle.std.specs.Prelude.{◌≡◌, OnOk, false};
-ghost use Rattle.run_status.specs.Advice.Lacks.{LooksUp};
+ghost use Rattle.run_http.specs.Status.Advice.Lacks.{LooksUp};
 ghost use Rattle.stored_office.specs.Advice.Ends.{has_messages};
 ghost use Rattle.stored_office.specs.Advice.Lacking.{PutsLacks, with_lacks};
 
@@ -9,7 +9,7 @@ use crate::advice::ends::has_messages;
 use office_books::{Books, BooksFault};
 use office_events::Name;
 use office_program::PollEnd;
-use run_status::{DeviceLack, add_lacks, write_lack};
+use run_http::status::{DeviceLack, add_lacks, write_lack};
 use std::alloc::{AllocError, Global};
 use std::io::Write;
 

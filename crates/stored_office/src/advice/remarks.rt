@@ -2,13 +2,13 @@
 //! round is one poll for each read of a device's plan.
 ghost use Rattle.std.specs.Prelude.{◌≡◌, OnOk, option_map};
 ghost use Rattle.script_text.specs.LineWords.Words.{words_of};
-ghost use Rattle.run_status.specs.Advice.Sentences.{with_meaning, with_subject};
+ghost use Rattle.run_http.specs.Status.Advice.Sentences.{with_meaning, with_subject};
 ghost use Rattle.stored_office.specs.Advice.Remarks as remarks;
 ghost use Rattle.stored_office.specs.Advice.Remarks.{MayMean, Says};
 
 use office_events::Name;
 use printed_numbers::{Kind, Meaning, meaning_of};
-use run_status::append_bytes;
+use run_http::status::append_bytes;
 use script_text::{Words, end_of_words, next_name, next_number};
 use std::alloc::AllocError;
 

@@ -11,7 +11,8 @@ ghost use Rattle.stored_office.specs.Tasks.Tasks.{IsOf, Does, DoesOver};
 use crate::advice::say_lacks;
 use command_io::ExitStatus;
 use energy_report::{ReportForm, StatementForm};
-use kept_books::CachedBooks;
+use mb_wire::sockets::Clock;
+use memory_books::kept::CachedBooks;
 use office_books::Books;
 use office_program::{
     CommandEnd, NamedFiles, PollEnd, ServeEnd, check_books, enter_books, poll_books, report_books,
@@ -19,7 +20,6 @@ use office_program::{
 };
 use office_running::{RunFault, Settings, Site, run_office};
 use office_store::{OpenFault, SqlBooks};
-use socket_link::Clock;
 use sqlite::{Alter, Connection};
 use std::alloc::Global;
 use std::io::Write;

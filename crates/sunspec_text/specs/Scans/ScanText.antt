@@ -5,7 +5,7 @@ use Rattle.command_io.specs.Printing.{PrintsOn}
 use Rattle.command_io.specs.declared.printer.Printer as printers
 use Rattle.command_io.specs.declared.status.ExitStatus.{ExitStatus}
 use Rattle.command_io.specs.declared.status.ExitStatus.TheVariants.{Fine, Refused, Failed}
-use Rattle.device_scan.specs.Scans.{Scans}
+use Rattle.sun_chain.specs.Scanning.Scans.{Scans}
 use Rattle.point_list.specs.ChainPoints.{chain_faults, points_from}
 use Rattle.point_list.specs.declared.fault.FaultyRow.{FaultyRow}
 use Rattle.point_list.specs.RowTexts.{list_text}

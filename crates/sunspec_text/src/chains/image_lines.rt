@@ -7,9 +7,9 @@ ghost use Rattle.command_io.specs.Lines.{seen_line};
 ghost use Rattle.sunspec_text.specs.Chains.Seen.{ExplainsLine, ExplainsText, ReportsImage, seen_put};
 
 use command_io::{InputLine, InputLines};
-use device_scan::words_of_bytes;
 use script_text::{Words, hex_bytes, number};
 use std::alloc::{AllocError, Global};
+use sun_chain::scans::words_of_bytes;
 use sun_chain::{Image, ImageFault};
 
 /// The reason why lines `ADDRESS HEX` give no image of Modbus registers.

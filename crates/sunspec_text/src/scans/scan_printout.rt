@@ -1,7 +1,7 @@
 //! Scans a live SunSpec device, and prints its chain, its point list or its setup lines.
 ghost use Rattle.std.specs.Prelude.{◌≡◌, ◌≤◌, ◌+◌, ◌*◌, [], Err, IfOk, OnErr};
 ghost use Rattle.command_io.specs.Printing.{PrintsAs, PrintsOn};
-ghost use Rattle.device_scan.specs.Lines.{Garbles, OnlyInquires, has_failed, is_gone};
+ghost use Rattle.sun_chain.specs.Scanning.Lines.{Garbles, OnlyInquires, has_failed, is_gone};
 ghost use Rattle.mb_wire.specs.Links.{risen};
 ghost use Rattle.sun_chain.specs.Chain.{models_of, words_of};
 ghost use Rattle.sun_chain.specs.Image.{word_in};
@@ -11,12 +11,12 @@ ghost use Rattle.sunspec_text.specs.Scans.ScanText.{SetupPrints};
 use crate::chains::{print_image, print_lack};
 use crate::scans::setup_lines::{Site, setup_text};
 use command_io::{ExitStatus, Printer, print_end};
-use device_scan::{MOST_READS, MOST_TAKES, ScanFault, ScanObserver, scan_over};
 use mb_wire::Link;
 use point_list::{FaultyRows, ListFault, PointList, from_chain, write_list};
 use script_text::write_faults;
 use std::alloc::Global;
 use std::io::Write;
+use sun_chain::scans::{MOST_READS, MOST_TAKES, ScanFault, ScanObserver, scan_over};
 use sun_chain::{Chain, Image, walk};
 
 /// The form in which the result of a scan is printed.

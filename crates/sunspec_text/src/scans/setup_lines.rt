@@ -8,7 +8,7 @@ use sun_points::Point;
 
 /// The parameters for polling a device, with its name, its unit identifier and the timeout in
 /// seconds.
-#[derive(Clone, Copy, Debug, PartialEq, Eq)]
+#[derive(Clone, Copy, PartialEq, Eq)]
 pub struct Site<'a> {
     pub device: &'a str,
     pub unit: u8,

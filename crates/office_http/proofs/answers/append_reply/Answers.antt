@@ -1,6 +1,6 @@
 use Rattle.std.proofs.Common.{refl, subst}
-use Rattle.http_messages.specs.Routing.Routes.{routes}
-use Rattle.http_messages.specs.Replies.{fault, fault_said, reply_bytes}
+use Rattle.office_http.specs.Messages.Routing.Routes.{routes}
+use Rattle.office_http.specs.Messages.Replies.{fault, fault_said, reply_bytes}
 use Rattle.office_http.specs.Wants.Wanting.{IsNoCommand, IsReportedOff, Wants}
 use Rattle.office_http.proofs.Served.{lasts_same, no_command_reported, reported_off}
 use Rattle.office_http.proofs.answers.append_reply.Goals as goal

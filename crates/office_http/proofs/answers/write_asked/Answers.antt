@@ -1,6 +1,6 @@
 use Rattle.std.proofs.Common.{None, sym, subst}
-use Rattle.http_messages.specs.Kinds.{done_text}
-use Rattle.http_messages.specs.Replies.{reply_bytes, row_reply}
+use Rattle.office_http.specs.Messages.Kinds.{done_text}
+use Rattle.office_http.specs.Messages.Replies.{reply_bytes, row_reply}
 use Rattle.office_http.specs.Serving.{Serves}
 use Rattle.office_http.proofs.Served.{command_reported, lasts_fed}
 use Rattle.office_http.proofs.answers.write_asked.Goals as goal

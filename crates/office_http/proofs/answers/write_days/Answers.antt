@@ -1,5 +1,5 @@
 use Rattle.std.proofs.Common.{ap, subst}
-use Rattle.http_messages.specs.Sending.Sending.{OnlyGives, Outgoing}
+use Rattle.office_http.specs.Messages.Sending.Sending.{OnlyGives, Outgoing}
 use Rattle.office_http.specs.Rows.Reports.{Report}
 use Rattle.interval_core.specs.Report.{day_line}
 use Rattle.office_http.specs.Serving.{Puts}

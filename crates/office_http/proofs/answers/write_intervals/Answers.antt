@@ -1,9 +1,9 @@
 use Rattle.std.proofs.Common.{ap, subst}
-use Rattle.http_messages.specs.Routing.Routes.{routes}
-use Rattle.http_messages.specs.Sending.Sending.{OnlyGives, Outgoing}
+use Rattle.office_http.specs.Messages.Routing.Routes.{routes}
+use Rattle.office_http.specs.Messages.Sending.Sending.{OnlyGives, Outgoing}
 use Rattle.office_http.specs.Rows.Reports.{Report}
-use Rattle.http_messages.specs.Replies.{lines_reply, reply_bytes}
-use Rattle.http_messages.specs.WholeResponses.{IsReply}
+use Rattle.office_http.specs.Messages.Replies.{lines_reply, reply_bytes}
+use Rattle.office_http.specs.Messages.WholeResponses.{IsReply}
 use Rattle.interval_core.specs.Lines.{intervals_text, share_line}
 use Rattle.office_books.specs.History.{facts_of}
 use Rattle.office_core.specs.Asking.{intervals_of}

@@ -1,8 +1,8 @@
 use Rattle.std.proofs.Common.{refl, subst}
-use Rattle.http_messages.specs.Routing.Routes.{routes}
-use Rattle.http_messages.specs.Replies.{poll_reply, refused, reply_bytes, row_reply}
-use Rattle.http_messages.specs.Rows.{poll_text}
-use Rattle.http_messages.specs.WholeResponses.{IsReply}
+use Rattle.office_http.specs.Messages.Routing.Routes.{routes}
+use Rattle.office_http.specs.Messages.Replies.{poll_reply, refused, reply_bytes, row_reply}
+use Rattle.office_http.specs.Messages.Rows.{poll_text}
+use Rattle.office_http.specs.Messages.WholeResponses.{IsReply}
 use Rattle.office_events.specs.declared.refusals.Refusal.TheVariants as refusal
 use Rattle.office_books.specs.History.{facts_of}
 use Rattle.office_books.specs.Readings.{poll_row_of}

@@ -1,11 +1,11 @@
 use Rattle.std.proofs.Common.{sym, subst}
 use Rattle.std.specs.Option.{option_and_then}
-use Rattle.http_messages.specs.Routing.Routes.{routes}
-use Rattle.http_messages.specs.Routing.Targets.{name_of}
-use Rattle.http_messages.specs.declared.routing.routes.Route.{Route}
-use Rattle.http_messages.specs.Replies.{lines_reply, poll_reply, question_reply, reply_bytes, row_reply}
-use Rattle.http_messages.specs.Rows.{meter_text}
-use Rattle.http_messages.specs.WholeResponses.{IsReply}
+use Rattle.office_http.specs.Messages.Routing.Routes.{routes}
+use Rattle.office_http.specs.Messages.Routing.Targets.{name_of}
+use Rattle.office_http.specs.declared.messages.routing.routes.Route.{Route}
+use Rattle.office_http.specs.Messages.Replies.{lines_reply, poll_reply, question_reply, reply_bytes, row_reply}
+use Rattle.office_http.specs.Messages.Rows.{meter_text}
+use Rattle.office_http.specs.Messages.WholeResponses.{IsReply}
 use Rattle.interval_core.specs.Lines.{days_text, intervals_text}
 use Rattle.office_books.specs.History.{facts_of}
 use Rattle.office_books.specs.Meters.{meter_of}

@@ -1,8 +1,8 @@
 use Rattle.std.proofs.Common.{◌≡◌, ◌≤◌, ◌+◌, ◌-◌, ◌^◌, min, [], rules, sym, subst}
 use Rattle.std.proofs.KnownBytes.{Keeps-refl}
-use Rattle.http_messages.specs.declared.reading.inbox.TheConstants.{MOST_TAKES}
-use Rattle.http_messages.specs.Sending.Giving.{Gives}
-use Rattle.http_messages.specs.Replies.{refused, reply_bytes}
+use Rattle.office_http.specs.declared.messages.reading.inbox.TheConstants.{MOST_TAKES}
+use Rattle.office_http.specs.Messages.Sending.Giving.{Gives}
+use Rattle.office_http.specs.Messages.Replies.{refused, reply_bytes}
 use Rattle.office_events.specs.declared.refusals.Refusal.TheVariants as refusal
 use Rattle.office_http.proofs.Handled.{IsFinished, bare_replied, few_takes, finished_last, finished_remaining, finished_takes, write_first}
 use Rattle.office_http.proofs.exchange.refuse.Goals as goal

@@ -1,6 +1,6 @@
 use Rattle.std.proofs.Common.{◌≡◌, [], rules, sym, subst}
 use Rattle.std.proofs.KnownBytes.{Keeps-refl}
-use Rattle.http_messages.specs.Sending.Giving.{Gives}
+use Rattle.office_http.specs.Messages.Sending.Giving.{Gives}
 use Rattle.office_http.proofs.Handled.{ends_well, finished_failures, finished_last, finished_remaining, finished_takes, write_first}
 use Rattle.office_http.proofs.exchange.reply.Goals as goal
 

@@ -1,9 +1,9 @@
 use Rattle.std.proofs.Common.{◌≡◌, ◌≤◌, ◌+◌, ◌-◌, ◌^◌, min, Result, Err, rules, sym, subst}
-use Rattle.http_messages.specs.Reading.HeadAndBody.{StopsAtOnce}
-use Rattle.http_messages.specs.Reading.Taking.{bytes_in}
-use Rattle.http_messages.specs.declared.reading.inbox.TheConstants.{MOST_TAKES}
-use Rattle.http_messages.specs.Routing.Routes.{Table}
-use Rattle.http_messages.specs.Whole.Whole.{IsUnfinished, ReadsRequest}
+use Rattle.office_http.specs.Messages.Reading.HeadAndBody.{StopsAtOnce}
+use Rattle.office_http.specs.Messages.Reading.Taking.{bytes_in}
+use Rattle.office_http.specs.declared.messages.reading.inbox.TheConstants.{MOST_TAKES}
+use Rattle.office_http.specs.Messages.Routing.Routes.{Table}
+use Rattle.office_http.specs.Messages.Whole.Whole.{IsUnfinished, ReadsRequest}
 use Rattle.office_http.specs.Exchange.{Handles, as_fault, passage}
 use Rattle.office_http.specs.declared.fault.HandleFault.{HandleFault}
 use Rattle.office_http.proofs.Handled.{few_takes, head_of, read_failed, replied}

@@ -1,5 +1,5 @@
 use Rattle.std.proofs.Common.{ap}
-use Rattle.http_messages.specs.Hosts.{texts}
+use Rattle.office_http.specs.Messages.Hosts.{texts}
 use Rattle.office_program.specs.HttpPort.{port}
 use Rattle.office_program.proofs.Done.{served}
 use Rattle.office_program.proofs.http_port.serve_books.Goals as goal

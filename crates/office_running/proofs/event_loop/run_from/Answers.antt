@@ -1,5 +1,5 @@
 use Rattle.std.proofs.Common.{ℕ, subst}
-use Rattle.http_messages.specs.Hosts.{texts}
+use Rattle.office_http.specs.Messages.Hosts.{texts}
 use Rattle.office_running.specs.Runs.{TakesTurns}
 use Rattle.office_running.proofs.Going.{no_turns}
 use Rattle.office_running.proofs.event_loop.run_from.Goals as goal

@@ -1,4 +1,4 @@
-use Rattle.http_messages.specs.Hosts.{texts}
+use Rattle.office_http.specs.Messages.Hosts.{texts}
 use Rattle.office_running.proofs.Going.{turns_after_asking}
 use Rattle.office_running.proofs.event_loop.run_open.Goals as goal
 

@@ -1,5 +1,5 @@
 use Rattle.std.proofs.Common.{inl}
-use Rattle.http_messages.specs.Hosts.{texts}
+use Rattle.office_http.specs.Messages.Hosts.{texts}
 use Rattle.office_running.proofs.Going.{lasts_both, lasts_run, ran_opened}
 use Rattle.office_running.proofs.office.run_office.Goals as goal
 

@@ -1,5 +1,5 @@
 use Rattle.std.proofs.Common.{rules, ◌≡◌, ◌-◌, ◌∷◌, List, take, drop, length, sym, ap, ◌∙◌}
-use Rattle.meter_audit.specs.declared.rows.TableRow.{TableRow}
+use Rattle.meter_journal.specs.declared.audit.rows.TableRow.{TableRow}
 use Rattle.table_audit.proofs.Agreeing.{all_later, where_some, where_none, not_reported, rest_is_lawful, lawful_rest}
 use Rattle.table_audit.proofs.Found.{never, reported_too}
 use Rattle.table_audit.proofs.lawful.audit_read.Goals as goal

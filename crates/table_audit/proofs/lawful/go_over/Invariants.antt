@@ -1,5 +1,5 @@
 use Rattle.std.proofs.Common.{[], reverse, take}
-use Rattle.meter_audit.specs.Going.{IsSoundProgress, HasGone}
+use Rattle.meter_journal.specs.Audit.Going.{IsSoundProgress, HasGone}
 use Rattle.table_audit.proofs.lawful.go_over.Given as goal
 
 abbrev pub invariant-loop-index : goal.invariant-loop-index

@@ -1,5 +1,5 @@
 use Rattle.std.proofs.Common.{◌<◌, ◌≤◌, length}
-use Rattle.meter_audit.specs.Going.{IsSoundProgress}
+use Rattle.meter_journal.specs.Audit.Going.{IsSoundProgress}
 use Rattle.table_audit.specs.declared.differences.TheConstants.{MOST}
 use Rattle.table_audit.proofs.lawful.print_refused.Given as goal
 

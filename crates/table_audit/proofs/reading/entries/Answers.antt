@@ -1,6 +1,6 @@
 use Rattle.std.proofs.Common.{◌<◌, ◌^◌, All, [], ◌∷◌, Ok, sym, ap, subst, ◌∙◌, arith}
 use Rattle.std.proofs.lemmas.List.Elements.{All-append, All-from_recursion}
-use Rattle.meter_audit.specs.declared.rows.TableRow.{TableRow}
+use Rattle.meter_journal.specs.declared.audit.rows.TableRow.{TableRow}
 use Rattle.table_audit.specs.Reading.{entry_in}
 use Rattle.table_audit.proofs.ReadRows.{next_read, unread, all_read}
 use Rattle.table_audit.proofs.reading.entries.Goals as goal

@@ -1,6 +1,6 @@
 use Rattle.std.proofs.Common.{◌↔◌, subst}
 use Rattle.std.specs.Prelude.{IsTrue}
-use Rattle.meter_audit.specs.CarriedFiles.{GoesOnAs}
+use Rattle.meter_journal.specs.Audit.CarriedFiles.{GoesOnAs}
 use Rattle.office_books.specs.Meters.{installed}
 use Rattle.carried_books.proofs.JoiningLemmas.Meters.{goes_on_by}
 use Rattle.carried_books.proofs.joining.meters.goes_on.Goals as goal

@@ -1,4 +1,4 @@
-use Rattle.http_messages.specs.Hosts.{texts}
+use Rattle.office_http.specs.Messages.Hosts.{texts}
 use Rattle.office_http.proofs.ConnectionsLemmas.Served.{named_handled, unasked}
 use Rattle.office_http.proofs.connections.connections.serve_connection.Goals as goal
 

@@ -1,5 +1,5 @@
 use Rattle.std.proofs.Common.{rules}
-use Rattle.http_messages.specs.Hosts.{texts}
+use Rattle.office_http.specs.Messages.Hosts.{texts}
 use Rattle.office_http.proofs.ConnectionsLemmas.Served.{lasts_both, served_more, served_no_more, served_none}
 use Rattle.office_http.proofs.connections.connections.serve_connections.Goals as goal
 use Rattle.office_http.proofs.connections.connections.serve_connections.Goals.{in-Ok, in-Err+else-not-is_of_connection}

@@ -1,4 +1,4 @@
-use Rattle.http_messages.specs.Hosts.{texts}
+use Rattle.office_http.specs.Messages.Hosts.{texts}
 use Rattle.office_core.specs.Standing.{After}
 use Rattle.office_http.specs.Serving.{Lasts}
 use Rattle.office_http.specs.Connections.Connections.{ServesUpTo}

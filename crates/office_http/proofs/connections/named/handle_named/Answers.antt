@@ -1,4 +1,4 @@
-use Rattle.http_messages.specs.Hosts.{texts}
+use Rattle.office_http.specs.Messages.Hosts.{texts}
 use Rattle.office_http.proofs.ConnectionsLemmas.Named.{no_room}
 use Rattle.office_http.proofs.connections.named.handle_named.Goals as goal
 

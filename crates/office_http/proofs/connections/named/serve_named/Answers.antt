@@ -1,11 +1,11 @@
 use Rattle.std.proofs.Common.{◌≡◌, ◌∙◌, ◌≤◌, ◌+◌, ◌-◌, ◌^◌, min, true, false, Result, Ok, Err, rules, sym, subst}
 use Rattle.std.proofs.KnownBytes.{Keeps-trans}
-use Rattle.http_messages.specs.Hosts.{may_ask_in, texts}
-use Rattle.http_messages.specs.Reading.HeadAndBody.{StopsAtOnce}
-use Rattle.http_messages.specs.Reading.Taking.{bytes_in}
-use Rattle.http_messages.specs.declared.reading.inbox.TheConstants.{MOST_TAKES}
-use Rattle.http_messages.specs.Routing.Routes.{Table}
-use Rattle.http_messages.specs.Whole.Whole.{IsUnfinished, ReadsRequest}
+use Rattle.office_http.specs.Messages.Hosts.{may_ask_in, texts}
+use Rattle.office_http.specs.Messages.Reading.HeadAndBody.{StopsAtOnce}
+use Rattle.office_http.specs.Messages.Reading.Taking.{bytes_in}
+use Rattle.office_http.specs.declared.messages.reading.inbox.TheConstants.{MOST_TAKES}
+use Rattle.office_http.specs.Messages.Routing.Routes.{Table}
+use Rattle.office_http.specs.Messages.Whole.Whole.{IsUnfinished, ReadsRequest}
 use Rattle.office_http.specs.Exchange.{as_fault, passage}
 use Rattle.office_http.specs.Connections.Named.{HandlesNamed}
 use Rattle.office_http.specs.declared.fault.HandleFault.{HandleFault}

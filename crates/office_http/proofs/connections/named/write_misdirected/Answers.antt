@@ -1,8 +1,8 @@
 use Rattle.std.proofs.Common.{◌≡◌, [], None, rules, sym, subst}
 use Rattle.std.proofs.KnownBytes.{Keeps-refl}
-use Rattle.http_messages.specs.declared.status.Status.TheVariants.{Misdirected}
-use Rattle.http_messages.specs.Sending.Giving.{Gives}
-use Rattle.http_messages.specs.Replies.{fault, reply_bytes}
+use Rattle.office_http.specs.declared.messages.status.Status.TheVariants.{Misdirected}
+use Rattle.office_http.specs.Messages.Sending.Giving.{Gives}
+use Rattle.office_http.specs.Messages.Replies.{fault, reply_bytes}
 use Rattle.office_http.proofs.Handled.{ends_well, finished_failures, finished_last, finished_remaining, finished_takes, write_first}
 use Rattle.office_http.proofs.connections.named.write_misdirected.Goals as goal
 

@@ -1,6 +1,6 @@
 use Rattle.std.proofs.Common.{Ok, subst}
-use Rattle.http_messages.specs.declared.ask.Ask.{Ask}
-use Rattle.http_messages.specs.Whole.Whole.{TestsRequest}
+use Rattle.office_http.specs.declared.messages.ask.Ask.{Ask}
+use Rattle.office_http.specs.Messages.Whole.Whole.{TestsRequest}
 use Rattle.office_http.proofs.WantsLemmas.Nothing.{asks_a_question, in_a_question, where_a_test_fails}
 use Rattle.office_http.proofs.wants.requests.wanted.Goals as goal
 

@@ -1,8 +1,8 @@
 use Rattle.std.proofs.Common.{rules, ◌∙◌, ◌≢◌, Err, ap, drop, sym, take}
-use Rattle.http_messages.specs.declared.commands.fault.CommandFault.TheVariants.{Memory}
-use Rattle.http_messages.specs.HeadTests.{start_at}
-use Rattle.http_messages.specs.Tests.{post_headers_of}
-use Rattle.http_messages.specs.Replies.{asked_with}
+use Rattle.office_http.specs.declared.messages.commands.fault.CommandFault.TheVariants.{Memory}
+use Rattle.office_http.specs.Messages.HeadTests.{start_at}
+use Rattle.office_http.specs.Messages.Tests.{post_headers_of}
+use Rattle.office_http.specs.Messages.Replies.{asked_with}
 use Rattle.office_http.proofs.WantsLemmas.Outcomes.{a_command, found_out, kept_same, no_command}
 use Rattle.office_http.proofs.wants.requests.wanted_command.Goals as goal
 

@@ -1,4 +1,4 @@
-use Rattle.http_messages.specs.Hosts.{texts}
+use Rattle.office_http.specs.Messages.Hosts.{texts}
 use Rattle.office_running.specs.Runs.{Goes}
 use Rattle.office_running.proofs.event_loop.Running.attend_clients.Given as goal
 

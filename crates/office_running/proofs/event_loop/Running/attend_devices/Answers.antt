@@ -1,4 +1,4 @@
-use Rattle.http_messages.specs.Hosts.{texts}
+use Rattle.office_http.specs.Messages.Hosts.{texts}
 use Rattle.office_running.proofs.Going.{goes_both, goes_none}
 use Rattle.office_running.proofs.event_loop.Running.attend_devices.Goals as goal
 

@@ -1,4 +1,4 @@
-use Rattle.http_messages.specs.Hosts.{texts}
+use Rattle.office_http.specs.Messages.Hosts.{texts}
 use Rattle.office_running.proofs.Going.{first_begins, goes_none, next_begins, turn_ends}
 use Rattle.office_running.proofs.event_loop.Running.turns.Goals as goal
 

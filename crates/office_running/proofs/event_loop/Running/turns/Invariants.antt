@@ -1,5 +1,5 @@
 use Rattle.std.proofs.Common.{◌≡◌}
-use Rattle.http_messages.specs.Hosts.{texts}
+use Rattle.office_http.specs.Messages.Hosts.{texts}
 use Rattle.office_running.proofs.Going.{Begins}
 use Rattle.office_running.proofs.event_loop.Running.turns.Given as goal
 

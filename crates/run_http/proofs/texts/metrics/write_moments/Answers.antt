@@ -1,5 +1,5 @@
 use Rattle.std.proofs.Common.{refl, arith, List, ℕ}
-use Rattle.run_status.specs.declared.status.status.DeviceState.{DeviceState}
+use Rattle.run_http.specs.declared.status.status.status.DeviceState.{DeviceState}
 use Rattle.run_http.specs.Texts.MetricsText as text
 use Rattle.office_events.proofs.Loops.{all_on, one_on}
 use Rattle.run_http.proofs.texts.metrics.write_moments.Goals as goal

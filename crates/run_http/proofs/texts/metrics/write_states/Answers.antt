@@ -1,7 +1,7 @@
 use Rattle.std.proofs.Common.{refl, arith, ◌∙◌, ap, List, ℕ}
-use Rattle.run_status.specs.declared.status.status.DeviceState.{DeviceState}
+use Rattle.run_http.specs.declared.status.status.status.DeviceState.{DeviceState}
 use Rattle.std.specs.Prelude.{codes}
-use Rattle.run_status.specs.Status.StatusText.{with_name}
+use Rattle.run_http.specs.Status.Status.StatusText.{with_name}
 use Rattle.run_http.specs.Texts.MetricsText as text
 use Rattle.office_events.proofs.Loops.{all_on, one_on}
 use Rattle.run_http.proofs.texts.metrics.write_states.Goals as goal

@@ -1,5 +1,0 @@
-use Rattle.std.proofs.Common.{length}
-use Rattle.device_scan.proofs.hearing.+hear_piece.Given as goal
-
-abbrev pub decreases-hear_piece : goal.decreases-hear_piece
-decreases-hear_piece l = length l.piece.now

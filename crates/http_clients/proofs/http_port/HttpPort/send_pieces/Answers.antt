@@ -1,9 +1,0 @@
-use Rattle.http_clients.proofs.ServingClients.{both_query, queries_nothing}
-use Rattle.http_clients.proofs.http_port.HttpPort.send_pieces.Goals as goal
-
-pub loop-piece-init : goal.loop-piece-init
-loop-piece-init g c = queries_nothing g.B.Books.ledger c.args.office.now
-
-pub loop-piece-preserved : goal.loop-piece-preserved
-loop-piece-preserved g c =
-    both_query g.B.Books.ledger c.args.office.now c.loop-piece.office c.send_piece.new.office c.loop-piece.invariant c.send_piece.ensures

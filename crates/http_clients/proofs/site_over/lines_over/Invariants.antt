@@ -1,6 +1,0 @@
-use Rattle.std.proofs.Common.{◌≡◌, map, take}
-use Rattle.http_clients.specs.SiteOver.{line_over}
-use Rattle.http_clients.proofs.site_over.lines_over.Given as goal
-
-abbrev pub invariant-loop-row : goal.invariant-loop-row
-invariant-loop-row l = l.lines.items ≡ map (line_over l.earlier) (take l.row-index l.rows)

@@ -1,9 +1,0 @@
-use Rattle.std.proofs.Common.{◌≡◌, ◌≤◌, ◌+◌, ◌*◌, ◌++◌, length, take}
-use Rattle.http_messages.specs.Faults.{more_rows}
-use Rattle.http_messages.proofs.faults.push_rows.Given as goal
-
-abbrev pub invariant-loop-faulty : goal.invariant-loop-faulty
-invariant-loop-faulty l = record {
-  bytes : l.text ≡ l.fn.text ++ more_rows (take l.faulty-index l.rows);
-  size : length l.text ≤ length l.fn.text + 12 * l.faulty-index;
-}

@@ -1,5 +1,0 @@
-use Rattle.http_messages.proofs.HeadLemmas.Naming.{same_test}
-use Rattle.http_messages.proofs.head.headers.same_name.Goals as goal
-
-pub returns : goal.returns
-returns c = same_test c.eq_ignore_ascii_case.result _ _ c.eq_ignore_ascii_case.ensures.test

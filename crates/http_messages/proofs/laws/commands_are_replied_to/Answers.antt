@@ -1,5 +1,0 @@
-use Rattle.http_messages.proofs.Replying.{to_command}
-use Rattle.http_messages.proofs.laws.commands_are_replied_to.Goals as goal
-
-pub returns : goal.returns
-returns c = λ office. to_command office c.args.router.now c.args.bytes.now c.args.head.now c.args.found.now c.args.posted.now c.args.given.now c.requires.holds c.requires.asks c.requires.gives c.requires.memory

@@ -1,8 +1,0 @@
-use Rattle.kept_books.proofs.Answering.{named, other_key}
-use Rattle.kept_books.proofs.answers.Answers.remove.Goals as goal
-
-pub returns-clause-forgets : goal.returns-clause-forgets
-returns-clause-forgets g c = record {
-  gone = c.remove.ensures.updates.1;
-  others = λ other apart. c.remove.ensures.updates.2 (named other) (other_key c.args.name.now other apart);
-}

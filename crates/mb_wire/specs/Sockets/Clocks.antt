@@ -1,0 +1,28 @@
+-- Defines the times that a clock will return, for clocks whose times are known in advance.
+use Rattle.std.specs.Prelude.{◌≡◌, ℕ, Bool, List, [], ◌∷◌, Option, None, Some, nat_lt}
+use Rattle.mb_wire.specs.declared.sockets.clock.FixedClock.{FixedClock}
+
+-- The times that a `FixedClock` will return, in order.
+abbrev pub moments_in : FixedClock → List ℕ
+moments_in clock = clock.moments.now
+
+-- The first time of the list, or 0 if the list is empty.
+abbrev pub next_moment : List ℕ → ℕ
+next_moment [] = 0
+next_moment (moment ∷ later) = moment
+
+-- True if `late` states correctly whether the clock's next time is after the deadline `until`.
+abbrev pub ReportsLate : (until : ℕ) → (late : Bool) → (moments : List ℕ) → Type 0
+ReportsLate until late moments = late ≡ nat_lt until (next_moment moments)
+
+-- The list of times after the clock returned the first. A clock repeats the last time of its list.
+abbrev pub later_moments : List ℕ → List ℕ
+later_moments [] = []
+later_moments (moment ∷ []) = moment ∷ []
+later_moments (moment ∷ next ∷ later) = next ∷ later
+
+-- True if the clock returned the first of its known times, and will return the later times next.
+abbrev pub ReportsMoment : Option (List ℕ) → Option (List ℕ) → ℕ → Type 0
+ReportsMoment None new moment = Unit {0}
+ReportsMoment (Some moments) new moment =
+    (moment ≡ next_moment moments) × (new ≡ Some (later_moments moments))

@@ -1,5 +1,0 @@
-use Rattle.meter_audit.proofs.CarriedLemmas.Files.{carried_tables_are_one as lemma}
-use Rattle.meter_audit.proofs.carried.carried_tables_are_one.Goals as goal
-
-pub returns : goal.returns
-returns c = lemma c.shares_add_up.ensures

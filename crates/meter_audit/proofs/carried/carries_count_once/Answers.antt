@@ -1,5 +1,0 @@
-use Rattle.meter_audit.proofs.CarriedLemmas.Quarters.{carries_count_once as lemma}
-use Rattle.meter_audit.proofs.carried.carries_count_once.Goals as goal
-
-pub returns : goal.returns
-returns c = lemma c.shares_add_up.ensures

@@ -1,0 +1,195 @@
+-- The rules by which a table row passes the check after the rows before it, or is refused for its
+-- first fault.
+use Rattle.std.specs.Prelude.{ℕ, ◌+◌, ◌^◌, ◌<◌, ◌≤◌, ◌==◌, nat_lt, nat_le, Bool, true, false, not, ◌&&◌, Option, Some, None, Result, Ok, Err, if◌then◌else◌}
+use Rattle.std.specs.Ordering.{int_eq}
+use Rattle.energy_core.specs.declared.limits.TheConstants.{MAX_CEILING, MAX_TOTAL}
+use Rattle.energy_core.specs.declared.entries.Last.{Last}
+use Rattle.energy_core.specs.declared.entries.Step.{Step}
+use Rattle.energy_core.specs.declared.entries.Entry.{Entry}
+use Rattle.energy_core.specs.declared.entries.Entry.TheVariants as entry
+use Rattle.energy_core.specs.declared.admission.TermFault.{TermFault}
+use Rattle.energy_core.specs.declared.verdicts.Terms.{Terms}
+use Rattle.energy_core.specs.declared.verdicts.Cause.TheVariants as cause
+use Rattle.energy_core.specs.declared.verdicts.Verdict.{Verdict}
+use Rattle.energy_core.specs.declared.verdicts.Verdict.TheVariants as verdict
+use Rattle.energy_core.specs.Account.{IsScale}
+use Rattle.energy_core.specs.Admission.{entered}
+use Rattle.energy_core.specs.Ranged.{IsRange}
+use Rattle.energy_core.specs.Verdict.{verdict_of}
+use Rattle.meter_journal.specs.declared.lines.Installed.{Installed}
+use Rattle.meter_journal.specs.declared.lines.EntryKind.{EntryKind}
+use Rattle.meter_journal.specs.declared.lines.EntryKind.TheVariants as kind
+use Rattle.meter_journal.specs.Books.{IsWellInstalled}
+use Rattle.meter_journal.specs.Fitting.{reading_at}
+use Rattle.meter_journal.specs.Journal.{is_reading, is_closing}
+use Rattle.meter_journal.specs.declared.audit.checks.Check.{Check}
+use Rattle.meter_journal.specs.declared.audit.faults.RowFault.{RowFault}
+use Rattle.meter_journal.specs.declared.audit.faults.RowFault.TheVariants as fault
+use Rattle.meter_journal.specs.declared.audit.rows.RowKind.{RowKind}
+use Rattle.meter_journal.specs.declared.audit.rows.RowKind.TheVariants as row_kind
+use Rattle.meter_journal.specs.declared.audit.rows.TableRow.{TableRow}
+
+-- The meter may be checked: its range, its ceiling (maximum power) and its opening entry are within
+-- their limits.
+pub record MayBeChecked (meter : Installed) : Type 0 where
+  pub range : IsRange meter.range
+  pub ceiling : (1 ≤ meter.ceiling) × (meter.ceiling ≤ MAX_CEILING)
+  pub installed : IsWellInstalled meter
+
+-- The invariant of the state of a check after any rows of a meter.
+pub record IsSoundCheck (meter : Installed) (check : Check) : Type 0 where
+  pub place : check.place < 2 ^ 63
+  pub total : check.total ≤ MAX_TOTAL
+  pub raw : check.last.raw < meter.range
+  pub scale : IsScale check.last.sf
+
+-- The state of a check after the opening row, which has the meter's first count.
+abbrev pub begun : Installed → Check
+begun meter = record {
+  place = 1;
+  last = meter.opening;
+  total = 0;
+  is_ended = false;
+  stands = true;
+}
+
+-- The kind of an entry, given the kind column of its table row, or `None` for an opening, the first
+-- entry of a meter.
+abbrev pub kind_in : RowKind → Option EntryKind
+kind_in row_kind.Opening = None
+kind_in row_kind.Reading = Some kind.Reading
+kind_in row_kind.Manual = Some kind.Manual
+kind_in row_kind.Closing = Some kind.Closing
+kind_in row_kind.Reset = Some kind.Reset
+kind_in row_kind.Rescale = Some kind.Rescale
+
+-- Whether entries of this kind (resets and rescales) set the counter to another count.
+abbrev pub is_change : EntryKind → Bool
+is_change kind.Reset = true
+is_change kind.Rescale = true
+is_change _ = false
+
+-- The entry that a table row of the kind `k` records.
+abbrev pub entry_in : EntryKind → TableRow → Entry
+entry_in k row =
+    if is_change k then entry.Change row.moment row.raw row.after row.sf
+    else entry.Step row.moment row.raw row.rolls
+
+-- Whether a column is not 0 although entries of the kind `k` do not use it.
+abbrev pub has_unused : EntryKind → TableRow → Bool
+has_unused k row = if is_change k then not (row.rolls == 0) else not (row.after == 0)
+
+-- The kind of an entry is a rescale.
+abbrev pub is_rescale : EntryKind → Bool
+is_rescale kind.Rescale = true
+is_rescale _ = false
+
+-- The row changes the scale factor although it is not a rescale.
+abbrev pub is_off_scale : Check → EntryKind → TableRow → Bool
+is_off_scale check k row = not (is_rescale k) && not (int_eq row.sf check.last.sf)
+
+-- The kind of a row whose sequence number is correct, if the row may follow and its columns suit
+-- its kind. Otherwise, the first fault.
+abbrev pub shape_by : Check → TableRow → Option EntryKind → Result EntryKind RowFault
+shape_by check row None = Err fault.OpenedAgain
+shape_by check row (Some k) =
+    if check.is_ended then Err fault.AfterClosing else
+    if row.is_voided && not (is_reading k) then Err fault.CannotBeVoided else
+    if has_unused k row then Err fault.Unused else
+    if is_off_scale check k row then Err (fault.Scale check.last.sf) else Ok k
+
+-- The kind of a row, if the row has the next sequence number and its columns suit its kind.
+-- Otherwise, the first fault.
+abbrev pub shape_of : Check → TableRow → Result EntryKind RowFault
+shape_of check row =
+    if row.place == check.place + 1 then shape_by check row (kind_in row.kind)
+    else Err (fault.Place (check.place + 1))
+
+-- The fault of a reading, given the verdict of the rules: the rules rejected the reading, or the
+-- reading's rollovers differ from the number that they require. `None` if there is no fault.
+abbrev pub fault_by : (rolls : ℕ) → Verdict → Option RowFault
+fault_by rolls (verdict.Held why) = Some (fault.Held why)
+fault_by rolls (verdict.Accepted wanted step) =
+    if rolls == wanted then None else Some (fault.Rolls wanted)
+
+-- The values by which a check judges a reading: the meter's ceiling (maximum power) and the total
+-- energy so far.
+abbrev pub terms_of : Installed → Check → Terms
+terms_of meter check = record { ceiling = meter.ceiling; total = check.total }
+
+-- Why the rules reject a row as a valid (not voided) reading. `None` if the rules accept the
+-- reading, or if the row's kind is not a reading.
+abbrev pub reading_fault : Installed → Check → EntryKind → TableRow → Option RowFault
+reading_fault meter check k row =
+    if is_reading k
+    then fault_by row.rolls (verdict_of meter.range (terms_of meter check) check.last
+    (reading_at check.last row.moment row.raw))
+    else None
+
+-- Why the rules reject a voided reading that directly follows a valid row. `None` if the rules
+-- accept the reading, or if the row before is voided.
+abbrev pub stood_fault : Installed → Check → EntryKind → TableRow → Option RowFault
+stood_fault meter check k row = if check.stands then reading_fault meter check k row else None
+
+-- Why a voided reading can't have been accepted when it was recorded. It shows 0 or a count not
+-- below the range, is not later than the last valid entry, or has more than one rollover.
+abbrev pub voided_fault : Installed → Check → TableRow → Option RowFault
+voided_fault meter check row =
+    if row.raw == 0 then Some (fault.Held cause.NotAccumulated) else
+    if nat_le meter.range row.raw then Some (fault.Held cause.NotBelowRange) else
+    if nat_le row.moment check.last.at then Some (fault.Held cause.NotLater) else
+    if nat_lt 1 row.rolls then Some (fault.Rolls 1) else None
+
+-- A fault as an error, or the given result if there is no fault.
+abbrev pub unless : {X : Type 0} → Option RowFault → Result X RowFault → Result X RowFault
+unless (Some f) answer = Err f
+unless None answer = answer
+
+-- The energy of the step (between two entries) in mWh, or 0 without a step.
+abbrev pub energy_in : Option Step → ℕ
+energy_in None = 0
+energy_in (Some step) = step.mwh
+
+-- The state of the check after an entry was recorded, with the step to the entry. If the entry was
+-- refused, the fault as an error.
+abbrev pub following : Check → EntryKind → TableRow → Result (Last × Step) TermFault
+    → Result (Check × Option Step) RowFault
+following check k row (Err f) = Err (fault.Refused f)
+following check k row (Ok (last, step)) = Ok (
+  record {
+    place = row.place;
+    last = last;
+    total = check.total + step.mwh;
+    is_ended = is_closing k;
+    stands = true;
+  },
+  Some step,
+)
+
+-- The state of the check after a valid row, with the step to the row's entry (the energy since the
+-- last valid entry), or the first fault of the row.
+abbrev pub stood : Installed → Check → EntryKind → TableRow → Result (Check × Option Step) RowFault
+stood meter check k row =
+    unless (reading_fault meter check k row)
+    (following check k row (entered meter.range check.total check.last (entry_in k row)))
+
+-- The state of the check after a voided row, which has no step, or the first fault of the row.
+abbrev pub voided : Installed → Check → EntryKind → TableRow
+    → Result (Check × Option Step) RowFault
+voided meter check k row =
+    unless (voided_fault meter check row)
+    (unless (stood_fault meter check k row)
+    (Ok (record check { place = row.place; stands = false }, None)))
+
+-- The state of the check after a valid or voided row of the given kind, or the first fault of the
+-- row.
+abbrev pub passed_by : Installed → Check → TableRow → Result EntryKind RowFault
+    → Result (Check × Option Step) RowFault
+passed_by meter check row (Err f) = Err f
+passed_by meter check row (Ok k) =
+    if row.is_voided then voided meter check k row else stood meter check k row
+
+-- The state of the check after a table row, with the step to the row's entry (the energy since the
+-- last valid entry), or the first fault. A voided row has no step.
+abbrev pub passed : Installed → Check → TableRow → Result (Check × Option Step) RowFault
+passed meter check row = passed_by meter check row (shape_of check row)

@@ -1,0 +1,62 @@
+//! Theorems about lists of rows in which each row may follow the rows before it. Each theorem is
+//! the contract of a function. The function's body calls the theorem that the proof needs, or is
+//! empty.
+ghost use Rattle.meter_journal.specs.Audit.Laws.{RowsOfJournalsFit, FittingRowsStandAlone};
+ghost use Rattle.meter_journal.specs.Audit.Laws.{FineTablesAreLawful, LawfulTablesAreFine};
+ghost use Rattle.meter_journal.specs.Audit.Laws.{PassedRowsFit, FittingRowsPass, RowsAreReportedApart};
+ghost use Rattle.meter_journal.specs.Audit.Going.{FinishedIsFine, RefusedIsNotFine};
+
+use crate::interval_rows_add_up;
+
+/// Theorem: the rules accept each row of a lawful journal after the rows before it, also voided
+/// rows. A journal is a meter's history.
+pub fn rows_of_journals_fit()
+    ensures { RowsOfJournalsFit }
+{}
+
+/// Theorem: if the rules accept each row of a list after the rows before it, the valid (not voided)
+/// rows alone form a lawful journal, a history that the rules accept.
+pub fn matching_rows_are_independent()
+    ensures { FittingRowsStandAlone }
+{}
+
+/// Theorem: consistent tables report the state of a lawful journal, a history that the rules
+/// accept. Their interval rows (the energies of quarter hours) therefore add up to their total
+/// energy.
+pub fn fine_tables_are_lawful()
+    ensures { FineTablesAreLawful }
+{
+    interval_rows_add_up();
+}
+
+/// Theorem: the tables of every lawful journal (a history that the rules accept) are consistent.
+pub fn lawful_tables_are_fine()
+    ensures { LawfulTablesAreFine }
+{}
+
+/// Theorem: a table row that passes the check encodes an entry row that the rules accept.
+pub fn passed_rows_fit()
+    ensures { PassedRowsFit }
+{}
+
+/// Theorem: the table row of an entry row that the rules accept passes the check.
+pub fn fitting_rows_pass()
+    ensures { FittingRowsPass }
+{}
+
+/// Theorem: two different lists of entry rows that the rules accept never have the same table rows.
+pub fn rows_are_distinct()
+    ensures { RowsAreReportedApart }
+{}
+
+/// Theorem: after all rows of a meter passed the check, the meter's tables are consistent if and
+/// only if their other values agree with the result of the check.
+pub fn finished_is_fine()
+    ensures { FinishedIsFine }
+{}
+
+/// Theorem: after the check refuses a row, no table that contains this row and the rows before it
+/// is consistent.
+pub fn refused_is_not_fine()
+    ensures { RefusedIsNotFine }
+{}

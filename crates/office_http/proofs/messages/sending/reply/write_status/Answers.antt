@@ -1,0 +1,7 @@
+use Rattle.office_http.proofs.MessagesLemmas.SendingLemmas.Giving.{Puts-then}
+use Rattle.office_http.proofs.messages.sending.reply.write_status.Goals as goal
+
+pub returns : goal.returns
+returns g c =
+    let all = Puts-then (Puts-then (Puts-then (Puts-then c.write_bytes.ensures c.write_number.ensures) c.write_bytes-2.ensures) c.write_bytes-3.ensures) c.write_bytes-4.ensures in
+    rw (c.from.ensures, c.number.ensures, c.reason.ensures) at all

@@ -1,0 +1,54 @@
+-- The contents of the buffer after the head or body of a request was read.
+use Rattle.std.specs.Prelude.{◌≡◌, ◌<◌, ◌≤◌, ℕ, false, ◌⊎◌, List, ◌++◌, length, Option, Result, Ok, Err}
+use Rattle.std.specs.Io.KnownBytes.{IsAtEnd}
+use Rattle.office_http.specs.Messages.Head.Heads.{IsOpenHead, Looks, is_open}
+use Rattle.office_http.specs.declared.messages.head.head.HeadState.{HeadState}
+use Rattle.office_http.specs.Messages.Reading.Taking.{Came, brought, bytes_in}
+use Rattle.mb_wire.specs.declared.link.LastTake.{LastTake}
+use Rattle.office_http.specs.declared.messages.reading.inbox.Inbox.{Inbox}
+use Rattle.office_http.specs.declared.messages.reading.inbox.TakeFault.{TakeFault}
+use Rattle.office_http.specs.declared.messages.reading.inbox.TakeFault.TheVariants.{Read, Short, TurnsUsed}
+
+-- After a read that failed with Short (the input ended early), the input has no bytes left.
+abbrev pub EndsAt : TakeFault → Option (List ℕ) → Type 0
+EndsAt Read after = Unit {0}
+EndsAt Short after = IsAtEnd after
+EndsAt TurnsUsed after = Unit {0}
+
+-- Either the buffer holds a complete or an invalid request head, or reading failed while the head
+-- was incomplete.
+abbrev pub ReadsHead : Result HeadState TakeFault → List ℕ → List ℕ → Option (List ℕ)
+    → Option (List ℕ) → Type 0
+ReadsHead (Ok head_state) old new before after =
+    Came old new before after × Looks new head_state × (is_open head_state ≡ false)
+ReadsHead (Err fault) old new before after =
+    Came old new before after × IsOpenHead new × EndsAt fault after
+
+-- Either the buffer holds at least `count` bytes, or reading failed and the buffer holds fewer.
+abbrev pub ReadsUpTo : ℕ → {X : Type 0} → Result X TakeFault → List ℕ → List ℕ → Option (List ℕ)
+    → Option (List ℕ) → Type 0
+ReadsUpTo count (Ok x) old new before after = Came old new before after × (count ≤ length new)
+ReadsUpTo count (Err fault) old new before after =
+    Came old new before after × (length new < count) × EndsAt fault after
+
+-- The buffer made no read: its count of reads and the link's last read are unchanged.
+pub record TakesNothing (old new : Inbox) (was now : Option LastTake) : Type 0 where
+  pub takes : new.takes ≡ old.takes
+  pub bytes : bytes_in new ≡ bytes_in old
+  pub last : now ≡ was
+
+-- The last read was necessary: the bytes before that read were incomplete, which the condition
+-- `GoesOn` says.
+pub record TakesWhatLacks (GoesOn : List ℕ → Type 0) (old new : List ℕ) (now : Option LastTake) :
+    Type 0 where
+  pub earlier : List ℕ
+  pub chunk : List ℕ
+  pub goes_on : GoesOn (old ++ earlier)
+  pub bytes : new ≡ (old ++ earlier) ++ chunk
+  pub size : length chunk ≡ brought now
+
+-- The buffer made no read after its bytes were complete: either it made no read at all, or its
+-- bytes were incomplete before the last read.
+abbrev pub StopsAtOnce : (List ℕ → Type 0) → Inbox → Inbox → (was now : Option LastTake) → Type 0
+StopsAtOnce GoesOn old new was now =
+    TakesNothing old new was now ⊎ TakesWhatLacks GoesOn (bytes_in old) (bytes_in new) now

@@ -1,0 +1,18 @@
+-- A stored response, which is sent again only to an equal request, and unchanged.
+use Rattle.std.specs.Prelude.{◌≡◌, ℕ, true, List, Option, Some, None}
+use Rattle.std.specs.Str.{bytes_eq}
+use Rattle.office_running.specs.declared.http.repeats.Replied.{Replied}
+
+-- The stored pair `it` has this request and this response.
+pub record IsOf (request reply : List ℕ) (it : Replied) : Type 0 where
+  pub request_is : it.request.items ≡ request
+  pub reply_is : it.reply.items ≡ reply
+
+-- The request is equal to the stored request, and the response is the stored response.
+pub record IsSame (it : Replied) (request reply : List ℕ) : Type 0 where
+  pub same : bytes_eq it.request.items request ≡ true
+  pub reply_is : reply ≡ it.reply.items
+
+abbrev pub WasReplied : Option Replied → (request reply : List ℕ) → Type 0
+WasReplied None request reply = ⊥
+WasReplied (Some it) request reply = IsSame it request reply

@@ -1,0 +1,279 @@
+-- The response of each route of `sunreg run`, and the response to a request.
+use Rattle.std.specs.Prelude.{◌≡◌, ◌⊎◌, ℕ, true, false, Bool, List, [], Option, Some, None, Result, Ok, Err, OnOk, codes}
+use Rattle.std.specs.List.{find}
+use Rattle.std.specs.Option.{option_and_then}
+use Rattle.std.specs.declared.alloc.AllocError.{AllocError}
+use Rattle.std.specs.declared.alloc.Global.{Global}
+use Rattle.std.specs.declared.vec.Vec.{Vec}
+use Rattle.carried_books.specs.declared.joining.earlier.EarlierRegister.{EarlierRegister}
+use Rattle.energy_report.specs.declared.form.ReportForm.{ReportForm}
+use Rattle.office_http.specs.Messages.Sending.Bodies.{fault_text}
+use Rattle.office_http.specs.Messages.Hosts.{texts}
+use Rattle.office_http.specs.Messages.Routing.Routes.{Table}
+use Rattle.office_http.specs.declared.messages.status.Status.TheVariants.{Unavailable}
+use Rattle.interval_core.specs.Lines.{intervals_text}
+use Rattle.interval_core.specs.declared.shares.Share.{Share}
+use Rattle.interval_core.specs.declared.zone.Zone.{Zone}
+use Rattle.office_books.specs.Ledgers.{Ledger}
+use Rattle.office_books.specs.declared.spans.Span.TheVariants.{Between}
+use Rattle.office_core.specs.Asking.{OnlyAsks, ReportsRow}
+use Rattle.office_core.specs.Parts.{entries_within, intervals_within, meters_named}
+use Rattle.office_core.specs.declared.office.Office.{Office}
+use Rattle.office_events.specs.declared.questions.Installation.{Installation}
+use Rattle.office_events.specs.declared.refusals.Refusal.{Refusal}
+use Rattle.office_http.specs.Serving.{Lasts}
+use Rattle.office_books.specs.Facts.{is_named}
+use Rattle.office_books.specs.Meters.{meter_of}
+use Rattle.run_http.specs.Answer.{Asks}
+use Rattle.office_running.specs.Http.Clients.{OnlyQueries}
+use Rattle.office_running.specs.Http.EnergyOver.{RepliesEnergyOver}
+use Rattle.office_running.specs.Http.KeptRoom.{Rejects}
+use Rattle.run_http.specs.MeterReplies.{RepliesRows}
+use Rattle.run_http.specs.MetricsReply.{with_metrics_reply}
+use Rattle.run_http.specs.OfficeRequests.{AsksAllRows}
+use Rattle.run_http.specs.Pieces.{BeginsReply, with_all_rows, with_rows}
+use Rattle.run_http.specs.RegisterReplies.{RepliesEnergy}
+use Rattle.office_running.specs.Http.SiteOver.{with_site_over}
+use Rattle.run_http.specs.SiteReply.{RepliesSite}
+use Rattle.run_http.specs.StatusRoute.{AsksEnergy, IsFor, with_reply, with_route_reply}
+use Rattle.run_http.specs.Texts.MeterLines.{entries_text, voids_text}
+use Rattle.run_http.specs.Texts.RegisterLines.{meters_text}
+use Rattle.run_http.specs.Voids.{voids_of}
+use Rattle.run_http.specs.declared.answer.ClientResponse.{ClientResponse}
+use Rattle.run_http.specs.declared.answer.ClientResponse.TheVariants.{Open, Replied, Failed}
+use Rattle.run_http.specs.declared.meter_replies.TheConstants.{MOST_ENTRIES}
+use Rattle.run_http.specs.declared.pieces.RemainingRows.{RemainingRows}
+use Rattle.run_http.specs.declared.route.RunRoute.{RunRoute}
+use Rattle.run_http.specs.declared.route.RunRoute.TheVariants.{Own, Metrics, Site, Intervals, Entries, Voids, Energy, Meters}
+use Rattle.office_running.specs.Http.Repeats.{WasReplied}
+use Rattle.office_running.specs.declared.http.http_port.HttpPort.{HttpPort}
+use Rattle.office_running.specs.declared.http.repeats.Replied as stored
+use Rattle.office_running.specs.declared.http.run_context.RunContext.{RunContext}
+
+-- The response with the energy of an accounting register: over the earlier database files and the
+-- current file if earlier files have the register (`earlier`), and otherwise from the current file
+-- alone.
+abbrev pub RepliesDays : {B : Type 0} → (B → Ledger) → (old new : Office B) → Zone
+    → (earlier : Option EarlierRegister) → (register : Option (List ℕ)) → ReportForm
+    → (from to : List ℕ) → {E : Type 0} → Result (Unit {0}) E → Type 0
+RepliesDays ledger old new zone None register form from to result =
+    RepliesEnergy ledger old new register form from to result
+RepliesDays ledger old new zone (Some it) register form from to result =
+    RepliesEnergyOver ledger old new zone it.days it.name form from to result
+
+-- The call queries the store as the route asks, which changes no record. It appends the complete
+-- response of the route, unless memory runs out.
+abbrev pub RepliesRoute : {B : Type 0} → (B → Ledger) → (old new : Office B) → RunContext
+    → RunRoute → (from to : List ℕ) → {E : Type 0} → Result (Unit {0}) E → Type 0
+RepliesRoute ledger old new context (Own route) from to result =
+    let monitor = context.monitor.now in
+    (new ≡ old) × OnOk result (to
+    ≡ with_route_reply route monitor.counts monitor.states.items context.lacks.now from)
+RepliesRoute ledger old new context Metrics from to result =
+    let monitor = context.monitor.now in
+    RepliesSite ledger old new (with_metrics_reply monitor.counts monitor.states.items)
+    from to result
+RepliesRoute ledger old new context Site from to result =
+    RepliesSite ledger old new (with_site_over context.earlier.now.registers.now context.at.moment)
+    from to result
+RepliesRoute ledger old new context (Intervals meter span) from to result =
+    RepliesRows ledger old new (λ facts. intervals_within facts meter span) intervals_text
+    from to result
+RepliesRoute ledger old new context (Entries meter first) from to result =
+    RepliesRows ledger old new (λ facts. entries_within facts meter first MOST_ENTRIES)
+    entries_text from to result
+RepliesRoute ledger old new context (Voids meter) from to result =
+    RepliesRows ledger old new (λ facts. voids_of facts meter) voids_text from to result
+RepliesRoute ledger old new context (Energy register form) from to result =
+    let earlier = context.earlier.now in
+    RepliesDays ledger old new earlier.zone
+    (find (λ it. is_named register it.name) earlier.registers.now) register form from to result
+RepliesRoute ledger old new context (Meters register) from to result =
+    RepliesRows ledger old new (λ facts. meters_named facts register) meters_text
+    from to result
+
+-- The client gets the complete response of the route. If memory ran out while it was built, the
+-- client gets nothing.
+abbrev pub RespondsByRoute : {B : Type 0} → (B → Ledger) → (old new : Office B) → RunContext
+    → RunRoute → ClientResponse → Type 0
+RespondsByRoute ledger old new context route Open = ⊥
+RespondsByRoute ledger old new context route (Replied text) =
+    RepliesRoute ledger old new context route [] text.items {E = AllocError} (Ok tt)
+RespondsByRoute ledger old new context route Failed =
+    (text : List ℕ) × (fault : AllocError)
+    × RepliesRoute ledger old new context route [] text (Err fault)
+
+-- ---- Responses with many quarter hours, which are sent in chunks.
+
+-- The effect of beginning a streamed response with `text`: `after` has the rows of later chunks. If
+-- the program refused the query, there is no response yet. If memory ran out, the response is
+-- `Failed`.
+abbrev pub IsBegunWith : (text : Vec ℕ Global) → Result (Result RemainingRows Refusal) AllocError
+    → (before after : Option RemainingRows) → Option ClientResponse → Type 0
+IsBegunWith text (Ok (Ok left)) before after response =
+    (after ≡ Some left) × (response ≡ Some (Replied text))
+IsBegunWith text (Ok (Err why)) before after response =
+    (after ≡ before) × (response ≡ None)
+IsBegunWith text (Err fault) before after response =
+    (after ≡ before) × (response ≡ Some Failed)
+
+-- The client gets the first chunk of the response with the quarter hours of the meter from `from`
+-- until `till`, and `after` has the rows for its later chunks. Or memory ran out, and the client
+-- gets nothing.
+pub record BeginsRows {B : Type 0} (ledger : B → Ledger) (old new : Office B)
+    (meter : Option (List ℕ)) (from till : ℕ) (reply : List Share → List ℕ)
+    (before after : Option RemainingRows) (response : ClientResponse) : Type 0 where
+  pub it : Installation
+  pub mid : Office B
+  pub found : ReportsRow ledger old mid (Ok it) (λ facts. option_and_then (meter_of facts) meter)
+  pub asks : OnlyAsks ledger old mid (Ok it)
+  pub text : Vec ℕ Global
+  pub result : Result (Result RemainingRows Refusal) AllocError
+  pub begins : BeginsReply ledger mid new it from till reply text.items result
+  pub is : IsBegunWith text result before after (Some response)
+
+-- Either the call begins a streamed response with the quarter hours of a meter, or it only queries
+-- the store. In the second case, the caller makes the response.
+abbrev pub MayBeginRows : {B : Type 0} → (B → Ledger) → (old new : Office B)
+    → (meter : Option (List ℕ)) → (from till : ℕ) → (reply : List Share → List ℕ)
+    → (before after : Option RemainingRows) → Option ClientResponse → Type 0
+MayBeginRows ledger old new meter from till reply before after None =
+    OnlyQueries ledger old new × (after ≡ before)
+MayBeginRows ledger old new meter from till reply before after (Some response) =
+    BeginsRows ledger old new meter from till reply before after response
+
+-- The call begins the response of a route with the quarter hours of a meter.
+pub record BeginsRoute {B : Type 0} (ledger : B → Ledger) (old new : Office B) (route : RunRoute)
+    (before after : Option RemainingRows) (response : ClientResponse) : Type 0 where
+  pub meter : Option (List ℕ)
+  pub from : ℕ
+  pub till : ℕ
+  pub is : route ≡ Intervals meter (Between from till)
+  pub begins : BeginsRows ledger old new meter from till (with_rows []) before after response
+
+-- Either the call begins a streamed response of a route with quarter hours, or it only queries the
+-- store. In the second case, the caller makes the response.
+abbrev pub MayBeginRoute : {B : Type 0} → (B → Ledger) → (old new : Office B) → RunRoute
+    → (before after : Option RemainingRows) → Option ClientResponse → Type 0
+MayBeginRoute ledger old new route before after None =
+    OnlyQueries ledger old new × (after ≡ before)
+MayBeginRoute ledger old new route before after (Some response) =
+    BeginsRoute ledger old new route before after response
+
+-- The call begins the response with all quarter hours of the meter that the request names.
+pub record BeginsAll {B : Type 0} (ledger : B → Ledger) (old new : Office B) (table : Table)
+    (request : List ℕ) (before after : Option RemainingRows) (response : ClientResponse)
+    : Type 0 where
+  pub meter : Option (List ℕ)
+  pub asks : AsksAllRows table request meter
+  pub begins : BeginsRows ledger old new meter 0 18446744073709551615 (with_all_rows [])
+      before after response
+
+-- Either the call begins a streamed response with all quarter hours of a meter, or it only queries
+-- the store. In the second case, the caller makes the response.
+abbrev pub MayBeginAll : {B : Type 0} → (B → Ledger) → (old new : Office B) → Table
+    → (request : List ℕ) → (before after : Option RemainingRows) → Option ClientResponse → Type 0
+MayBeginAll ledger old new table request before after None =
+    OnlyQueries ledger old new × (after ≡ before)
+MayBeginAll ledger old new table request before after (Some response) =
+    BeginsAll ledger old new table request before after response
+
+-- ---- The response to a request.
+
+-- The client gets status 503, which rejects a command, or nothing if memory ran out.
+abbrev pub IsUnavailable : ClientResponse → Type 0
+IsUnavailable Open = ⊥
+IsUnavailable (Replied text) =
+    text.items ≡ with_reply Unavailable (codes "application/json") (fault_text Unavailable) []
+IsUnavailable Failed = Unit {0}
+
+-- The client gets the complete response of the route. Before that, the program may only query its
+-- store.
+pub record RespondsWhole {B : Type 0} (ledger : B → Ledger) (old new : Office B)
+    (context : RunContext) (route : RunRoute) (response : ClientResponse)
+    : Type 0 where
+  pub mid : Office B
+  pub looks : OnlyQueries ledger old mid
+  pub responds : RespondsByRoute ledger mid new context route response
+
+-- The response of a route of `sunreg run`: the complete response, or the first chunk of a long
+-- response.
+abbrev pub BeginsResponse : {B : Type 0} → (B → Ledger) → (old new : Office B) → RunContext
+    → RunRoute → (before after : Option RemainingRows) → ClientResponse → Type 0
+BeginsResponse ledger old new context route before after response =
+    BeginsRoute ledger old new route before after response
+    ⊎ ((after ≡ before) × RespondsWhole ledger old new context route response)
+
+-- The program executes a request for which the crate `office_http` has the route. Before that, the
+-- program may only query its store.
+pub record Executes {B : Type 0} (ledger : B → Ledger) (at : ℕ) (old new : Office B)
+    (request : List ℕ) (response : ClientResponse) : Type 0 where
+  pub mid : Office B
+  pub looks : OnlyQueries ledger old mid
+  pub asks : Asks ledger at mid new request response
+  pub lasts : Lasts ledger mid new
+
+-- The response to a request for which the crate `office_http` has the route. If `rejects` is true,
+-- the request is a rejected command: it changes nothing and gets status 503.
+abbrev pub RespondsToOffice : {B : Type 0} → (B → Ledger) → (at : ℕ) → (old new : Office B)
+    → Table → (request : List ℕ) → (before after : Option RemainingRows) → (rejects : Bool)
+    → ClientResponse → Type 0
+RespondsToOffice ledger at old new table request before after true response =
+    (new ≡ old) × (after ≡ before) × IsUnavailable response
+RespondsToOffice ledger at old new table request before after false response =
+    BeginsAll ledger old new table request before after response
+    ⊎ ((after ≡ before) × Executes ledger at old new request response)
+
+-- The response to a request that no route of `sunreg run` matches. A command is rejected if the
+-- limit `left` for stored commands is reached, or if a file of the store is missing.
+pub record ExecutesUnlessRejected {B : Type 0} (ledger : B → Ledger) (at : ℕ) (old new : Office B)
+    (table : Table) (left : ℕ) (is_lost : Bool) (request : List ℕ)
+    (before after : Option RemainingRows) (response : ClientResponse) : Type 0 where
+  pub rejects : Bool
+  pub tests : Rejects left is_lost request rejects
+  pub responds : RespondsToOffice ledger at old new table request before after rejects response
+
+-- The response to a request, by the route of `sunreg run` that matches it. If none matches, the
+-- program executes the request, or rejects it as a command that may not be stored.
+abbrev pub RespondsBy : {B : Type 0} → (B → Ledger) → HttpPort → (old new : Office B)
+    → (request : List ℕ) → RunContext → Option RunRoute
+    → (before after : Option RemainingRows) → ClientResponse → Type 0
+RespondsBy ledger port old new request context None before after response =
+    ExecutesUnlessRejected ledger context.at.moment old new port.router port.room.left port.is_lost
+    request before after response
+RespondsBy ledger port old new request context (Some route) before after response =
+    BeginsResponse ledger old new context route before after response
+
+-- The client gets the response of the route that its own request names. A request with a rejected
+-- host has a route whose response is an error.
+pub record RespondsTo {B : Type 0} (ledger : B → Ledger) (port : HttpPort) (old new : Office B)
+    (request : List ℕ) (context : RunContext) (before after : Option RemainingRows)
+    (response : ClientResponse) : Type 0 where
+  pub route : Option RunRoute
+  pub finds : IsFor (texts context.names.now) request route
+  pub responds : RespondsBy ledger port old new request context route before after response
+
+-- The client gets the stored response of the port, whose request is equal to this one.
+abbrev pub IsStored : Option stored.Replied → (request : List ℕ) → ClientResponse → Type 0
+IsStored stored request Open = ⊥
+IsStored stored request (Replied text) = WasReplied stored request text.items
+IsStored stored request Failed = ⊥
+
+-- The client gets the stored response to an equal request, without a query to the store, or the
+-- response that the program makes for this request. Only a request for energy gets a stored
+-- response, so the program executes every command.
+abbrev pub RespondsAgain : {B : Type 0} → (B → Ledger) → HttpPort → (old new : Office B)
+    → (request : List ℕ) → RunContext → (before after : Option RemainingRows) → ClientResponse
+    → Type 0
+RespondsAgain ledger port old new request context before after response =
+    (AsksEnergy (texts context.names.now) request true × (new ≡ old) × (after ≡ before)
+    × IsStored port.repeats.latest request response)
+    ⊎ RespondsTo ledger port old new request context before after response
+
+-- The program made the response to this request or had it stored, and did nothing else to its
+-- store. So nothing but the request of this client can change the store.
+pub record Answers {B : Type 0} (ledger : B → Ledger) (port : HttpPort) (old new : Office B)
+    (request : List ℕ) (context : RunContext) : Type 0 where
+  pub after : Option RemainingRows
+  pub response : ClientResponse
+  pub is : RespondsAgain ledger port old new request context None after response

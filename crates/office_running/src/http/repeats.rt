@@ -1,0 +1,81 @@
+//! Stores a response, and returns it again for an equal request until the store records something.
+ghost use Rattle.std.specs.Prelude.{◌≡◌, IfSome, None};
+ghost use Rattle.office_running.specs.Http.Repeats as repeats;
+
+use std::alloc::Global;
+
+// The most bytes of a stored response. An energy report by month is shorter.
+const MOST_BYTES: usize = 65_536;
+
+/// A request and the response to it.
+#[derive(Drop)]
+pub(crate) struct Replied {
+    pub(crate) request: Vec<u8>,
+    pub(crate) reply: Vec<u8>,
+}
+
+/// The latest response about energy. The energy of an accounting register is summed over all its
+/// rows, and many clients with equal queries would repeat that sum.
+#[derive(Drop)]
+pub(crate) struct Repeats {
+    pub(crate) latest: Option<Replied>,
+}
+
+// Copies a request and the response to it. Returns `None` if memory runs out.
+fn copied(alloc: Global, request: &[u8], reply: &[u8]) -> Option<Replied>
+    ensures { IfSome result (λ it. repeats.IsOf request.now reply.now it) }
+{
+    let Ok(request) = Vec::from_slice(alloc, request) else {
+        return None;
+    };
+    match Vec::from_slice(alloc, reply) {
+        Ok(reply) => Some(Replied { request, reply }),
+        Err(_) => None,
+    }
+}
+
+impl Repeats {
+    /// Makes the state without a stored response.
+    pub(crate) fn new() -> Repeats
+        ensures { result.latest ≡ None }
+    {
+        Repeats { latest: None }
+    }
+
+    /// Replaces the stored response. Only a response with status 200 and at most 64 KiB is stored,
+    /// and only if memory suffices.
+    pub(crate) fn keep(&mut self, alloc: Global, request: &[u8], reply: &[u8])
+        ensures { IfSome self.new.latest (λ it. repeats.IsOf request.now reply.now it) }
+    {
+        self.latest = if reply.len() <= MOST_BYTES && reply.starts_with(b"HTTP/1.1 200 ") {
+            copied(alloc, request, reply)
+        } else {
+            None
+        };
+    }
+
+    /// Drops the stored response.
+    pub(crate) fn forget(&mut self)
+        ensures { self.new.latest ≡ None }
+    {
+        self.latest = None;
+    }
+
+    /// Returns a copy of the stored response if the request is equal to the stored request, byte
+    /// for byte. Returns `None` otherwise, or if memory runs out.
+    pub(crate) fn again(&self, alloc: Global, request: &[u8]) -> Option<Vec<u8>>
+        ensures { IfSome result (λ reply.
+            repeats.WasReplied self.now.latest request.now reply.items) }
+    {
+        let Some(latest) = &self.latest else {
+            return None;
+        };
+        if latest.request.as_slice() != request {
+            return None;
+        }
+        match Vec::from_slice(alloc, &latest.reply) {
+            Ok(reply) => Some(reply),
+            Err(_) => None,
+        }
+    }
+}

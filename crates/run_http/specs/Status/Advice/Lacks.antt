@@ -1,0 +1,120 @@
+-- Finds what is missing in the store for a polled device: the device, its point list (the registers
+-- to poll), an accounting register, or an open meter. The program records energy only if nothing is
+-- missing for it.
+use Rattle.std.specs.Prelude.{◌≡◌, ℕ, Bool, true, false, not, if◌then◌else◌, List, [], ◌∷◌, ◌++◌, length, ◌==◌, reverse, Option, Some, None, is_none, is_some, Result, OnOk}
+use Rattle.std.specs.Option.{option_and_then}
+use Rattle.std.specs.List.{flat_map, list_any}
+use Rattle.read_plan.specs.PlannedLists.{Planned}
+use Rattle.read_plan.specs.declared.planned_reads.PlannedRead.{PlannedRead}
+use Rattle.office_events.specs.declared.facts.Device.{Device}
+use Rattle.office_events.specs.declared.facts.Fact.{Fact}
+use Rattle.office_events.specs.declared.facts.Register.{Register}
+use Rattle.office_events.specs.declared.questions.Installation.{Installation}
+use Rattle.office_books.specs.Facts.{devices_in, list_of, registers_of, same}
+use Rattle.office_books.specs.Meters.{if_open, open_at}
+use Rattle.office_books.specs.Readings.{is_read_by}
+use Rattle.office_books.specs.Ledgers.{KeepsFacts, Ledger}
+use Rattle.run_http.specs.declared.status.advice.lacks.Lack.{Lack}
+use Rattle.run_http.specs.declared.status.advice.lacks.Lack.TheVariants.{NoDevice, NoList, NoRegister, NotInList, NoMeter}
+use Rattle.run_http.specs.declared.status.advice.lacks.DeviceLack.{DeviceLack}
+
+-- A device, and one thing that is missing for the device in the store.
+abbrev pub lack_of : (device : Option (List ℕ)) → Lack → DeviceLack
+lack_of device lack = record { device = device; lack = lack }
+
+-- A list with `lack` of the device if `lacking` is true, otherwise an empty list.
+abbrev pub lacks_if : (lacking : Bool) → (device : List ℕ) → Lack → List DeviceLack
+lacks_if true device lack = lack_of (Some device) lack ∷ []
+lacks_if false device lack = []
+
+-- True if one of the planned reads covers the two Modbus registers of the accounting register's
+-- counter, and the Modbus registers of its scale.
+abbrev pub is_read : List PlannedRead → Register → Bool
+is_read reads register = list_any (λ read. is_read_by read.span register) reads
+
+-- True if a read of the point list covers the accounting register. Also true without a point list,
+-- because the program then reports the missing list.
+abbrev pub is_in_list : Option Planned → Register → Bool
+is_in_list None register = true
+is_in_list (Some list) register = is_read list.reads register
+
+-- True if the installation exists and its meter is open.
+abbrev pub is_open : Option Installation → Bool
+is_open row = is_some (option_and_then if_open row)
+
+-- True if a meter is open at the accounting register.
+abbrev pub has_meter : List Fact → Register → Bool
+has_meter known register = is_some (open_at known register.name)
+
+-- What one accounting register of a device lacks: a read of the point list that covers it, or an
+-- open meter.
+abbrev pub lacks_of_register : List Fact → (device : List ℕ) → Option Planned → Register
+    → List DeviceLack
+lacks_of_register known device list register =
+    lacks_if (not (is_in_list list register)) device (NotInList register)
+    ++ lacks_if (not (has_meter known register)) device (NoMeter register)
+
+-- What all accounting registers of a device lack.
+abbrev pub lacks_of_registers : List Fact → (device : List ℕ) → Option Planned → List Register
+    → List DeviceLack
+lacks_of_registers known device list registers =
+    flat_map (lacks_of_register known device list) registers
+
+-- What a device lacks: a point list, an accounting register, and what each of its accounting
+-- registers lacks.
+abbrev pub lacks_by : List Fact → (device : List ℕ) → Option Planned → List Register
+    → List DeviceLack
+lacks_by known device list registers =
+    lacks_if (is_none list) device NoList
+    ++ lacks_if (length registers == 0) device NoRegister
+    ++ lacks_of_registers known device list registers
+
+-- What a device lacks by the records of the store.
+abbrev pub lacks_of_device : List Fact → (device : List ℕ) → List DeviceLack
+lacks_of_device known device =
+    lacks_by known device (list_of known device) (registers_of known device)
+
+-- True if one of the devices has this name.
+abbrev pub has_name : (name : List ℕ) → List Device → Bool
+has_name name devices = list_any (λ device. same device.name name) devices
+
+-- True if the store has a device of this name.
+abbrev pub has_device : List Fact → (name : List ℕ) → Bool
+has_device known name = has_name name (reverse (devices_in known))
+
+-- What the device with this name lacks: `NoDevice` if the store does not have the device.
+abbrev pub lacks_of_name : List Fact → (name : List ℕ) → List DeviceLack
+lacks_of_name known name =
+    if has_device known name then lacks_of_device known name
+    else lacks_if true name NoDevice
+
+-- What a device with an optional name lacks. The name is None if it is not valid.
+abbrev pub lacks_of : List Fact → Option (List ℕ) → List DeviceLack
+lacks_of known None = lack_of None NoDevice ∷ []
+lacks_of known (Some name) = lacks_of_name known name
+
+-- What these devices lack, one device after the other.
+abbrev pub lacks_of_all : List Fact → List (Option (List ℕ)) → List DeviceLack
+lacks_of_all known devices = flat_map (lacks_of known) devices
+
+-- ---- The effect of lookups in the store.
+
+-- A lookup changes no record of the store and no time zone. A store that has returned wrong data
+-- stays marked as not clean (`is_clean`).
+pub record LooksUp (old new : Ledger) : Type 0 where
+  pub keeps : KeepsFacts old new
+  pub clean : new.is_clean → old.is_clean
+  pub zone : new.zone ≡ old.zone
+
+-- On success, everything that is missing for the devices (`says`) was appended to the list. On an
+-- error, the appended items may be incomplete.
+abbrev pub Adds : {T E : Type 0} → (old new : Ledger) → (List Fact → List DeviceLack)
+    → (before after : List DeviceLack) → Result T E → Type 0
+Adds old new says before after result = (known : List Fact) → old.holds known → new.is_clean
+    → OnOk result (after ≡ before ++ says known)
+
+-- On success, `lack` of the device was appended to the list if `lacking` is true.
+abbrev pub AddsOne : {T E : Type 0} → (device : List ℕ) → Lack → (lacking : Bool)
+    → (before after : List DeviceLack) → Result T E → Type 0
+AddsOne device lack lacking before after result =
+    OnOk result (after ≡ before ++ lacks_if lacking device lack)

@@ -1,0 +1,49 @@
+-- The JSON of what devices lack, in `/status`. Each definition appends to a text.
+use Rattle.std.specs.Prelude.{ℕ, List, [], ◌∷◌, ◌++◌, Option, Some, None, codes}
+use Rattle.office_events.specs.declared.facts.Register.{Register}
+use Rattle.run_http.specs.declared.status.advice.lacks.DeviceLack.{DeviceLack}
+use Rattle.run_http.specs.declared.status.advice.lacks.Lack.{Lack}
+use Rattle.run_http.specs.declared.status.advice.lacks.Lack.TheVariants.{NoDevice, NoList, NoRegister, NotInList, NoMeter}
+
+-- The text with `before` and the name appended. Without a name, only `before` is appended.
+abbrev pub with_name : (before text : List ℕ) → Option (List ℕ) → List ℕ
+with_name before text None = text ++ before
+with_name before text (Some name) = text ++ before ++ name
+
+-- The text with `before` and the name of the device that lacks something appended.
+abbrev pub with_device : (before text : List ℕ) → DeviceLack → List ℕ
+with_device before text lack = with_name before text lack.device
+
+-- The text with `before` and the name of the accounting register appended, up to the end of its
+-- JSON object.
+abbrev pub with_register : (before text : List ℕ) → Register → List ℕ
+with_register before text register = text ++ before ++ register.name ++ codes "\"}"
+
+-- The JSON of one thing that a device lacks, with the accounting register that it concerns, if any.
+abbrev pub with_what : (text : List ℕ) → Lack → List ℕ
+with_what text NoDevice = text ++ codes "\",\"lack\":\"no_device\"}"
+with_what text NoList = text ++ codes "\",\"lack\":\"no_list\"}"
+with_what text NoRegister = text ++ codes "\",\"lack\":\"no_register\"}"
+with_what text (NotInList register) =
+    with_register (codes "\",\"lack\":\"not_in_list\",\"register\":\"") text register
+with_what text (NoMeter register) =
+    with_register (codes "\",\"lack\":\"no_meter\",\"register\":\"") text register
+
+-- The JSON of a device and one thing that it lacks.
+abbrev pub with_lack : (before text : List ℕ) → DeviceLack → List ℕ
+with_lack before text lack = with_what (with_device before text lack) lack.lack
+
+-- The JSON of devices and what they lack, each with a comma before it.
+abbrev pub with_more_lacks : (text : List ℕ) → List DeviceLack → List ℕ
+with_more_lacks text [] = text
+with_more_lacks text (lack ∷ lacks) =
+    with_more_lacks (with_lack (codes ",{\"device\":\"") text lack) lacks
+
+-- The JSON of devices and what they lack, with commas between them.
+abbrev pub with_each : (text : List ℕ) → List DeviceLack → List ℕ
+with_each text [] = text
+with_each text (lack ∷ lacks) = with_more_lacks (with_lack (codes "{\"device\":\"") text lack) lacks
+
+-- The JSON member `lacks` of `/status`: what devices lack in the store.
+abbrev pub with_lacks : (text : List ℕ) → List DeviceLack → List ℕ
+with_lacks text lacks = with_each (text ++ codes ",\"lacks\":[") lacks ++ codes "]"

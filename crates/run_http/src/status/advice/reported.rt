@@ -1,0 +1,164 @@
+//! Remembers, for each device and meter, the last error number that a message to the operator
+//! explained. A message is repeated only if the number changes.
+ghost use Rattle.std.specs.Prelude.{◌≡◌};
+ghost use Rattle.run_http.specs.Status.Advice.Reported as specs;
+
+use office_events::Name;
+use std::alloc::{AllocError, Global};
+
+/// The most devices and meters whose last reported number is remembered.
+pub const MOST_REPORTED: usize = 512;
+
+/// What the error number in a message is about.
+#[derive(Clone, Copy, PartialEq, Eq)]
+pub enum Topic {
+    /// The number says why the program refused a device's connection.
+    Connection,
+    /// The number says why the program refused another event of a device, or of no single device.
+    Round,
+    /// The number says why the program rejected a meter's reading.
+    Meter,
+}
+
+impl Topic {
+    ghost use Rattle.std.specs.Prelude.{◌≡◌};
+    ghost use Rattle.run_http.specs.Status.Advice.Reported.{topic_number};
+
+    // Returns the number of a topic, by which two topics are compared.
+    fn number(self) -> u8
+        ensures { result ≡ topic_number self }
+    {
+        match self {
+            Topic::Connection => 1,
+            Topic::Round => 2,
+            Topic::Meter => 3,
+        }
+    }
+}
+
+/// The error number in the latest message about a device or a meter; 0 if there was no message.
+#[derive(Clone, Copy, PartialEq, Eq)]
+pub struct ReportedNumber {
+    pub topic: Topic,
+    pub name: Option<Name>,
+    pub number: u8,
+}
+
+// Returns whether two optional names are equal. Two missing names are equal.
+fn is_same_name(a: &Option<Name>, b: &Option<Name>) -> bool
+    ensures { result ≡ specs.is_same_name a.now b.now }
+{
+    match (a, b) {
+        (None, None) => true,
+        (None, Some(_)) => false,
+        (Some(_), None) => false,
+        (Some(a), Some(b)) => a.is(b),
+    }
+}
+
+impl ReportedNumber {
+    ghost use Rattle.std.specs.Prelude.{◌≡◌};
+    ghost use Rattle.run_http.specs.Status.Advice.Reported as specs;
+
+    // Returns whether two entries have the same topic and the same device or meter.
+    fn is_of_same(&self, other: &ReportedNumber) -> bool
+        ensures { result ≡ specs.are_of_same self.now other.now }
+    {
+        self.topic.number() == other.topic.number() && is_same_name(&self.name, &other.name)
+    }
+}
+
+/// The last reported number of each device and meter. A number is reported only if it differs from
+/// the last reported number.
+#[derive(Drop)]
+pub struct Reported {
+    pub numbers: Vec<ReportedNumber>,
+}
+
+impl Reported {
+    ghost use Rattle.std.specs.Prelude.{◌≡◌, [], is_ok};
+    ghost use Rattle.run_http.specs.Status.Advice.Reported as specs;
+
+    /// Makes a list without any reported number.
+    pub fn new(alloc: Global) -> Reported
+        ensures { result.numbers.items ≡ [] }
+    {
+        Reported {
+            numbers: Vec::new(alloc),
+        }
+    }
+
+    // Returns the index of the entry with the topic and the device or meter of `reported`.
+    fn place_of(&self, reported: &ReportedNumber) -> Option<usize>
+        ensures { result ≡ specs.place_of reported.now self.now.numbers.items }
+    {
+        self.numbers.iter().position(|one| one.is_of_same(reported))
+    }
+
+    // Adds an entry for a device or meter if memory suffices.
+    fn push(&mut self, topic: Topic, name: Option<Name>, number: u8) -> Result<(), AllocError>
+        ensures { self.new.numbers.items
+            ≡ specs.pushed (is_ok result) (specs.reported_number topic name number)
+            self.old.numbers.items }
+    {
+        self.numbers.push(ReportedNumber {
+            topic,
+            name,
+            number,
+        })?;
+        Ok(())
+    }
+
+    // Adds an entry for a device or meter, and returns whether the list had room.
+    fn add(&mut self, reported: ReportedNumber) -> bool
+        ensures { specs.Adds reported self.old.numbers.items self.new.numbers.items result }
+    {
+        self.numbers.len() < MOST_REPORTED
+            && self
+                .push(reported.topic, reported.name, reported.number)
+                .is_ok()
+    }
+
+    // Replaces the number of the entry at an index, and returns whether the new number is
+    // different.
+    fn change(&mut self, place: usize, reported: ReportedNumber) -> bool
+        ensures { specs.Changes place reported self.old.numbers.items self.new.numbers.items result }
+    {
+        if place >= self.numbers.len() {
+            return false;
+        }
+        if self.numbers[place].number == reported.number {
+            return false;
+        }
+        self.numbers[place] = reported;
+        true
+    }
+
+    /// Records a number about a device or meter, and returns whether to report the number.
+    ///
+    /// A number is reported if it differs from the last number on the same topic. If the list has
+    /// no room for a device or meter, then no number about that device or meter is reported.
+    pub fn report_once(&mut self, reported: ReportedNumber) -> bool
+        ensures { specs.ReportsNumber reported self.old.numbers.items self.new.numbers.items result }
+    {
+        match self.place_of(&reported) {
+            Some(place) => self.change(place, reported),
+            None => self.add(reported),
+        }
+    }
+
+    /// Records that a device or meter works. Its next problem is then reported even if the number
+    /// of that problem equals the last number.
+    pub fn forget(&mut self, topic: Topic, name: Option<Name>)
+        ensures { specs.Forgets topic name self.old.numbers.items self.new.numbers.items }
+    {
+        let none = ReportedNumber {
+            topic,
+            name,
+            number: 0,
+        };
+        if let Some(place) = self.place_of(&none) {
+            let _changed = self.change(place, none);
+        }
+    }
+}
