@@ -1,5 +1,5 @@
-//! Joins the files of one office, the oldest first, to report an accounting register over all
-//! files.
+//! Joins several database files, the oldest first, to report an accounting register (a named
+//! counter) over all files.
 //!
 //! A meter continues from its state in the previous file. The module reports the register's meters
 //! and its energy by day.

@@ -1,5 +1,5 @@
-//! Begins a new store in which the meters of an old store continue, and reports on several stores
-//! of one office together.
+//! Begins a new database file in which the meters of an old file continue, and reports on several
+//! database files together.
 #![tactic(auto)]
 
 mod carrying;

@@ -10,8 +10,8 @@ use Rattle.command_io.specs.declared.status.ExitStatus.{ExitStatus}
 use Rattle.command_io.specs.declared.status.ExitStatus.TheVariants.{Fine, Refused, Failed}
 use Rattle.sun_points.specs.Writing.{GotPart}
 
--- If every output that satisfies `Prints` also satisfies `Other`, a command that prints according
--- to `Prints` also prints according to `Other`.
+-- If every output that the predicate `Prints` allows is also allowed by `Other`, then a command
+-- that prints according to `Prints` prints according to `Other`.
 pub prints_in : {P : Type 0} (p : printers.Ghosts P) (Prints Other : List ℕ → ExitStatus → Type 0) (status : ExitStatus) (old new : P)
     → ((printed : List ℕ) (meant : ExitStatus) → Prints printed meant → Other printed meant)
     → PrintsOn p Prints status old new → PrintsOn p Other status old new
@@ -64,7 +64,8 @@ pub unread_prints : {P : Type 0} (p : printers.Ghosts P) (input : Option (List �
 unread_prints p None Input status old new unread failed long = tt
 unread_prints p (Some all) Input status old new unread failed long = unread_reported p (Input all) all status old new unread failed (long all)
 
--- If a command builds its complete text before it prints, the built text satisfies `Prints`.
+-- If a command builds its complete text before it prints, the built text satisfies the predicate
+-- `Prints`.
 is_made : (Prints : List ℕ → ExitStatus → Type 0) (meant : ExitStatus) (begun made : List ℕ) → meant ≢ Failed → begun ≡ []
     → PrintsAs Prints meant (Some begun) (Some made) → Prints made meant
 is_made Prints meant begun made goes none prints =

@@ -3,11 +3,11 @@ use Rattle.std.specs.Prelude.{ℕ, List, take, Option}
 use Rattle.std.specs.Io.KnownBytes.{append_known}
 use Rattle.command_io.specs.declared.buffer.Buffered.{Buffered}
 
--- The inner writer of a buffered writer, to which the buffered bytes go.
+-- The inner writer of a buffered writer, which receives the buffered bytes.
 abbrev pub output_of : {W : Type 0} → Buffered W → W
 output_of b = b.output
 
--- The bytes that are in the buffer and that the inner writer has not accepted yet.
+-- The bytes in the buffer of a buffered writer, which the inner writer has not accepted yet.
 abbrev pub buffered_in : {W : Type 0} → Buffered W → List ℕ
 buffered_in b = take b.filled b.buffered
 

@@ -11,13 +11,13 @@ use Rattle.sun_points.specs.Writing.{GotPart}
 abbrev pub most_bytes : ℕ
 most_bytes = 4194304
 
--- States that the bytes are all unread bytes of the input. Says nothing if the reader's contract
--- does not say which these are.
+-- States that the bytes are all unread bytes of the input, if the reader's contract says which
+-- bytes are unread.
 abbrev pub AreWholeOf : {Z : Type 0} → (remaining : Option (List ℕ)) → (bytes : Vec ℕ Z) → Type 0
 AreWholeOf remaining bytes = IfSome remaining (λ all. bytes.items ≡ all)
 
--- States that the fault is `TooLong` only if the unread input exceeds `most_bytes`. Says nothing if
--- the reader's contract leaves the unread bytes open.
+-- States that the fault is `TooLong` only if the unread input exceeds `most_bytes`, if the reader's
+-- contract says which bytes are unread.
 abbrev pub BlamesLengthRightly : (remaining : Option (List ℕ)) → ReadFault → Type 0
 BlamesLengthRightly remaining fault =
     fault ≡ TooLong → IfSome remaining (λ all. most_bytes < length all)
@@ -40,8 +40,8 @@ EndsUnread input status old new =
     ((most_bytes < length input) × ReportsTooLong status old new)
     ⊎ ((status ≡ Failed) × Appends old new [])
 
--- States how a command ends if it could not read its input. Says nothing if the reader's contract
--- leaves the input's bytes open.
+-- States how a command ends if it could not read its input, if the reader's contract says which
+-- bytes the input has.
 abbrev pub LeavesUnread : (remaining : Option (List ℕ)) → (old new : Option (List ℕ)) → ExitStatus
     → Type 0
 LeavesUnread remaining old new status =

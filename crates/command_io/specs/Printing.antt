@@ -6,14 +6,14 @@ use Rattle.command_io.specs.declared.status.ExitStatus.{ExitStatus}
 use Rattle.command_io.specs.declared.status.ExitStatus.TheVariants.{Fine, Refused, Failed}
 use Rattle.sun_points.specs.Writing.{GotPart}
 
--- States that the output received a complete text that `Prints` allows for the exit status. Says
--- nothing if the status is `Failed`.
+-- States that the output received a complete text that the predicate `Prints` allows for the exit
+-- status. States nothing if the status is `Failed`.
 abbrev pub PrintsAs : (Prints : List ℕ → ExitStatus → Type 0) → ExitStatus
     → (old new : Option (List ℕ)) → Type 0
 PrintsAs Prints status old new =
     status ≢ Failed → (printed : List ℕ) × Appends old new printed × Prints printed status
 
--- States that the output received the complete text.
+-- States that the output of a command received the complete text.
 abbrev pub Printed : {P : Type 0} → printers.Ghosts P → (text : List ℕ) → (old new : P) → Type 0
 Printed p text old new = Appends (p.contents old) (p.contents new) text
 
@@ -35,8 +35,8 @@ EndsAs p text Failed Fine old new = ⊥
 EndsAs p text Failed Refused old new = ⊥
 EndsAs p text Failed Failed old new = new ≡ old
 
--- States that the output received a text that `Prints` allows for the exit status. With `Failed`,
--- the output received nothing, or a beginning of such a text because a write failed.
+-- States that the output received a text that the predicate `Prints` allows for the exit status.
+-- With `Failed`, the output received nothing, or a beginning of such a text because a write failed.
 abbrev pub PrintsOn : {P : Type 0} → printers.Ghosts P → (Prints : List ℕ → ExitStatus → Type 0)
     → ExitStatus → (old new : P) → Type 0
 PrintsOn p Prints Fine old new =
@@ -48,8 +48,8 @@ PrintsOn p Prints Failed old new =
     ⊎ ((printed : List ℕ) × (meant : ExitStatus) × BrokeOff p printed old new
     × Prints printed meant)
 
--- States that the output received a text that `Prints` allows for the input and the exit status of
--- a command.
+-- States that the output received a text that the predicate `Prints` allows for the input and the
+-- exit status of a command.
 abbrev pub PrintsFor : {P : Type 0} → printers.Ghosts P
     → (Prints : (input printed : List ℕ) → ExitStatus → Type 0) → ExitStatus → (old new : P)
     → (input : List ℕ) → Type 0

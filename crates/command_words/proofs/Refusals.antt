@@ -1,5 +1,5 @@
--- Proves that the function `refusal` maps each kind of `clap` error to the fault that the contract
--- requires.
+-- Proves that each kind of error of the argument parser `clap` is converted to the fault that the
+-- contract requires.
 use Rattle.std.proofs.Common.{◌≡◌, ◌≢◌, ◌∙◌, ◌⊎◌, inl, inr, List, [], ◌∷◌, rules, sym, subst}
 use Rattle.std.specs.Borrow.{Bor}
 use Rattle.clap.specs.Words.{IsAmong, Kinds, Text}

@@ -27,8 +27,8 @@ pub record Form : Type 0 where
   pub format : Option Format
   pub statement : Bool
 
--- What an audit does with a seal, which is a signed-off digest of a file's past. The audit uses no
--- seal, prints a new seal, or compares the file with a stored seal.
+-- What an audit of a database file does with a seal, a stored digest of the file's past. The audit
+-- uses no seal, prints a new seal, or compares the file with a stored seal.
 pub data Seal : Type 0 where
   Nothing : Seal
   Print : Seal
@@ -59,7 +59,7 @@ pub data Line : Type 0 where
   Explain : (what number : Text) → Line
   Completions : Line
 
--- Maps a runtime value of the type `FormWords` to its logical model `Form`, for contracts.
+-- Converts the options of a report from the program's type to the type in contracts.
 abbrev pub seen_form : FormWords → Form
 seen_form form = record {
   from = option_map (λ text. text.now) form.from;
@@ -70,13 +70,14 @@ seen_form form = record {
   statement = form.statement;
 }
 
--- Maps a runtime value of the type `Sealing` to its logical model `Seal`, for contracts.
+-- Converts what an audit does with a seal (a digest of a file's past) from the program's type to
+-- the type in contracts.
 abbrev pub seen_sealing : Sealing → Seal
 seen_sealing sealing.Nothing = Nothing
 seen_sealing sealing.Print = Print
 seen_sealing (sealing.Against file) = Against file.now
 
--- Maps a runtime value of the type `CommandLine` to its logical model `Line`, for contracts.
+-- Converts a parsed command line from the program's type to the type in contracts.
 abbrev pub seen : CommandLine → Line
 seen (line.Replay zone) = Replay zone.now
 seen (line.ReplayFile db) = ReplayFile db.now
@@ -105,7 +106,7 @@ seen (line.Run dbs listen every devices lasts carry earlier hosts most_kept verb
 seen (line.Explain what number) = Explain what.now number.now
 seen line.Completions = Completions
 
--- ---- options that several commands have
+-- Definitions of the options that several commands have.
 
 -- The time zone from the option `--zone`, by default `UTC0`.
 abbrev pub zone_in : List Row → Text
@@ -134,7 +135,7 @@ connections_in rows = number_at 1000000 (codes "connections") rows
 abbrev pub hosts_in : List Row → Option (List Text)
 hosts_in rows = host_names_of (texts_at (codes "host-name") rows)
 
--- ---- the parsed command line of each command, from its options
+-- Definitions of the parsed command line of each command, from its options.
 
 -- The command `replay` with a time zone or a file. None if both are given, because the file has its
 -- own zone.
@@ -173,7 +174,8 @@ round_in rows =
 abbrev pub unless_by : (statement : Bool) → Option Period → Form → Option Form
 unless_by statement period form = if statement && is_some period then None else Some form
 
--- Parses the options that set a report's form. None if an option is invalid.
+-- Parses the options of a report: days, period, unit and output format. None if an option is
+-- invalid.
 abbrev pub form_in : List Row → Option Form
 form_in rows =
     let from = text_at (codes "from") rows in
@@ -229,8 +231,8 @@ abbrev pub sealing_of : (prints : Bool) → (against : Option Text) → Option S
 sealing_of prints None = Some (if prints then Print else Nothing)
 sealing_of prints (Some file) = if prints then None else Some (Against file)
 
--- Parses the options `--seal` and `--against` of the command `audit`. None if both options are
--- given, because they exclude each other.
+-- Parses the options `--seal` and `--against` of the command `audit`, which print a file's digest
+-- or compare the file with one. None if both options are given.
 abbrev pub sealing_in : List Row → Option Seal
 sealing_in rows = sealing_of (is_set (codes "seal") rows) (text_at (codes "against") rows)
 

@@ -68,10 +68,10 @@ text_or otherwise id rows = unwrap_or (text_at id rows) otherwise
 abbrev pub is_set : Text → List Row → Bool
 is_set id rows = option_map_or (λ text. bytes_eq text (codes "true")) (text_at id rows) false
 
--- ---- host names in the values of options
+-- Definitions of host names in the values of options.
 
--- True if a byte may be in a host name. Such a byte is a letter, a digit, or one of `.`, `-`, `_`,
--- `:`, `[` and `]`.
+-- True if a host name may contain the byte: a letter, a digit, or one of `.`, `-`, `_`, `:`, `[`
+-- and `]`.
 abbrev pub is_host_byte : ℕ → Bool
 is_host_byte byte =
     is_ascii_alphanumeric byte || list_any (λ other. other == byte) (codes ".-_:[]")
@@ -82,7 +82,7 @@ abbrev pub is_host_name : Text → Bool
 is_host_name [] = false
 is_host_name (byte ∷ bytes) = list_all is_host_byte (byte ∷ bytes)
 
--- The list `names` if each name in the list is a host name, otherwise None.
+-- The list `names`, if each of the names is a host name, otherwise None.
 abbrev pub host_names_of : List Text → Option (List Text)
 host_names_of names = if list_all is_host_name names then Some names else None
 
@@ -102,8 +102,8 @@ IsDue (fault.Without option other) due = None ≡ due
 IsDue (fault.Device part fault) due = None ≡ due
 IsDue (fault.HostName word) due = None ≡ due
 
--- States that a function reads an option correctly. It returns the value that the model `due`
--- requires, or a fault that `IsDue` allows.
+-- States that a function reads an option correctly. It returns the required value `due`, or a fault
+-- that is allowed for this option.
 abbrev pub Reads : {T A : Type 0} → (T → A) → Option A → Result T ValueFault → Type 0
 Reads seen due result =
     MatchResult result (λ value. Some (seen value) ≡ due) (λ fault. IsDue fault due)

@@ -5,7 +5,7 @@ use std::error::Error;
 use std::fmt;
 use std::fmt::{Display, Formatter};
 
-/// A reason why the command rejects the value of an option.
+/// A reason why the program rejects the value of a command's option.
 #[derive(Clone, Copy, Drop)]
 pub enum ValueFault<'a> {
     /// The required option `option` has no value.
@@ -141,8 +141,8 @@ impl<'a> Display for ValueFault<'a> {
     }
 }
 
-// The message for the user. `Wrong` and `Help` contain it already, from `clap` or from a
-// `ValueFault`.
+// Writes the message for the user. For invalid arguments and requests for help, `clap` or the
+// rejected option value supplies the message.
 impl Display for WordsFault {
     fn fmt<W: fmt::Write>(&self, f: &mut Formatter<W>) -> fmt::Result {
         match self {

@@ -16,7 +16,7 @@ pub struct FormWords<'a> {
     pub statement: bool,
 }
 
-/// What an audit does with a seal, which is a signed-off digest of a file's past.
+/// What an audit of a database file does with a seal, a stored digest of the file's past.
 #[derive(Clone, Copy, Debug)]
 pub enum Sealing<'a> {
     /// The audit uses no seal (a digest of a file's past).
@@ -41,8 +41,7 @@ pub enum CommandLine<'a> {
     ReplayFile {
         db: &'a str,
     },
-    /// Prints the reading plan for a point list from standard input: the Modbus reads that cover
-    /// the list's points.
+    /// Prints the Modbus reads that cover the points of a point list from standard input.
     Plan,
     /// Prints the SunSpec models in a Modbus memory image from standard input.
     Chain,
@@ -134,7 +133,8 @@ pub enum CommandLine<'a> {
         port: u16,
         connections: u32,
     },
-    /// Executes a script whose devices are simulated in the same process.
+    /// Executes a script (a text of commands, events and queries) whose devices are simulated in
+    /// the same process.
     Loop {
         zone: &'a str,
     },

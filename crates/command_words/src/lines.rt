@@ -148,7 +148,8 @@ fn carry_line<'a>(found: &ArgMatches<'a>) -> Result<CommandLine<'a>, ValueFault<
     })
 }
 
-// Parses the options `--seal` and `--against` of `audit`. A seal is a digest of a file's past.
+// Parses the options `--seal` and `--against` of `audit`, which print a seal (a digest of a file's
+// past) or compare the file with a seal.
 fn sealing<'a>(found: &ArgMatches<'a>) -> Result<Sealing<'a>, ValueFault<'a>>
     ensures { Reads seen_sealing (sealing_in (rows_in found.now)) result }
 {

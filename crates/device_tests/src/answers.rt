@@ -5,8 +5,8 @@ use mb_device::{Area, Bank, Kind};
 use std::alloc::Global;
 use std::process::Abort;
 
-// Exchanges with a device whose register addresses have gaps. Its holding register 11 is 7, and
-// register 12 is 8.
+// The requests to a device whose register map has gaps, with the device's responses. Its holding
+// register 11 is 7, and register 12 is 8.
 static IN_GAPS: [Exchange; 6] = [
     Exchange {
         request: &[3, 0, 10, 0, 4],

@@ -28,8 +28,8 @@ fn windows_hold_1_to_16_polls(rt: HostRuntime) {
     fill(&rt, &mut Session::new(5, 16), 16)
 }
 
-/// Each timeout in seconds, with the events in the last second before the deadline and at the
-/// deadline of a poll started at 100.
+/// Each timeout in seconds, with the session events of a poll that is started at time 100. The
+/// events are in the last second before the deadline and at the deadline.
 static TIMEOUTS: [(u64, &[Line]); 4] = [
     (
         1,

@@ -5,7 +5,7 @@ use std::io::{self, Write};
 use std::process::Abort;
 use sun_chain::{Common, Image};
 
-// A model 1 at address 2, with two letters in each of four texts, and the device address 3.
+// A SunSpec model 1 at address 2, with two letters in each of four texts, and the device address 3.
 const LINES: [Line; 7] = [
     Line {
         address: 0,
@@ -37,7 +37,7 @@ const LINES: [Line; 7] = [
     },
 ];
 
-// A model 1 at address 2 whose points are all absent.
+// A SunSpec model 1 at address 2 whose points are all absent.
 const ABSENT: [Line; 3] = [
     Line {
         address: 0,
@@ -53,7 +53,7 @@ const ABSENT: [Line; 3] = [
     },
 ];
 
-// Returns the memory image of a device whose last model is a model 1 of this length.
+// Returns the memory image of a device whose last SunSpec model is a model 1 of this length.
 fn device(rt: &impl Abort, alloc: Global, lines: &[Line], length: u16) -> Image {
     let mut image = image_of(rt, alloc, lines);
     write_image(rt, &mut image, 3, &[length]);
@@ -61,7 +61,8 @@ fn device(rt: &impl Abort, alloc: Global, lines: &[Line], length: u16) -> Image 
     image
 }
 
-// Prints each text of a model 1 after its number of registers, and the device address.
+// Prints each text of a SunSpec model 1 after the text's number of registers, and then the device
+// address.
 fn print_common(common: &Common<'_>, output: &mut Vec<u8>) -> io::Result<()> {
     let texts = [
         common.manufacturer,
@@ -89,8 +90,8 @@ fn said(rt: &impl Abort, alloc: Global, image: &Image) -> Vec<u8> {
     output
 }
 
-// The lines of an image, the length of model 1 in registers, and the expected identity of the
-// device. A length of 66 includes a padding register.
+// The lines that describe a memory image, the length of SunSpec model 1 in registers, and the
+// expected identity of the device. A length of 66 includes a padding register.
 static SAYINGS: [(&[Line], u16, &str); 4] = [
     (&LINES, 66, "16 AB/16 CD/8 EF/8 GH/0 /3"),
     (&LINES, 65, "16 AB/16 CD/8 EF/8 GH/0 /3"),

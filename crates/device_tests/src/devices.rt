@@ -42,7 +42,7 @@ pub(crate) fn bank_with_nine(rt: &impl Abort, alloc: Global) -> Bank {
     bank
 }
 
-/// Returns whether the device responds to the request `pdu` with the bytes of `answer`.
+/// Returns whether the simulated device responds to the request `pdu` with the bytes of `answer`.
 pub(crate) fn answers(bank: &mut Bank, pdu: &[u8], answer: &[u8]) -> bool {
     if pdu.is_empty() || pdu.len() > 253 {
         return false;
@@ -52,8 +52,8 @@ pub(crate) fn answers(bank: &mut Bank, pdu: &[u8], answer: &[u8]) -> bool {
     out.get(..count) == Some(answer)
 }
 
-/// Asserts that the device responds to the request of each exchange with the response of that
-/// exchange.
+/// Asserts that the simulated device responds to the request of each exchange with the response of
+/// that exchange.
 pub(crate) fn answers_all(rt: &impl Abort, bank: &mut Bank, exchanges: &[Exchange]) {
     for (i, exchange) in exchanges.iter().enumerate() {
         assert!(rt;

@@ -1,5 +1,5 @@
-//! The example exchanges of the standard (Modbus Application Protocol V1.1b3, sections 6.1 to
-//! 6.12).
+//! The example exchanges of the Modbus standard (Modbus Application Protocol V1.1b3, sections 6.1
+//! to 6.12).
 
 /// The PDU of a request and the PDU of its response.
 pub(crate) struct Exchange {

@@ -57,7 +57,7 @@ impl io::Write for Narrow {
 }
 
 // Returns whether the writer received the first `room` bytes of the text, and the result is the
-// right error if the text is longer.
+// expected error if the text is longer.
 fn is_cut(output: &Narrow, outcome: io::Result<()>, room: usize, text: &str) -> bool {
     let all = text.as_bytes();
     let reported = match outcome {
@@ -85,7 +85,7 @@ fn a_scaled_value_is_cut(rt: HostRuntime) {
     }
 }
 
-// Points of each kind, and their texts at the scale factor -1.
+// SunSpec points of each kind, and their texts at the scale factor -1.
 static POINTS: [(Point<'static>, &str); 6] = [
     (Point::Absent, "absent"),
     (Point::Signed(-15), "-1.5"),
@@ -101,7 +101,7 @@ static POINTS: [(Point<'static>, &str); 6] = [
 ];
 
 // Returns whether a writer with room for `room` bytes received that part of a point's text, and the
-// result is right.
+// result is the expected one.
 fn cut_point(
     rt: &impl Abort,
     alloc: Global,
@@ -131,8 +131,8 @@ fn a_point_is_cut(rt: HostRuntime) {
 
 static TEXT: &[u8] = b"name,function,area,address,type,scale\na,3,0,5,int16,0\n";
 
-// Returns whether the writer received exactly the first `room` bytes of the list's text, and the
-// result is the fault `Write`.
+// Returns whether the writer received exactly the first `room` bytes of the point list's text, and
+// the result is the fault `Write`.
 fn fails_after(alloc: Global, list: &PointList, room: usize, fails: bool) -> bool {
     let mut output = Narrow::new(alloc, room, fails);
     write_list(alloc, list, &mut output) == Err(WriteListFault::Write)
@@ -140,7 +140,7 @@ fn fails_after(alloc: Global, list: &PointList, room: usize, fails: bool) -> boo
 }
 
 // A writer that fails or accepts no byte after `room` bytes has received exactly the first `room`
-// bytes of the list's text.
+// bytes of the point list's text.
 #[test]
 fn fails_at_each_byte(rt: HostRuntime) {
     let list = list_of(&rt, rt.alloc(), TEXT);

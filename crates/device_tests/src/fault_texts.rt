@@ -1,5 +1,6 @@
-//! Tests the English texts of the faults of frames, servers, sessions, images, scans, chains and
-//! point lists. For the faults that no golden test covers, also tests the numbers.
+//! Tests the English texts of the faults of frames, servers, sessions, memory images, scans, chains
+//! of models and point lists. For the faults that no golden test covers, also tests the numeric
+//! codes.
 use mb_device::{BankFault, ServeFault};
 use mb_wire::{ReplyFault, RequestFault};
 use point_list::{FaultyRow, FaultyRows, ListFault, RowFault, WriteListFault};
@@ -135,7 +136,8 @@ const LOST: [(LostCause, &str); 4] = [
     (LostCause::Restart, "the program was started again"),
 ];
 
-/// Each fault of a request or a response, and each kind of malformed outcome, has its text.
+/// Each fault of a request or a response, and each kind of malformed outcome, is printed as its
+/// expected text.
 #[test]
 fn frames(rt: HostRuntime) {
     assert_texts(&rt, rt.alloc(), &REQUESTS);
@@ -143,14 +145,14 @@ fn frames(rt: HostRuntime) {
     assert_texts(&rt, rt.alloc(), &MALFORMED)
 }
 
-/// Each fault of a device's areas (address ranges) or of a server has its text.
+/// Each fault of a device's areas (address ranges) or of a server is printed as its expected text.
 #[test]
 fn servers(rt: HostRuntime) {
     assert_texts(&rt, rt.alloc(), &BANKS);
     assert_texts(&rt, rt.alloc(), &SERVERS)
 }
 
-/// Each fault of starting a poll, and each cause of a lost poll, has its text.
+/// Each fault of starting a poll, and each cause of a lost poll, is printed as its expected text.
 #[test]
 fn sessions(rt: HostRuntime) {
     assert_texts(&rt, rt.alloc(), &STARTS);
@@ -230,7 +232,8 @@ const WRITES: [(WriteListFault, &str); 2] = [
     (WriteListFault::Memory, "memory ran out"),
 ];
 
-// Each fault of an image, a scan, a chain or a point list is printed as its expected text.
+// Each fault of a memory image, a scan, a chain of SunSpec models or a point list is printed as its
+// expected text.
 #[test]
 fn each_fault_has_its_text(rt: HostRuntime) {
     assert_texts(&rt, rt.alloc(), &IMAGES);
@@ -251,7 +254,7 @@ const FAULTY: [FaultyRow; 2] = [
     },
 ];
 
-// Returns the first `count` faulty rows of a list.
+// Returns the first `count` faulty rows of a list, for the fault of a point list.
 fn faulty(rt: &impl Abort, alloc: Global, count: usize) -> FaultyRows {
     let mut rows = Vec::new(alloc);
     for row in FAULTY.iter().take(count) {
@@ -281,7 +284,7 @@ fn list_fault_shows_its_first_row(rt: HostRuntime) {
     assert_texts(&rt, rt.alloc(), &lists)
 }
 
-// Faults that no golden test covers have their numbers.
+// Faults that no golden test covers have their expected numeric codes.
 #[test]
 fn faults_have_numbers(rt: HostRuntime) {
     assert!(rt; ImageFault::PastEnd.number() == 1);

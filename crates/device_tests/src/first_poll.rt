@@ -1,10 +1,10 @@
-//! Tests the events of a session whose first poll was started at time 100.
+//! Tests the events of a polling session whose first poll was started at time 100.
 use crate::session_script::{Asked, Event, GOOD, Line, assert_ready, feed, play, start};
 use poll_core::{LostCause, Malformation, Outcome, Session};
 use std::alloc::Global;
 use std::process::Abort;
 
-/// The first poll of the session, which reads 3 registers from address 40094.
+/// The first poll of the polling session, which reads 3 registers from address 40094.
 static FIRST: Asked = Asked {
     moment: 100,
     poll: 1,
@@ -33,7 +33,7 @@ static REPLIES: [[Line; 2]; 4] = [
             },
             reported: &[(1, Outcome::Answered)],
         },
-        // A second response with the same identifier belongs to no poll.
+        // A second response with the same transaction identifier belongs to no pending poll.
         Line {
             event: Event::Piece {
                 moment: 104,
@@ -42,7 +42,7 @@ static REPLIES: [[Line; 2]; 4] = [
             reported: &[],
         },
     ],
-    // A response that arrives at the poll's deadline.
+    // A response that arrives at the deadline of the poll, which then times out.
     [
         Line {
             event: Event::Piece {
@@ -141,8 +141,8 @@ static OTHER_FRAMES: [[Line; 1]; 6] = [
     }],
 ];
 
-/// Plays the events on sessions with a timeout of 5 seconds and windows (limits on pending polls)
-/// of 1, 2 and 16, after the first poll was started.
+/// Plays the events on polling sessions after their first poll was started. The timeout is 5
+/// seconds, and the windows (limits on pending polls) are 1, 2 and 16.
 pub fn play_at_windows(rt: &impl Abort, alloc: Global, lines: &[Line]) {
     for window in [1, 2, 16] {
         let mut session = first_poll(rt, 5, window);
@@ -150,7 +150,8 @@ pub fn play_at_windows(rt: &impl Abort, alloc: Global, lines: &[Line]) {
     }
 }
 
-/// Feeds the response byte by byte, and asserts that only the last byte completes the poll.
+/// Feeds the response to the session byte by byte, and asserts that only the last byte completes
+/// the poll.
 fn feed_bytes(rt: &impl Abort, alloc: Global, session: &mut Session) {
     for (i, byte) in GOOD.iter().enumerate() {
         let reported = feed(rt, alloc, session, 104, &[*byte]);
@@ -158,7 +159,7 @@ fn feed_bytes(rt: &impl Abort, alloc: Global, session: &mut Session) {
     }
 }
 
-/// A response before the deadline completes the poll once.
+/// A response before the deadline completes the poll exactly once.
 #[test]
 fn a_reply_in_time_answers(rt: HostRuntime) {
     for lines in &REPLIES {
@@ -166,7 +167,7 @@ fn a_reply_in_time_answers(rt: HostRuntime) {
     }
 }
 
-/// A frame that is no valid response to the poll does not answer the poll.
+/// A frame that is no valid response to a pending poll does not complete the poll.
 #[test]
 fn other_frames_are_no_answers(rt: HostRuntime) {
     for lines in &OTHER_FRAMES {
@@ -174,7 +175,7 @@ fn other_frames_are_no_answers(rt: HostRuntime) {
     }
 }
 
-/// A response may arrive byte by byte.
+/// A response to a poll may arrive byte by byte.
 #[test]
 fn a_reply_may_come_byte_by_byte(rt: HostRuntime) {
     for window in [1, 2, 16] {
@@ -197,8 +198,8 @@ fn words_are_lent(rt: HostRuntime) {
     }
 }
 
-/// After `next` has reported a poll, `settling` is true: the caller must call `next` again for
-/// further outcomes.
+/// After the session's function `next` has returned a completed poll, `settling` is true: the
+/// caller must call `next` again for further outcomes.
 #[test]
 fn a_reported_call_is_under_way(rt: HostRuntime) {
     let mut session = first_poll(&rt, 5, 2);

@@ -22,7 +22,7 @@ struct Feed {
 }
 
 static FEEDS: [Feed; 6] = [
-    // Two responses in one stream. The second ends in the next chunk.
+    // Two responses in one stream of bytes. The second response ends in the next chunk.
     Feed {
         anew: true,
         bytes: &[0, 1, 0, 0, 0, 9, 17, 3, 6, 2, 43, 0, 0, 0, 100, 0, 1, 0, 0],
@@ -69,7 +69,7 @@ static FEEDS: [Feed; 6] = [
     },
 ];
 
-/// A feed consumes bytes only up to the end of a frame.
+/// A frame reader consumes the bytes that it is fed only up to the end of a frame.
 #[test]
 fn a_feed_ends_with_a_frame(rt: HostRuntime) {
     let mut reader = FrameReader::new();
@@ -99,7 +99,7 @@ fn a_request_is_written(rt: HostRuntime) {
     assert!(rt; out.get(..size) == Some(REQUEST.as_slice()));
 }
 
-// Returns whether the reader has a complete frame with these fields.
+// Returns whether the frame reader has a complete frame with these fields.
 fn holds(reader: &FrameReader, tid: u16, unit: u8, pdu: &[u8]) -> bool {
     match reader.frame() {
         Some(frame) => frame.tid == tid && frame.unit == unit && frame.pdu == pdu,

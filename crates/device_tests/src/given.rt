@@ -1,4 +1,4 @@
-//! Images, texts and point lists that several tests use.
+//! Memory images of devices, texts and point lists that several tests use.
 
 use point_list::{PointList, PointName, read_list, write_list};
 use std::alloc::Global;

@@ -7,7 +7,7 @@ use sun_chain::{Image, ImageFault};
 
 // The SunSpec mark, complete models 1, 103 and 203, and the end model. Each register of model 1 has
 // the two digits of its offset, and each other register except scale points has its offset. The
-// golden test `full_models` uses the same words.
+// golden test `full_models` uses the same registers.
 static LINES: [Line; 5] = [
     Line {
         address: 40000,

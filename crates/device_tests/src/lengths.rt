@@ -1,5 +1,5 @@
-//! Tests the valid length fields of a header: a unit identifier and a PDU of 1 to 253 bytes
-//! (Messaging on TCP/IP Implementation Guide V1.0b, section 3.1.3).
+//! Tests the valid length fields of a Modbus TCP header: a unit identifier and a PDU of 1 to 253
+//! bytes (Messaging on TCP/IP Implementation Guide V1.0b, section 3.1.3).
 use crate::devices::bank_with_nine;
 use mb_device::{ServeFault, Server};
 use mb_wire::{Fed, FrameReader, Framing, MemoryLink, write_frame};
@@ -34,8 +34,8 @@ fn frames_have_lawful_lengths(rt: HostRuntime) {
     }
 }
 
-// A length field, the result of a server that reads one frame with it, and the bytes that the
-// server writes.
+// A length field, the result of a simulated device that reads one frame with this length field, and
+// the bytes that it writes.
 static SERVED: [(u16, Result<u64, ServeFault>, &[u8]); 4] = [
     (1, Err(ServeFault::Garbled), &[]),
     (2, Ok(1), &[0, 9, 0, 0, 0, 3, 7, 0xAB, 1]),
@@ -59,7 +59,7 @@ fn is_served(
     served == answer && link.given() == given
 }
 
-/// A server responds to frames with length fields from 2 to 254.
+/// A simulated device responds to frames with length fields from 2 to 254.
 #[test]
 fn frames_of_lawful_lengths_are_served(rt: HostRuntime) {
     for (length, answer, given) in SERVED {

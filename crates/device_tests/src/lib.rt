@@ -1,5 +1,5 @@
-//! Tests everything that talks with devices: Modbus frames, requests, responses and links, the
-//! simulated device, and polling sessions. Other tests cover SunSpec points, chains of models,
+//! Tests everything that talks with devices: Modbus frames, requests, responses and connections,
+//! the simulated device, and polling sessions. Other tests cover SunSpec points, chains of models,
 //! scans, point lists, and the plans of their reads.
 #![tactic(auto)]
 

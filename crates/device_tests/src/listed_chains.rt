@@ -1,4 +1,4 @@
-//! Tests the point lists of devices' chains of SunSpec models.
+//! Tests the point lists that are built from devices' chains of SunSpec models.
 
 use crate::given::{Line, assert_same, chain_of, image_of, write_image, written};
 use crate::images::full_image;
@@ -37,7 +37,8 @@ const INVERTER_AND_METER: [Line; 5] = [
     },
 ];
 
-// A memory image with an absent point, and with a point whose scale point was not read.
+// The memory image of a device with an absent point, and with a point whose scale point was not
+// read.
 const METER: [Line; 5] = [
     Line {
         address: 40000,
@@ -90,8 +91,8 @@ fn assert_listed(rt: &impl Abort, alloc: Global, image: &Image, text: &str) {
     assert_same(rt, written(rt, alloc, &list).as_slice(), text);
 }
 
-// The point list of a chain has all points that were read, including absent points. The scale of a
-// point is empty if its scale point was not read.
+// The point list of a SunSpec chain has all points that were read, including absent points. The
+// scale of a point is empty if its scale point was not read.
 #[test]
 fn lists_of_chains(rt: HostRuntime) {
     for chain in &CHAINS {
@@ -228,8 +229,8 @@ m3.TotVArh_SF,3,0,40226,sunssf,
 m3.Evt,3,0,40227,bitfield32,
 ";
 
-// Returns the memory image of `count` complete meter models. The words in `more`, if any, begin one
-// more model.
+// Returns the memory image of `count` complete SunSpec meter models. The registers in `more`, if
+// any, begin one more model.
 fn meters(rt: &impl Abort, alloc: Global, count: u16, more: &[u16]) -> Image {
     let mut image = Image::new(alloc);
     write_image(rt, &mut image, 0, &[0x5375, 0x6E53]);
@@ -259,7 +260,7 @@ fn append_meter(rt: &impl Abort, image: &mut Image, model: u16, words: &[u16]) {
     write_image(rt, image, address_of(model).saturating_add(2), words)
 }
 
-// The number of complete meter models, the words of one more model, and the expected number of
+// The number of complete meter models, the registers of one more model, and the expected number of
 // points, or `None` for more than 512. Each model has 72 points, and each of its first nine
 // registers is a point.
 static COUNTS: [(u16, &[u16], Option<usize>); 4] = [
@@ -283,7 +284,7 @@ fn count_in(rt: &impl Abort, alloc: Global, image: &Image) -> Option<usize> {
     }
 }
 
-// The point list of a chain has at most 512 points.
+// The point list of a SunSpec chain has at most 512 points.
 #[test]
 fn chains_have_512_points_at_most(rt: HostRuntime) {
     for (count, more, points) in COUNTS {
@@ -293,7 +294,7 @@ fn chains_have_512_points_at_most(rt: HostRuntime) {
     }
 }
 
-// Returns the names of the first and the last point in the point list of a memory image.
+// Returns the names of the first and the last point in the point list of a device's memory image.
 fn ends_of(rt: &impl Abort, alloc: Global, image: &Image) -> Vec<u8> {
     let list = list_in(rt, alloc, image);
     let mut names = Vec::new(alloc);
@@ -308,7 +309,7 @@ fn ends_of(rt: &impl Abort, alloc: Global, image: &Image) -> Vec<u8> {
     names
 }
 
-// The point list of a long chain has the points of its first and its last model.
+// The point list of a long SunSpec chain has the points of its first and its last model.
 #[test]
 fn many_points(rt: HostRuntime) {
     let image = meters(&rt, rt.alloc(), 7, &[]);

@@ -7,9 +7,9 @@ use std::alloc::Global;
 use std::process::Abort;
 use sun_points::{PointType, Scale};
 
-// A point at address 0 with the name of its scale point. Its type may or may not allow a scale. A
-// scale point `s` (type sunssf) is at `address`, and `is_list` is true if both points form a valid
-// list.
+// A SunSpec point at address 0 with the name of its scale point. Its type may or may not allow a
+// scale. A scale point `s` (type sunssf) is at `address`, and `is_list` is true if both points form
+// a valid list.
 struct Group {
     takes_scale: bool,
     scale: &'static str,
@@ -96,8 +96,8 @@ fn points_of(rt: &impl Abort, alloc: Global, group: &Group) -> Vec<ListedPoint> 
     Vec::from_array(alloc, [first, scale]).expect(rt, "no memory")
 }
 
-// A scale point must exist and be a sunssf point. One read must contain both points, and the type
-// of the scaled point must allow a scale.
+// The scale point of a point must exist and have the type sunssf. One read must contain both
+// points, and the type of the scaled point must allow a scale.
 #[test]
 fn groups(rt: HostRuntime) {
     for group in &GROUPS {
@@ -111,14 +111,14 @@ fn groups(rt: HostRuntime) {
     }
 }
 
-// Returns a list of one counter at this address, with a fixed scale.
+// Returns a point list with one counter at this address, with a fixed scale.
 fn counter(rt: &impl Abort, alloc: Global, address: u16) -> Vec<ListedPoint> {
     let scale = PointScale::Fixed(Scale::new(0).expect(rt, "no scale"));
     let point = listed(rt, alloc, "a", address, PointType::Acc32, scale);
     Vec::from_array(alloc, [point]).expect(rt, "no memory")
 }
 
-// A counter may end at address 65535, and not after it.
+// A counter of two registers may end at address 65535, and not after it.
 #[test]
 fn counters_end_at_the_last_register(rt: HostRuntime) {
     for (address, is_list) in [(65534, true), (65535, false)] {
@@ -127,7 +127,8 @@ fn counters_end_at_the_last_register(rt: HostRuntime) {
     }
 }
 
-// A list with two points of the same name is refused, and the points are returned to the caller.
+// A point list with two points of the same name is refused, and the points are returned to the
+// caller.
 #[test]
 fn points_with_double_names_are_handed_back(rt: HostRuntime) {
     let list = PointList::new(counter(&rt, rt.alloc(), 65534));

@@ -1,14 +1,14 @@
-//! Tests the link in memory that other tests use.
+//! Tests the connection in memory (`MemoryLink`) that other tests use instead of a TCP connection.
 use mb_wire::{LastTake, Link, LinkFailed, MemoryLink, Took};
 
-// The result of each read from the link, and the buffer after the read.
+// The result of each read from the connection in memory, and the buffer after the read.
 static TAKES: [(Took, [u8; 4]); 3] = [
     (Took::Bytes(2), [1, 2, 9, 9]),
     (Took::Bytes(1), [3, 2, 9, 9]),
     (Took::End, [3, 2, 9, 9]),
 ];
 
-/// Reads return the input in chunks, in order.
+/// Reads from the connection in memory return the input in chunks, in order.
 #[test]
 fn an_input_is_handed_out_in_pieces(rt: HostRuntime) {
     let mut output = [0; 5];
@@ -33,7 +33,7 @@ static GIVES: [(&[u8], Result<usize, LinkFailed>); 5] = [
     (&[4], Err(LinkFailed)),
 ];
 
-/// Writes fill the output in chunks, in order.
+/// Writes to the connection in memory fill the output in chunks, in order.
 #[test]
 fn an_output_is_given_in_pieces(rt: HostRuntime) {
     let mut output = [0; 5];
@@ -45,7 +45,8 @@ fn an_output_is_given_in_pieces(rt: HostRuntime) {
     assert!(rt; link.given() == [7, 8, 9, 5, 6].as_slice());
 }
 
-// Returns whether, of two reads and two writes in turn, exactly call number `fails` fails.
+// Returns whether, of two reads and two writes in turn, exactly the call with the number `fails`
+// fails.
 fn is_reported(fails: u64) -> bool {
     let mut output = [0; 4];
     let mut link = MemoryLink::new(&[1, 2], &mut output, 1, Some(fails));
@@ -57,7 +58,7 @@ fn is_reported(fails: u64) -> bool {
         && (link.failures(), link.takes()) == (1, 2)
 }
 
-/// A test can make any single call of the link fail.
+/// A test can make any single call of the connection in memory fail.
 #[test]
 fn each_call_fails_in_turn(rt: HostRuntime) {
     for fails in 1..5u64 {

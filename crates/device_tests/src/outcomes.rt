@@ -40,7 +40,7 @@ static FAULTS: [(StartFault, u8); 4] = [
     (StartFault::Closed, 4),
 ];
 
-/// Each outcome of a poll has its number and its code.
+/// Each outcome of a poll has its expected number and its expected code.
 #[test]
 fn outcomes_have_numbers(rt: HostRuntime) {
     for (i, it) in OUTCOMES.iter().enumerate() {
@@ -49,7 +49,7 @@ fn outcomes_have_numbers(rt: HostRuntime) {
     }
 }
 
-/// Each fault of a start has its number.
+/// Each fault with which a poll can't start has its expected number.
 #[test]
 fn refusals_have_numbers(rt: HostRuntime) {
     for (fault, number) in &FAULTS {
@@ -57,8 +57,8 @@ fn refusals_have_numbers(rt: HostRuntime) {
     }
 }
 
-/// A malformed outcome has the number of the response's fault, and a lost outcome has the number of
-/// its cause.
+/// A malformed outcome has the number of the response's fault as its code, and a lost outcome has
+/// the number of its cause.
 #[test]
 fn malformations_and_losses_follow_their_causes(rt: HostRuntime) {
     assert!(rt; Malformation::from(ReplyFault::WrongEcho).number() == 4);

@@ -1,4 +1,4 @@
-//! Tests the values of points, decoded from Modbus registers, and the printing of texts in
+//! Tests the values of SunSpec points, decoded from Modbus registers, and the printing of texts in
 //! registers.
 use point_list::point_type;
 use std::alloc::Global;
@@ -6,8 +6,8 @@ use std::process::Abort;
 use std::test::Fail;
 use sun_points::{Point, PointType, Scale, Text, read_point};
 
-// A point type, two registers, the expected value of the point and its expected text. A type with
-// one register uses only the first register.
+// A SunSpec point type, two registers, the expected value of the point and its expected text. A
+// type with one register uses only the first register.
 static READINGS: [(&[u8], u16, u16, Point<'static>, &str); 33] = [
     (b"int16", 0xFFFF, 0, Point::Signed(-1), "-1"),
     (b"int16", 0x8001, 0, Point::Signed(-32767), "-32767"),
@@ -101,7 +101,8 @@ fn is_read(
     Ok(point == value && text.as_slice() == shown.as_bytes())
 }
 
-// For each type, registers decode to the values at both ends of the type's range, and to `absent`.
+// For each SunSpec point type, registers decode to the values at both ends of the type's range, and
+// to `absent`.
 #[test]
 fn registers_are_read_by_type(rt: HostRuntime) -> Result<(), Fail> {
     for (i, (name, high, low, value, shown)) in READINGS.iter().enumerate() {
@@ -118,7 +119,8 @@ fn length(rt: &impl Abort, alloc: Global, words: &[u16]) -> usize {
     output.len()
 }
 
-// The longest printed text has 1,000 characters. Only the first 125 of 126 registers are printed.
+// The text of 125 registers is printed with at most 1,000 characters. Of a text of 126 registers,
+// only the first 125 registers are printed.
 #[test]
 fn the_longest_text(rt: HostRuntime) {
     assert!(rt; length(&rt, rt.alloc(), &[0xFFFF; 125]) == 1000);

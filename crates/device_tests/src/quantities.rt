@@ -1,11 +1,11 @@
-//! Tests each quantity limit of the standard and the first value beyond it (Modbus Application
-//! Protocol V1.1b3, sections 6.1 to 6.12).
+//! Tests each quantity limit of the Modbus standard and the first value beyond it (Modbus
+//! Application Protocol V1.1b3, sections 6.1 to 6.12).
 use crate::replies::{bit_in, comes_back, word_in};
 use crate::requests::{self, is_written_as};
 use mb_wire::{Request, decode_reply, decode_request};
 
 // A request PDU: its function code, the number after its address, its byte count, and its length in
-// bytes. The last number is that of the fault, or 0 if the PDU is valid.
+// bytes. The last number is the PDU's fault, or 0 if the PDU is valid.
 static REQUESTS: [(u8, u16, u8, usize, u8); 36] = [
     // Requests that read coils and discrete inputs.
     (1, 0, 0, 5, 3),
@@ -75,7 +75,7 @@ fn reported_quantity(pdu: &[u8]) -> Option<u8> {
     }
 }
 
-/// Requests are accepted with exactly the quantities that the standard allows.
+/// Requests are accepted with exactly the quantities that the Modbus standard allows.
 #[test]
 fn requests_have_lawful_quantities(rt: HostRuntime) {
     for (function, number, count, length, fault) in REQUESTS {
@@ -86,7 +86,7 @@ fn requests_have_lawful_quantities(rt: HostRuntime) {
 }
 
 // The function code and quantity of a read, and the byte count and length in bytes of a response
-// PDU. The last number is that of the response's fault, or 0 if the PDU is valid.
+// PDU. The last number is the response's fault, or 0 if the PDU is valid.
 static REPLIES: [(u8, u16, u8, usize, u8); 20] = [
     (1, 1, 1, 3, 0),
     (1, 8, 1, 3, 0),
@@ -138,8 +138,8 @@ fn replies_bring_what_was_asked_for(rt: HostRuntime) {
     }
 }
 
-// The index and value of the last two coils of the longest response, and the index after them. Only
-// the highest bit of each byte is on.
+// The index and the value of the last two coils of the longest response, and the index after them.
+// Only the highest bit of each byte is on.
 static LAST_BITS: [(usize, Option<bool>); 3] = [
     (1998, Some(false)),
     (1999, Some(true)),

@@ -1,4 +1,4 @@
-//! Tests the reading of a device's counters over a link.
+//! Tests the reading of a device's energy counters over a connection.
 use crate::stand_in_link::SimulatorLink;
 use mb_device::{Area, Bank, Kind, Trick};
 use mb_wire::{MemoryLink, ReadFunction};
@@ -94,7 +94,8 @@ fn shown(count: Count) -> Option<Shown> {
     Some(Shown { raw, sf })
 }
 
-// A counter and its scale are read by one request, which is sent once more if no words arrive.
+// A counter and its scale are read by one request, which is sent once more if the response has no
+// registers.
 #[test]
 fn a_counter_is_read_with_its_scale(rt: HostRuntime) {
     let mut link = SimulatorLink::new(meter(&rt, rt.alloc()), &[]);
@@ -128,8 +129,8 @@ static ONCE: [Trick; 5] = [
     Trick::Unit,
 ];
 
-// If one response fails, the request is sent again. After two timeouts there is no value, and a
-// broken connection is a fault.
+// If the response to a read of a counter fails once, the request is sent again. After two timeouts
+// there is no value, and a broken connection is a fault.
 #[test]
 fn a_counter_is_asked_for_twice(rt: HostRuntime) {
     for trick in &ONCE {
@@ -150,13 +151,13 @@ static EXCEPTION_THEN_WORDS: [u8; 22] = [
     0, 1, 0, 0, 0, 3, 7, 0x84, 6, 0, 2, 0, 0, 0, 7, 7, 4, 4, 0, 1, 0, 2,
 ];
 
-// The frames of both requests: two input registers from address 40010 of unit 7.
+// The frames of both requests, each for two input registers from address 40010 of unit 7.
 static REQUESTS: [u8; 24] = [
     0, 1, 0, 0, 0, 6, 7, 4, 0x9C, 0x4A, 0, 2, 0, 2, 0, 0, 0, 6, 7, 4, 0x9C, 0x4A, 0, 2,
 ];
 
-// Asserts the result of reading a counter over a link of which one call may fail. Returns the bytes
-// written to the link.
+// Asserts the result of reading a counter over a connection of which one call may fail. Returns the
+// bytes written to the connection.
 fn assert_read(
     rt: &impl Abort,
     alloc: Global,
@@ -171,8 +172,9 @@ fn assert_read(
     link.given().to_vec(alloc).expect(rt, "no memory")
 }
 
-// An exception response does not end the read: the counter is found by the second request. If the
-// connection fails at the first write, the second write or the first read, the result is a fault.
+// An exception response does not end the reading of a counter: the second request returns the
+// value. If the connection fails at the first write, the second write or the first read, the result
+// is a fault.
 #[test]
 fn words_may_come_after_an_exception(rt: HostRuntime) {
     let wanted = Ok(shown(Some((65538, -1))));

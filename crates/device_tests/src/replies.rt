@@ -1,4 +1,4 @@
-//! Tests the decoding and encoding of responses.
+//! Tests the decoding and encoding of Modbus responses.
 use crate::examples::EXAMPLES;
 use mb_wire::{Reply, ReplyFault, Request, decode_reply, decode_request, encode_reply};
 
@@ -27,7 +27,7 @@ pub(crate) fn comes_back(asked: &[u8], answered: &[u8]) -> Option<bool> {
     Some(out.get(..count) == Some(answered))
 }
 
-/// The responses in the standard's examples decode, and encode to the same bytes.
+/// The responses in the Modbus standard's examples decode, and encode to the same bytes.
 #[test]
 fn examples_of_the_standard_come_back(rt: HostRuntime) {
     for (i, example) in EXAMPLES.iter().enumerate() {
@@ -38,8 +38,8 @@ fn examples_of_the_standard_come_back(rt: HostRuntime) {
     }
 }
 
-// Invalid responses to a read of holding registers, and after them invalid responses to a write of
-// a coil. Each has its fault and the fault's number.
+// Invalid responses to a read of holding registers, and then invalid responses to a write of a
+// coil. Each has its expected fault and the fault's number.
 static READ_FAULTS: [(&[u8], ReplyFault, u8); 6] = [
     (&[0x84, 2], ReplyFault::WrongFunction, 1),
     (&[4, 6, 0, 1, 0, 2, 0, 3], ReplyFault::WrongFunction, 1),
@@ -54,13 +54,13 @@ static ECHO_FAULTS: [(&[u8], ReplyFault, u8); 2] = [
     (&[5, 0, 172, 0xFF], ReplyFault::WrongLength, 2),
 ];
 
-// Returns the fault of a PDU as a response to the request, and the fault's number.
+// Returns the fault of a PDU as a response to a request, and the fault's number.
 fn fault_in(request: &Request<'_>, pdu: &[u8]) -> Option<(ReplyFault, u8)> {
     let fault = decode_reply(request, pdu).err()?;
     Some((fault, fault.number()))
 }
 
-/// Each fault of a response has its number.
+/// Each fault of a Modbus response has its expected number.
 #[test]
 fn faults_have_their_numbers(rt: HostRuntime) {
     for (pdu, fault, number) in READ_FAULTS {

@@ -1,4 +1,4 @@
-//! Tests the decoding and encoding of requests.
+//! Tests the decoding and encoding of Modbus requests.
 use crate::examples::EXAMPLES;
 use mb_wire::{decode_request, encode_request};
 
@@ -30,7 +30,7 @@ pub(crate) fn is_written_as(pdu: &[u8], bytes: &[u8]) -> bool {
     }
 }
 
-/// The requests in the standard's examples decode, and encode to the same bytes.
+/// The requests in the Modbus standard's examples decode, and encode to the same bytes.
 #[test]
 fn examples_of_the_standard_come_back(rt: HostRuntime) {
     for (i, example) in EXAMPLES.iter().enumerate() {
@@ -41,7 +41,7 @@ fn examples_of_the_standard_come_back(rt: HostRuntime) {
     }
 }
 
-/// Spare bits of a request are encoded as 0.
+/// The unused bits in the last byte of a request's coils are encoded as 0.
 #[test]
 fn spare_bits_are_written_as_zero(rt: HostRuntime) {
     let asked = [15, 0, 19, 0, 10, 2, 0xCD, 0xFD];
@@ -67,7 +67,7 @@ pub(crate) fn fault_in(pdu: &[u8]) -> Option<u8> {
     Some(fault.number())
 }
 
-/// Each fault of a request has its number.
+/// Each fault of a Modbus request has its expected number.
 #[test]
 fn faults_have_their_numbers(rt: HostRuntime) {
     for (i, (pdu, number)) in FAULTS.iter().enumerate() {

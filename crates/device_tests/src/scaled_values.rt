@@ -8,7 +8,8 @@ use sun_points::{Scale, write_scaled};
 
 static VALUES: [i64; 6] = [0, 5, -5, 2301, i64::MIN, i64::MAX];
 
-// A scale factor, and the texts of the test values at this scale factor, each after a space.
+// A scale factor, and the expected texts of the test values at this scale factor, each after a
+// space.
 static SCALED: [(i16, &str); 21] = [
     (
         -10,
@@ -99,7 +100,7 @@ fn write_at(rt: &impl Abort, value: i64, exponent: i16, output: &mut Vec<u8>) {
     write_scaled(value, scale, output).expect(rt, "not written");
 }
 
-// Asserts the texts of the values at a scale factor.
+// Asserts the texts of the test values at a scale factor.
 fn assert_scaled(rt: &impl Abort, alloc: Global, values: &[i64], exponent: i16, want: &str) {
     let mut line = Vec::new(alloc);
     for value in values {

@@ -54,7 +54,7 @@ static COUNTS: [(u16, u16, u32); 3] = [
     (0, 0, 0),
 ];
 
-// The register of a scale factor, and the power of ten that it encodes.
+// The value of a register that contains a scale factor, and the power of ten that it encodes.
 static POWERS: [(u16, i16); 3] = [(0xFFFD, -3), (2, 2), (0x8000, 0)];
 
 // A counter's first register is the high word, and scale factors are signed. A scale factor that is

@@ -8,7 +8,7 @@ use std::process::Abort;
 use sun_chain::scans::{ScanFault, ScanObserver, scan_over};
 use sun_chain::{ChainFault, Image, Model, walk};
 
-// An observer that counts the models which a scan reports.
+// A callback object that counts the SunSpec models that a scan reports.
 #[derive(Drop)]
 struct Shown(u64);
 
@@ -24,7 +24,8 @@ static WHOLE: [Area; 1] = [Area {
     count: 230,
 }];
 
-// Returns a device with complete models. Its last register is the ID of the end model.
+// Returns a simulated device with complete SunSpec models. Its last register is the ID of the end
+// model.
 fn full_bank(rt: &impl Abort, alloc: Global) -> Bank {
     let image = full_image(rt, alloc);
     let mut bank = Bank::new(alloc, &WHOLE).ok().expect(rt, "no bank");
@@ -34,7 +35,7 @@ fn full_bank(rt: &impl Abort, alloc: Global) -> Bank {
     bank
 }
 
-// Asserts that a memory image has exactly the words of the complete models.
+// Asserts that a memory image has exactly the registers of the complete SunSpec models.
 fn assert_full(rt: &impl Abort, alloc: Global, found: &Image) {
     let image = full_image(rt, alloc);
     for address in 39990..40240u16 {
@@ -42,7 +43,7 @@ fn assert_full(rt: &impl Abort, alloc: Global, found: &Image) {
     }
 }
 
-// The result of a scan, the number of requests, and the number of models reported.
+// The result of a scan, the number of Modbus requests, and the number of SunSpec models reported.
 #[derive(Drop)]
 struct Scanned {
     found: Result<Image, ScanFault>,
@@ -62,7 +63,7 @@ fn scan_bank(alloc: Global, bank: Bank, tricks: &[(u64, Trick)]) -> Scanned {
     }
 }
 
-// Scans a simulated device that has complete models, with injected faults.
+// Scans a simulated device that has complete SunSpec models, with injected faults.
 fn scanned_full(
     rt: &impl Abort,
     alloc: Global,
@@ -71,15 +72,17 @@ fn scanned_full(
     scan_bank(alloc, full_bank(rt, alloc), tricks).found
 }
 
-// Scans a simulated device, asserts the number of requests, and returns the image.
+// Scans a simulated device, asserts the number of requests, and returns the memory image that was
+// read.
 fn assert_image(rt: &impl Abort, alloc: Global, bank: Bank, requests: u64) -> Image {
     let scanned = scan_bank(alloc, bank, &[]);
     assert!(rt; scanned.requests == requests, "{requests}");
     scanned.found.ok().expect(rt, "no scan")
 }
 
-// Complete models are read with ten requests. One is for the mark, three are for heads, and three
-// for the models' registers. Two are for the last head, and one is for its ID alone.
+// A scan reads complete SunSpec models with ten requests: one for the mark, three for model
+// headers, three for the models' registers, two for the last header, and one for the header's ID
+// alone.
 #[test]
 fn full_models_are_read(rt: HostRuntime) {
     let scanned = scan_bank(rt.alloc(), full_bank(&rt, rt.alloc()), &[]);
@@ -88,7 +91,8 @@ fn full_models_are_read(rt: HostRuntime) {
     assert_full(&rt, rt.alloc(), &scanned.found.ok().expect(&rt, "no scan"));
 }
 
-// Injected faults that drop or change the response to one frame, after which a retry succeeds.
+// Injected faults of a simulated device that drop or change the response to one frame, after which
+// a retry succeeds.
 static ONCE: [Trick; 5] = [
     Trick::Drop,
     Trick::Twice,
@@ -97,7 +101,8 @@ static ONCE: [Trick; 5] = [
     Trick::Unit,
 ];
 
-// If a response fails once, the request is sent again. The test injects each fault at each frame.
+// If a response fails once during a scan, the request is sent again. The test injects each fault at
+// each frame.
 #[test]
 fn a_reply_that_fails_once_is_asked_for_again(rt: HostRuntime) {
     for trick in &ONCE {
@@ -117,8 +122,8 @@ fn a_connection_that_breaks_ends_the_scan(rt: HostRuntime) {
     assert!(rt; garbled.err() == Some(ScanFault::Garbled));
 }
 
-// If a read fails twice, its registers are missing from the image. In this test they are the
-// registers of the inverter model.
+// If a read fails twice during a scan, its registers are missing from the memory image. In this
+// test they are the registers of the inverter model.
 #[test]
 fn a_read_that_fails_twice_is_missing(rt: HostRuntime) {
     let tricks = [(5, Trick::Drop), (6, Trick::Drop)];
@@ -137,7 +142,7 @@ static UPPER: [Area; 1] = [Area {
     count: 15536,
 }];
 
-// Returns a device with these registers, all at or above address 50000.
+// Returns a simulated device with these registers, all at or above address 50000.
 fn upper_bank(rt: &impl Abort, alloc: Global, words: &[(u16, u16)]) -> Bank {
     let mut bank = Bank::new(alloc, &UPPER).ok().expect(rt, "no bank");
     for (address, word) in words {
@@ -155,8 +160,9 @@ static TO_THE_LAST: [(u16, u16); 5] = [
     (65535, 0xFFFF),
 ];
 
-// A chain may end at address 65535. The scan sends five requests: two for the mark at 40000, one
-// for the mark at 50000, and two for heads. It does not read the registers of the unknown model.
+// A chain of SunSpec models may end at address 65535. The scan sends five requests: two for the
+// mark at 40000, one for the mark at 50000, and two for model headers. It does not read the
+// registers of the unknown model.
 #[test]
 fn a_chain_may_end_at_the_last_address(rt: HostRuntime) {
     let bank = upper_bank(&rt, rt.alloc(), &TO_THE_LAST);
@@ -166,7 +172,7 @@ fn a_chain_may_end_at_the_last_address(rt: HostRuntime) {
     assert!(rt; chain.end() == 65535);
 }
 
-// A model 1 of 126 registers, followed by the end model.
+// A SunSpec model 1 of 126 registers, followed by the end model.
 static LONG: [(u16, u16); 6] = [
     (50000, 0x5375),
     (50001, 0x6E53),
@@ -176,8 +182,8 @@ static LONG: [(u16, u16); 6] = [
     (50130, 0xFFFF),
 ];
 
-// A long model needs several reads. The scan sends seven requests: two for the mark at 40000, one
-// for the mark at 50000, two for heads, one for 125 registers, and one for the last register.
+// A long SunSpec model needs several reads. The scan sends seven requests: two for the mark at
+// 40000, one for the mark at 50000, two for model headers, and two for the model's registers.
 #[test]
 fn a_long_model_takes_several_reads(rt: HostRuntime) {
     let image = assert_image(&rt, rt.alloc(), upper_bank(&rt, rt.alloc(), &LONG), 7);
@@ -185,7 +191,7 @@ fn a_long_model_takes_several_reads(rt: HostRuntime) {
     assert!(rt; image.word(50129) == Some(7));
 }
 
-// Scans a device with `count` models without registers, followed by the end model.
+// Scans a device with `count` SunSpec models without registers, followed by the end model.
 fn many_models(rt: &impl Abort, alloc: Global, count: u16) -> Image {
     let mut bank = upper_bank(rt, alloc, &TO_THE_LAST);
     for place in 0..count {
@@ -198,7 +204,7 @@ fn many_models(rt: &impl Abort, alloc: Global, count: u16) -> Image {
     scan_bank(alloc, bank, &[]).found.ok().expect(rt, "no scan")
 }
 
-// A chain has at most 64 models.
+// A chain of SunSpec models has at most 64 models.
 #[test]
 fn a_chain_has_at_most_64_models(rt: HostRuntime) {
     let most = many_models(&rt, rt.alloc(), 64);

@@ -1,4 +1,4 @@
-//! Tests the server of a simulated device over a link.
+//! Tests the Modbus server of a simulated device over a connection.
 use crate::devices::bank_with_nine;
 use mb_device::{Bank, Kind, ServeFault, Server, Trick, Turned, answer_one};
 use mb_wire::{Link, MemoryLink};
@@ -34,8 +34,8 @@ const GARBLED: &[u8] = &[
     0, 7, 0, 0, 0, 6, 1, 3, 0, 0, 0, 1, 0, 8, 0, 0, 0, 1, 1, 3, 0, 0, 0, 1,
 ];
 
-// An input stream, the greatest chunk of the link in bytes, the failing call if any, the number of
-// turns (each reads one chunk), and the expected results.
+// An input stream, the greatest chunk of the connection in bytes, the failing call if any, and the
+// number of turns (reads of a chunk). Then the expected results.
 struct Case {
     input: &'static [u8],
     piece: usize,
@@ -48,7 +48,7 @@ struct Case {
 }
 
 static CASES: [Case; 11] = [
-    // Servers with enough turns (reads of a chunk) for the input, or with too few.
+    // Servers whose number of turns (reads of a chunk) is enough for the input, or too small.
     Case {
         input: READ,
         piece: 12,
@@ -80,7 +80,7 @@ static CASES: [Case; 11] = [
         takes: 34,
         failures: 0,
     },
-    // Links without a failing call, and links on which each call fails in turn.
+    // Connections without a failing call, and connections on which each call fails in turn.
     Case {
         input: TWO_READS,
         piece: 12,
@@ -165,15 +165,16 @@ static CASES: [Case; 11] = [
     },
 ];
 
-// Returns whether a server has ended: it returns `Garbled` again, without reading or writing.
+// Returns whether a server has ended after an invalid length field: it returns `Garbled` again,
+// without reading or writing.
 fn is_over(server: &mut Server, link: &mut MemoryLink<'_>, bank: &mut Bank) -> bool {
     let before = (link.given().len(), link.takes());
     let served = server.serve(link, bank, 9);
     served == Err(ServeFault::Garbled) && (link.given().len(), link.takes()) == before
 }
 
-// Returns whether a server has the expected results. After a fault, and only then, it must return
-// `Garbled` again.
+// Returns whether a server has the expected results. Only after a fault, it must return `Garbled`
+// again.
 fn is_served(rt: &impl Abort, alloc: Global, case: &Case) -> bool {
     let mut bank = bank_with_nine(rt, alloc);
     let mut output = [0; 40];
@@ -222,8 +223,8 @@ fn a_full_output_breaks_an_answer_off(rt: HostRuntime) {
     assert!(rt; bank.get(Kind::Holding, 0) == Some(5));
 }
 
-// The number of the link call that fails, if any, while a device serves one connection and cuts its
-// first response off after four bytes. After it, the expected result and the bytes written.
+// The number of the connection's call that fails, if any, while a device serves one connection and
+// cuts its first response off after four bytes. Then the expected result and the bytes written.
 static ANSWERS: [(Option<u64>, Result<u64, ServeFault>, &[u8]); 2] = [
     (None, Ok(1), &[0, 7, 0, 0]),
     (Some(1), Err(ServeFault::Read), &[]),
@@ -249,7 +250,7 @@ static NUMBERS: [(ServeFault, u8); 4] = [
     (ServeFault::TurnsUsed, 4),
 ];
 
-/// Each fault of a server has its number.
+/// Each fault of a Modbus server has its expected number.
 #[test]
 fn serve_faults_have_their_numbers(rt: HostRuntime) {
     for (fault, number) in NUMBERS {

@@ -1,4 +1,4 @@
-//! Tests a session that ends after four bytes of the response to its first poll.
+//! Tests a polling session that ends after four bytes of the response to its first poll.
 use crate::first_poll::play_at_windows;
 use crate::session_script::{Event, Line};
 use poll_core::{Closing, LostCause, Outcome, StartFault};
@@ -63,7 +63,7 @@ static ENDS: [[Line; 4]; 3] = [
     ],
 ];
 
-/// The end of a polling session loses all pending polls.
+/// When a polling session ends, all pending polls are lost.
 #[test]
 fn the_end_of_a_session_loses_polls(rt: HostRuntime) {
     for lines in &ENDS {

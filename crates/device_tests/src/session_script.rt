@@ -1,19 +1,20 @@
-//! Plays lists of session events, and asserts the outcomes that the session reports for each event.
+//! Plays lists of polling session events, and asserts the outcomes that the session reports for
+//! each event.
 use mb_wire::ReadSpan;
 use poll_core::{Closing, Outcome, Session, StartFault};
 use std::alloc::Global;
 use std::process::Abort;
 
-/// The latest time that a session accepts, in seconds since 1970-01-01 UTC.
+/// The latest time that a polling session accepts, in seconds since 1970-01-01 UTC.
 const LATEST: u64 = 4_102_444_800;
 
 /// A response of unit 1 with transaction identifier 0 and the registers 0, 5200 and 0.
 pub const GOOD: [u8; 15] = [0, 0, 0, 0, 0, 9, 1, 3, 6, 0, 0, 20, 80, 0, 0];
 
-/// The number of a poll, and the outcome of the poll.
+/// The number of a poll, and the outcome that the session reports for the poll.
 pub type Reported = (u64, Outcome);
 
-/// A session event, and the outcomes that the session must report for it.
+/// An event of a polling session, and the outcomes that the session must report for the event.
 pub struct Line {
     pub event: Event,
     pub reported: &'static [Reported],
@@ -38,7 +39,8 @@ pub struct Asked {
     pub frame: [u8; 12],
 }
 
-/// Plays the events in order, and asserts the outcomes that the session reports for each event.
+/// Plays the events on a polling session in order, and asserts the outcomes that the session
+/// reports for each event.
 pub fn play(rt: &impl Abort, alloc: Global, session: &mut Session, lines: &[Line]) {
     for (i, line) in lines.iter().enumerate() {
         let reported = bring(rt, alloc, session, &line.event);
@@ -92,7 +94,8 @@ pub fn refuse(rt: &impl Abort, session: &mut Session, moment: u64, fault: StartF
     assert!(rt; started == Err(fault));
 }
 
-/// Asserts the next transaction identifier, and the number of polls that may be started.
+/// Asserts the next transaction identifier of a polling session, and the number of polls that may
+/// be started.
 pub fn assert_ready(rt: &impl Abort, session: &Session, id: u16, count: usize) {
     let ready = session.ready();
     assert!(rt; ready.id == id && ready.count == count);
@@ -122,7 +125,7 @@ pub fn feed(
     }
 }
 
-/// Feeds a timer event to the session, and returns the polls that time out.
+/// Feeds a timer event to the polling session, and returns the polls that time out.
 fn tick(rt: &impl Abort, alloc: Global, session: &mut Session, moment: u64) -> Vec<Reported> {
     assert!(rt; !session.settling());
     assert!(rt; moment <= LATEST);
@@ -137,7 +140,7 @@ fn tick(rt: &impl Abort, alloc: Global, session: &mut Session, moment: u64) -> V
     }
 }
 
-/// Ends the session, and returns the polls that its end completes.
+/// Ends the polling session, and returns the polls that its end completes.
 fn close(
     rt: &impl Abort,
     alloc: Global,

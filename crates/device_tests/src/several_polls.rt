@@ -1,4 +1,4 @@
-//! Tests several polls of one session, one after another and at the same time.
+//! Tests several polls of one polling session, one after another and at the same time.
 use crate::session_script::{Asked, Event, GOOD, Line, play};
 use poll_core::{Closing, LostCause, Outcome, Session, StartFault};
 
@@ -167,7 +167,7 @@ static THREE_ENDS: [Line; 7] = [
         },
         reported: &[],
     },
-    // Bytes received after an invalid length field are discarded.
+    // Bytes that a session receives after an invalid length field are discarded.
     Line {
         event: Event::Piece {
             moment: 1006,

@@ -13,7 +13,7 @@ const LAST: ReadSpan = ReadSpan {
     count: 1,
 };
 
-// The function code, address and count of valid ranges of registers. The second list has invalid
+// Valid ranges of registers, each with function code, address and count. The next list has invalid
 // ranges.
 static LAWFUL: [(u8, u16, u16); 4] = [(3, 0, 125), (4, 0, 125), (3, 65411, 125), (4, 65535, 1)];
 

@@ -1,14 +1,14 @@
-//! A link to a simulated device in the same process.
+//! A connection to a simulated device in the same process, for tests.
 ghost use Rattle.std.specs.Prelude.{◌≤◌, ◌<◌, length};
 
 use mb_device::{Bank, Server, Trick};
 use mb_wire::{LastTake, Link, LinkFailed, MemoryLink, Took};
 
-/// The greatest number of response bytes that the link can buffer.
+/// The greatest number of response bytes that the connection can buffer.
 const ROOM: usize = 1024;
 
-/// A link to a simulated device that responds to each write immediately. A read without a response
-/// times out. After an injected fault closes the connection, the link's input ends.
+/// A connection to a simulated device that responds to each write immediately. A read without a
+/// response times out. After an injected fault closes the connection, the connection's input ends.
 #[derive(Drop)]
 pub(crate) struct SimulatorLink<'t> {
     server: Server<'t>,
@@ -42,7 +42,7 @@ impl<'t> SimulatorLink<'t> {
         }
     }
 
-    /// Returns the number of writes to the link, one for each request.
+    /// Returns the number of writes to the connection, one for each request.
     pub(crate) fn gives(&self) -> u64 {
         self.gives
     }

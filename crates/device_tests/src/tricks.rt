@@ -23,8 +23,8 @@ const HIGHEST: &[u8] = &[
 // A read of 125 registers, which has the longest response.
 const LONGEST: &[u8] = &[0, 7, 0, 0, 0, 6, 1, 3, 0, 0, 0, 125];
 
-// Injected faults, an input stream and the greatest chunk in bytes. After them, the expected
-// results: frames executed, bytes written, number of reads, and holding register 0.
+// Injected faults, an input stream and the greatest chunk in bytes. Then the expected results:
+// frames executed, bytes written, number of reads, and the value of holding register 0.
 #[derive(Drop)]
 struct Case {
     tricks: &'static [(u64, Trick)],
@@ -56,7 +56,7 @@ static ON_BOTH: [(&[(u64, Trick)], &[u8]); 16] = [
             0, 2, 0, 0, 0, 6, 2, 6, 0, 0, 0, 5, 0, 7, 0, 0, 0, 5, 1, 3, 2, 0, 5,
         ],
     ),
-    // The server executes a write whose response is dropped.
+    // The simulated device executes a write whose response is dropped.
     (&[(1, Trick::Drop)], &[0, 7, 0, 0, 0, 5, 1, 3, 2, 0, 5]),
     (&[(2, Trick::Drop)], &[0, 2, 0, 0, 0, 6, 2, 6, 0, 0, 0, 5]),
     (
@@ -65,8 +65,8 @@ static ON_BOTH: [(&[(u64, Trick)], &[u8]); 16] = [
             0, 7, 0, 0, 0, 5, 1, 3, 2, 0, 5, 0, 7, 0, 0, 0, 5, 1, 3, 2, 0, 5,
         ],
     ),
-    // A delayed response follows the response to the next frame, whatever fault is injected into
-    // that response.
+    // A delayed response is sent after the response to the next frame, whatever fault is injected
+    // into that response.
     (
         &[(1, Trick::Later)],
         &[
@@ -84,7 +84,7 @@ static ON_BOTH: [(&[(u64, Trick)], &[u8]); 16] = [
             6, 0, 0, 0, 5,
         ],
     ),
-    // When a second response is delayed, the first delayed response is sent.
+    // If a second response is delayed, the first delayed response is sent.
     (
         &[(1, Trick::Later), (2, Trick::Later)],
         &[0, 2, 0, 0, 0, 6, 2, 6, 0, 0, 0, 5],
@@ -108,12 +108,12 @@ static ON_BOTH: [(&[(u64, Trick)], &[u8]); 16] = [
             0, 2, 0, 0, 0, 0, 2, 6, 0, 0, 0, 5, 0, 7, 0, 0, 0, 5, 1, 3, 2, 0, 5,
         ],
     ),
-    // If several faults have the number of one frame, the first fault applies.
+    // If several injected faults have the number of one frame, the first fault applies.
     (
         &[(1, Trick::Drop), (1, Trick::Twice)],
         &[0, 7, 0, 0, 0, 5, 1, 3, 2, 0, 5],
     ),
-    // Faults for frame numbers that do not occur change nothing.
+    // Injected faults for frame numbers that do not occur change nothing.
     (
         &[
             (0, Trick::Drop),
@@ -124,7 +124,7 @@ static ON_BOTH: [(&[(u64, Trick)], &[u8]); 16] = [
             0, 2, 0, 0, 0, 6, 2, 6, 0, 0, 0, 5, 0, 7, 0, 0, 0, 5, 1, 3, 2, 0, 5,
         ],
     ),
-    // The last response is cut off, so a delayed response is not sent.
+    // The simulated device cuts the last response off, so a delayed response is not sent.
     (
         &[(2, Trick::Cut(4))],
         &[0, 2, 0, 0, 0, 6, 2, 6, 0, 0, 0, 5, 0, 7, 0, 0],
@@ -179,7 +179,7 @@ static CUTS: [Case; 7] = [
         takes: 12,
         register: 5,
     },
-    // A response that is shorter than the cut is sent completely.
+    // A response that is shorter than the injected cut is sent completely.
     Case {
         tricks: &[(1, Trick::Cut(13))],
         input: WRITE_READ,
@@ -198,8 +198,8 @@ static CUTS: [Case; 7] = [
         takes: 1,
         register: 9,
     },
-    // A frame of another protocol has no frame number. The transaction identifier wraps to 0 after
-    // 65535, and the unit identifier after 255.
+    // Injected faults don't count a frame of another protocol. A changed transaction identifier
+    // wraps to 0 after 65535, and a changed unit identifier after 255.
     Case {
         tricks: &[(1, Trick::Id)],
         input: HIGHEST,
@@ -220,7 +220,7 @@ static CUTS: [Case; 7] = [
     },
 ];
 
-/// An injected fault applies only to the response to its frame.
+/// An injected fault applies only to the response to the frame with its number.
 #[test]
 fn one_frame_is_answered_by_its_trick(rt: HostRuntime) {
     for (i, case) in CUTS.iter().enumerate() {

@@ -35,7 +35,7 @@ fn whole_bank(rt: &impl Abort, alloc: Global) -> Bank {
 }
 
 // A request: its function code, address, number after the address, byte count and length in bytes,
-// with 0xFF in each byte after the byte count. After it, the response's length and first two bytes.
+// with 0xFF in each byte after the byte count. Then the response's length and first two bytes.
 struct Case {
     function: u8,
     address: u16,
@@ -94,7 +94,8 @@ fn is_answered(bank: &mut Bank, case: &Case) -> bool {
     count == case.answered && out[..2] == case.front[..]
 }
 
-// The values at the address before the first one written, at the first one, and at the last one.
+// The values of coils and registers after writes: at the address before the first written one, at
+// the first written one, and at the last one.
 static WRITTEN: [(Kind, u16, u16); 6] = [
     (Kind::Coil, 63567, 0),
     (Kind::Coil, 63568, 1),

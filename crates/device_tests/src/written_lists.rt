@@ -26,10 +26,9 @@ wh,3,0,40094,acc32,whsf
 whsf,3,0,40096,sunssf,
 ";
 
-// Texts with each kind of point, from a spreadsheet program, and with only a header. Four texts
-// with a counter and its scale point: plain, with a byte order mark and carriage returns, with
-// quoted fields, blank lines and no final line end, and with leading zeros. The last text has the
-// limits of numbers.
+// Texts of point lists, with the texts that are written for them. They have each kind of point,
+// text from a spreadsheet program, only a header, four spellings of one list, and the limits of
+// numbers.
 static TEXTS: [Rewritten; 8] = [
     Rewritten {
         text: EVERY_KIND,
@@ -65,8 +64,8 @@ static TEXTS: [Rewritten; 8] = [
     },
 ];
 
-// A point list is always written in the same form, whatever the form of the text from which it was
-// read.
+// A point list is always written as the same CSV text, however the text from which it was read is
+// spelled.
 #[test]
 fn lists_are_written(rt: HostRuntime) {
     for (i, case) in TEXTS.iter().enumerate() {

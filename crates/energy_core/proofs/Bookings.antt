@@ -1,4 +1,5 @@
--- An entry that was recorded may follow the last entry. The entries with it obey the rules again.
+-- Lemmas on recorded meter entries: a recorded entry was allowed to follow the last entry, and all
+-- entries together obey the rules again.
 use Rattle.std.proofs.Common.{◌≡◌, ℕ, ◌+◌, ◌*◌, ◌^◌, ◌<◌, ◌≤◌, false, nat_lt, nat_le, List, [], ◌∷◌, Option, Some, None, Ok, ap, subst, refl, ◌∙◌, arith}
 use Rattle.std.proofs.lemmas.Bool.Decides.{nat_tests}
 use Rattle.std.proofs.lemmas.Int.{ints}

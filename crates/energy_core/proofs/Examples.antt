@@ -1,4 +1,5 @@
--- Worked examples of verdicts, entries and total energies, computed from the definitions.
+-- Worked examples of verdicts on readings, meter entries and total energies, computed from the
+-- definitions.
 use native.Mathlib.Omega.{arith}
 use Rattle.std.proofs.Common.{◌≡◌, ℕ, ℤ, pos, negsuc, refl, [], ◌∷◌, Ok, Err, lit≤, true, false}
 use Rattle.energy_core.specs.declared.limits.TheConstants.{MAX_CEILING, MAX_SHOWN, MAX_UNIT}
@@ -28,7 +29,7 @@ reading at raw sf = record { at = at; raw = raw; sf = sf }
 abbrev step : (from till mwh : ℕ) → StepRecord
 step from till mwh = record { from = from; till = till; mwh = mwh }
 
--- Verdicts on readings of a 32-bit counter.
+-- Examples: verdicts on readings of a 32-bit counter.
 
 first_reading : verdict_of 4294967296 (terms 100000 0) (last 1000 5000 (pos 0)) (reading 1900 5200 (pos 0)) ≡ Accepted 0 200000
 unfolding unit_of
@@ -78,7 +79,7 @@ span_too_long : verdict_of 4294967296 (terms 1000 0) (last 0 1 (pos 0)) (reading
 unfolding unit_of
 span_too_long = refl
 
--- Verdicts on readings of a counter that rolls over at 1,000,000 counts.
+-- Examples: verdicts on readings of a counter that rolls over at 1,000,000 counts.
 
 ranged_rollover : verdict_of 1000000 (terms 1000 0) (last 0 999900 (pos 0)) (reading 900 100 (pos 0)) ≡ Accepted 1 200000
 unfolding unit_of
@@ -96,7 +97,7 @@ ranged_gap_too_long : verdict_of 1000000 (terms 100000 0) (last 0 5 (pos 0)) (re
 unfolding unit_of
 ranged_gap_too_long = refl
 
--- Results of entries by hand.
+-- Examples: results of manual entries.
 
 back : entered 4294967296 200000 (last 1900 5200 (pos 0)) (entry.Step 2000 5100 0) ≡ Err fault.NegativeStep
 unfolding unit_of
@@ -120,7 +121,7 @@ rescaled : entered 4294967296 200000 (last 1900 5200 (pos 0)) (entry.Change 2000
 unfolding unit_of
 rescaled = refl
 
--- Total energies of installations after one or more entries.
+-- Examples: total energies of installed meters after one or more entries.
 
 after_a_reading : whole_energy 4294967296 (last 1000 5000 (pos 0)) (entry.Step 1900 5200 0 ∷ []) ≡ 200000
 unfolding unit_of
@@ -146,8 +147,8 @@ steps_of_a_reset : steps_of 4294967296 (last 1000 5000 (pos 0))
 unfolding unit_of
 steps_of_a_reset = refl
 
--- Both ends of each limit of ranges and scale factors: the last allowed value and the first refused
--- value.
+-- Examples: both ends of each limit of ranges and scale factors, as the last allowed value and the
+-- first refused value.
 
 least_range : IsRange 65536
 least_range = (lit≤ tt, lit≤ tt)
@@ -187,7 +188,7 @@ greatest_shown = refl
 greatest_ceiling : MAX_CEILING ≡ 1000000000
 greatest_ceiling = refl
 
--- The number of quarter-hour intervals that a time span touches.
+-- Examples: the number of quarter-hour intervals that a time span touches.
 
 within_one_interval : intervals_touched 0 900 ≡ 1
 within_one_interval = refl

@@ -1,4 +1,5 @@
--- The invariant of an installed meter's entries and energy, which accepted readings preserve.
+-- The invariant of an installed meter's entries and total energy. Each accepted reading preserves
+-- this invariant.
 use Rattle.std.proofs.Common.{◌≡◌, ℕ, ◌+◌, ◌-◌, ◌*◌, ◌^◌, ◌<◌, ◌≤◌, List, [], ◌∷◌, sym, refl, ◌∙◌, arith}
 use Rattle.std.specs.List.{All, sum_by}
 use Rattle.std.proofs.lemmas.List.Elements.{All-nil, All-cons}
@@ -48,8 +49,8 @@ accounts_are_sound range opening es last total below scale h =
       steps = shareable range opening es h.follow (omega (arith, h.within));
     }
 
--- The entries of an installed meter obey the rules, with the counter's state and total energy after
--- these entries.
+-- True if the entries of an installed meter obey the rules for entries. The counter's state and the
+-- total energy are those after the entries.
 abbrev HasAccount : ℕ → Last → List Entry → Type 0
 HasAccount range opening es = IsAccount range opening es (last_of opening es) (whole_energy range opening es)
 

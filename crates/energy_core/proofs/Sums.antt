@@ -1,4 +1,5 @@
--- The total energy of an installation is the sum of the energies of its steps.
+-- The total energy of an installed meter is the sum of the energies between its consecutive
+-- entries.
 use Rattle.std.proofs.Common.{◌≡◌, ℕ, ◌+◌, ◌-◌, ◌*◌, ◌≤◌, List, [], ◌∷◌, arith}
 use Rattle.std.proofs.Math.Nat.{mul-le-mul_right}
 use Rattle.std.specs.List.{sum_by}
@@ -17,14 +18,15 @@ one_step r l u h = omega (arith, mul-le-mul_right u h)
 pub energy_in : Step → ℕ
 energy_in s = s.mwh
 
--- Adding an entry increases the sum of the step energies by the energy of that entry.
+-- If an entry is added, the sum of the energies between consecutive entries grows by the energy of
+-- that entry.
 pub sum-step : (range : ℕ) (opening : Last) (e : Entry) (es : List Entry)
     → sum_by (λ (s : Step). s.mwh) (steps_of range opening (e ∷ es))
     ≡ energy_of range (last_of opening es) e + sum_by (λ (s : Step). s.mwh) (steps_of range opening es)
 sum-step range opening e es = sum_by-cons (λ (s : Step). s.mwh) (step_to range (last_of opening es) e) (steps_of range opening es)
 
--- The step energies balance with the counter's first and last values, its rollovers and its
--- changes.
+-- The energies between consecutive entries balance with the counter's first and last values, its
+-- rollovers, and its resets and rescales.
 pub balance : StepsAddUp
 balance range opening [] h = omega arith
 balance range opening (entry.Step at raw rolls ∷ es) h =
@@ -45,7 +47,7 @@ balance range opening (entry.Change at before new sf ∷ es) h =
 pub sum-steps : StepsAreTheWhole
 sum-steps range opening es h = omega (arith, balance range opening es h)
 
--- Adding an entry increases the total energy of an installation by the energy of that entry.
+-- If an entry is added, the total energy of an installed meter grows by the energy of that entry.
 pub whole-cons : (range : ℕ) (opening : Last) (e : Entry) (es : List Entry) → NeverFalls range opening (e ∷ es)
     → whole_energy range opening (e ∷ es) ≡ whole_energy range opening es + energy_of range (last_of opening es) e
 whole-cons range opening e es h =

@@ -43,7 +43,8 @@ accepted range terms last reading none =
       ),
     ))
 
--- A counter made less than a full turn if it could not have made a full turn in the time passed.
+-- If a counter could not have made a full turn in the time passed, then it made less than a full
+-- turn.
 less_than_a_turn : (ceiling unit seconds range d : ℕ) → can_count ceiling unit seconds d ≡ true → can_count ceiling unit seconds range ≡ false → d < range
 less_than_a_turn ceiling unit seconds range d slow long =
     elim (cases_lt d range) [
@@ -59,13 +60,13 @@ less_than_a_turn ceiling unit seconds range d slow long =
 not_beyond_range : (range count : ℕ) → 0 < range → nat_le range (count % range) ≡ false
 not_beyond_range range count pos = let below : count % range < range = mod-lt count pos in grind (arith, nat_tests)
 
--- The limits by which a reading of an honest meter (a true run) is judged: the ceiling on power,
+-- The limits for a reading of a meter that shows its true counts: the ceiling (the greatest power),
 -- and the true energy so far.
 abbrev terms_after : (ceiling : ℕ) → ℤ → Item → Item → Terms
 terms_after ceiling sf first a = record { ceiling = ceiling; total = advance sf first a }
 
--- A reading of a true run is accepted with the true energy, if no cause except `TooFast` and
--- `NotBelowRange` could reject the reading.
+-- If no cause except `TooFast` and `NotBelowRange` could reject a reading that shows the true
+-- count, then the reading is accepted with the true energy.
 one_reading : (range ceiling : ℕ) (sf : ℤ) (first a b : Item) → 0 < range → a.count ≤ b.count
     → IsTrue (can_count ceiling (unit_of sf) (b.at - a.at) (b.count - a.count))
     → ((c : Cause) → c ≢ cause.TooFast → c ≢ cause.NotBelowRange
@@ -96,8 +97,8 @@ one_reading range ceiling sf first a b pos on slow others =
       far,
     )
 
--- The invariant after each item of a true run: the recorded entries match the true counts and the
--- true energy.
+-- The loop invariant for a list of a meter's true counts: the recorded entries match the true
+-- counts and the true energy.
 record Booked (range ceiling : ℕ) (sf : ℤ) (first : Item) (items : List Item) (es : List Entry) : Type 0 where
   last : last_of (shown range sf first) es ≡ shown range sf (newest first items)
   on : first.count ≤ (newest first items).count
@@ -141,8 +142,8 @@ next range ceiling sf first b items es pos on h far =
 nothing_yet : (v u n : ℕ) → (v + 0) - (v + 0) ≡ (n - n) * u
 nothing_yet v u n = let z : n - n ≡ 0 = omega arith in let m : (n - n) * u ≡ 0 * u = ap (λ k. k * u) z in omega arith
 
--- The verdict on a run's next reading is the same after the recorded entries as after the true
--- counts.
+-- The verdict on the next reading of a meter is the same after its recorded entries as after its
+-- true counts.
 verdict_next : (range ceiling : ℕ) (sf : ℤ) (first b : Item) (items : List Item) (es : List Entry) (v : Verdict)
     → Booked range ceiling sf first items es
     → verdict_of range (terms_after ceiling sf first (newest first items)) (shown range sf (newest first items)) (reported range sf b) ≡ v

@@ -1,5 +1,7 @@
--- The entries of an installation (an installed meter), the steps between entries, and the energy of
--- each step. A list of entries begins with the latest, and does not contain the opening entry.
+-- The entries of an installation (an installed meter), and the steps between consecutive entries
+-- with their energies. A list of entries begins with the latest, and does not contain the opening
+-- (the first entry).
+--
 -- `range` is the number of counts in a full turn of the counter.
 use Rattle.std.specs.Prelude.{◌≡◌, ℕ, ℤ, ◌+◌, ◌-◌, ◌*◌, ◌/◌, ◌≤◌, ◌<◌, ◌≤ℤ◌, List, [], ◌∷◌}
 use Rattle.energy_core.specs.declared.limits.TheConstants.{INTERVAL_SECONDS, MAX_INTERVALS, MAX_SCALE, MAX_TOTAL, MIN_SCALE}
@@ -23,7 +25,8 @@ abbrev pub after : Last → Entry → Last
 after last (entry.Step at raw rolls) = record { at = at; raw = raw; sf = last.sf }
 after last (entry.Change at before new sf) = record { at = at; raw = new; sf = sf }
 
--- The counter's state after the opening entry and all entries of a list.
+-- The counter's state after the opening (the first entry of an installed meter) and all entries of
+-- a list.
 abbrev pub last_of : Last → List Entry → Last
 last_of opening [] = opening
 last_of opening (e ∷ es) = after (last_of opening es) e
@@ -34,22 +37,22 @@ abbrev pub reached : (range : ℕ) → Entry → ℕ
 reached range (entry.Step at raw rolls) = raw + rolls * range
 reached range (entry.Change at before new sf) = before
 
--- The energy in mWh from the counter's state `last` to an entry.
+-- The energy in mWh that a meter counted from the counter's state `last` to an entry.
 abbrev pub energy_of : (range : ℕ) → Last → Entry → ℕ
 energy_of range last e = reached range e * unit_of last.sf - value_of last
 
--- The step (both times and the energy in mWh) from the counter's state `last` to an entry.
+-- The step from the counter's state `last` to an entry: both times, and the energy in mWh.
 abbrev pub step_to : (range : ℕ) → Last → Entry → Step
 step_to range last e = record { from = last.at; till = moment_of e; mwh = energy_of range last e }
 
--- The steps of an installation, one between each two consecutive entries. The latest step comes
--- first.
+-- The steps of an installed meter: the energy and the times between each two consecutive entries.
+-- The latest step comes first.
 abbrev pub steps_of : (range : ℕ) → Last → List Entry → List Step
 steps_of range opening [] = []
 steps_of range opening (e ∷ es) = step_to range (last_of opening es) e ∷ steps_of range opening es
 
--- The energy in mWh of all recorded full turns, plus the energy of the count that the counter
--- showed before each reset or rescale.
+-- The energy in mWh of all full turns of the counter that entries record. It includes the energy of
+-- the count that the counter showed before each reset or rescale.
 abbrev pub recorded : (range : ℕ) → Last → List Entry → ℕ
 recorded range opening [] = 0
 recorded range opening (entry.Step at raw rolls ∷ es) =
@@ -63,36 +66,37 @@ set_anew [] = 0
 set_anew (entry.Step at raw rolls ∷ es) = set_anew es
 set_anew (entry.Change at before new sf ∷ es) = new * unit_of sf + set_anew es
 
--- The total energy of an installation, in mWh: the last value less the first, plus one full range
--- for each recorded rollover. Each reset or rescale adds the value before it less the value after
--- it.
+-- The total energy of an installed meter, in mWh. This is the last value less the first, plus one
+-- full range for each recorded rollover. For each reset or rescale, the value before it is added,
+-- and the value after it is subtracted.
 abbrev pub whole_energy : (range : ℕ) → Last → List Entry → ℕ
 whole_energy range opening es =
     (value_of (last_of opening es) + recorded range opening es) - (value_of opening + set_anew es)
 
--- No entry's count is less than the counter's count before that entry. Therefore `whole_energy`
--- never cuts off a subtraction at 0.
+-- True if no entry's count is less than the counter's count before that entry. Therefore
+-- `whole_energy` (the total energy) never cuts off a subtraction at 0.
 abbrev pub NeverFalls : (range : ℕ) → Last → List Entry → Type 0
 NeverFalls range opening [] = Unit {0}
 NeverFalls range opening (e ∷ es) =
     ((last_of opening es).raw ≤ reached range e) × NeverFalls range opening es
 
--- The scale factor is from -3 to 3, as an accounting register requires.
+-- True if the scale factor is from -3 to 3, as an accounting register (a named counter) requires.
 abbrev pub IsScale : ℤ → Type 0
 IsScale sf = (MIN_SCALE ≤ℤ sf) × (sf ≤ℤ MAX_SCALE)
 
--- The scale factor that a `Change` sets is from -3 to 3. A `Step` sets no scale factor.
+-- True if the scale factor that a `Change` (a reset or rescale) sets is from -3 to 3. A `Step` (a
+-- reading) sets no scale factor.
 abbrev pub HasScale : Entry → Type 0
 HasScale (entry.Step at raw rolls) = Unit {0}
 HasScale (entry.Change at before new sf) = IsScale sf
 
--- Every count in the entry is below the counter's range.
+-- True if every count in the entry is below the counter's range.
 abbrev pub CanBeShown : (range : ℕ) → Entry → Type 0
 CanBeShown range (entry.Step at raw rolls) = raw < range
 CanBeShown range (entry.Change at before new sf) = (before < range) × (new < range)
 
--- An entry may follow the counter's state `last`. Its count does not go back, its time is later,
--- and its step, scale factor and counts are within their limits.
+-- True if an entry may follow the counter's state `last`. Its count does not go back, its time is
+-- later, and the time between both, the scale factor and the counts are within their limits.
 pub record Follows (range : ℕ) (last : Last) (e : Entry) : Type 0 where
   pub rises : last.raw ≤ reached range e
   pub later : last.at < moment_of e
@@ -100,13 +104,14 @@ pub record Follows (range : ℕ) (last : Last) (e : Entry) : Type 0 where
   pub scale : HasScale e
   pub shown : CanBeShown range e
 
--- Each entry may follow the counter's state after the entries before it.
+-- True if each entry may follow the counter's state after the entries before it.
 abbrev pub AllFollow : (range : ℕ) → Last → List Entry → Type 0
 AllFollow range opening [] = Unit {0}
 AllFollow range opening (e ∷ es) = Follows range (last_of opening es) e × AllFollow range opening es
 
--- After the opening entry and the entries `es`, `last` is the counter's state and `total` is the
--- energy in mWh, within its limit. Each entry may follow the entries before it.
+-- States that `last` is the counter's state after the opening (the first entry) and the entries
+-- `es`. `total` is the energy in mWh, within its limit. Each entry may follow the entries before
+-- it.
 pub record IsAccount (range : ℕ) (opening : Last) (es : List Entry) (last : Last) (total : ℕ) : Type
     0 where
   pub last_is : last ≡ last_of opening es

@@ -1,4 +1,4 @@
--- The rules by which an entry by hand is recorded or refused.
+-- The rules by which a manual entry of a meter is recorded or refused.
 use Rattle.std.specs.Prelude.{◌≡◌, ◌≤◌, ℕ, ◌+◌, nat_lt, nat_le, int_lt, Bool, ◌||◌, false, List, [], ◌∷◌, Option, Some, None, Result, Ok, Err, IfOk}
 use Rattle.std.specs.List.{find}
 use Rattle.energy_core.specs.declared.limits.TheConstants.{MAX_INTERVALS, MAX_SCALE, MAX_TOTAL, MIN_SCALE}
@@ -10,7 +10,7 @@ use Rattle.energy_core.specs.declared.admission.TermFault.{TermFault}
 use Rattle.energy_core.specs.declared.admission.TermFault.TheVariants as fault
 use Rattle.energy_core.specs.Account.{intervals_touched, moment_of, after, reached, energy_of, step_to, Follows, IsAccount}
 
--- The number of each fault of an entry by hand, from 1 to 6.
+-- The number of each fault of a manual entry, from 1 to 6.
 abbrev pub fault_number : TermFault → ℕ
 fault_number fault.NegativeStep = 1
 fault_number fault.NotLater = 2
@@ -19,62 +19,63 @@ fault_number fault.TotalFull = 4
 fault_number fault.BadScale = 5
 fault_number fault.NotBelowRange = 6
 
--- The entry sets a scale factor that is not from -3 to 3.
+-- True if the entry sets a scale factor that is not from -3 to 3.
 abbrev pub has_bad_scale : Entry → Bool
 has_bad_scale (entry.Step at raw rolls) = false
 has_bad_scale (entry.Change at before new sf) = int_lt sf MIN_SCALE || int_lt MAX_SCALE sf
 
--- A count in the entry is not below the counter's range.
+-- True if a count in the entry is not below the counter's range.
 abbrev pub is_beyond : (range : ℕ) → Entry → Bool
 is_beyond range (entry.Step at raw rolls) = nat_le range raw
 is_beyond range (entry.Change at before new sf) = nat_le range before || nat_le range new
 
--- Whether the fault applies to an entry after the counter's state `last` and the total energy
--- `total`.
+-- True if the fault applies to a meter's entry after the counter's state `last` and the total
+-- energy `total`.
 abbrev pub refuses : (range total : ℕ) → Last → Entry → TermFault → Bool
 -- The entry's count is less than the count at the last entry.
 refuses range total last e fault.NegativeStep = nat_lt (reached range e) last.raw
 -- The entry is not later than the last entry.
 refuses range total last e fault.NotLater = nat_le (moment_of e) last.at
--- The step from the last entry to the entry would touch more than 3,000 quarter hours.
+-- The time from the last entry to the entry would touch more than 3,000 quarter hours.
 refuses range total last e fault.SpanTooLong =
     nat_lt MAX_INTERVALS (intervals_touched last.at (moment_of e))
--- The total energy of the installation would exceed its limit.
+-- The total energy of the installed meter would exceed its limit.
 refuses range total last e fault.TotalFull = nat_lt MAX_TOTAL (total + energy_of range last e)
 refuses range total last e fault.BadScale = has_bad_scale e
 refuses range total last e fault.NotBelowRange = is_beyond range e
 
--- The faults of an entry, in the order in which they are checked.
+-- The faults of a manual entry, in the order in which they are checked.
 abbrev pub faults : List TermFault
 faults = fault.NegativeStep ∷ fault.NotLater ∷ fault.SpanTooLong ∷ fault.TotalFull ∷ fault.BadScale
     ∷ fault.NotBelowRange ∷ []
 
--- The fault of an entry as an error. Without a fault, the counter's state after the entry and the
--- step to the entry.
+-- The fault of an entry as an error. Without a fault, the counter's state after the entry, and the
+-- energy and times since the last entry.
 abbrev pub answered : (range : ℕ) → Last → Entry → Option TermFault → Result (Last × Step) TermFault
 answered range last e (Some fault) = Err fault
 answered range last e None = Ok (after last e, step_to range last e)
 
--- The result of an entry by hand: the first fault that applies. Without a fault, the counter's
--- state after the entry and the step to the entry. The ceiling on power is not checked.
+-- The result of a manual entry: the first fault that applies. Without a fault, the counter's state
+-- after the entry, and the energy and times since the last entry. The ceiling on power is not
+-- checked.
 abbrev pub entered : (range total : ℕ) → Last → Entry → Result (Last × Step) TermFault
 entered range total last e = answered range last e (find (refuses range total last e) faults)
 
--- After the entries `es`, the counter's state is `r.0`, and the total energy has grown by the
--- energy of the step `r.1`.
+-- States that after the entries `es`, the counter's state is `r.0`. The total energy has grown by
+-- the energy of `r.1`, the step from the last entry.
 abbrev pub ContinuesAccount : (range : ℕ) → Last → List Entry → (total : ℕ) → Last × Step → Type 0
 ContinuesAccount range opening es total r = IsAccount range opening es r.0 (total + r.1.mwh)
 
--- If `answer` records the entry `e`, then `e` may follow any lawful entries after which the
--- counter's state is `last` and the energy is `total`.
+-- States that if `answer` records the entry `e`, then `e` may follow earlier entries that obey the
+-- rules. After these entries, `last` is the counter's state and `total` the energy.
 abbrev pub AccountsGoOnBy : (range total : ℕ) → Last → Entry → Result (Last × Step) TermFault
     → Type 0
 AccountsGoOnBy range total last e answer = (opening : Last) (es : List Entry)
     → IsAccount range opening es last total
     → IfOk answer (ContinuesAccount range opening (e ∷ es) total)
 
--- The entry may follow the last entry and was recorded. The counter is in the state after the
--- entry, the step ends at the entry, and the total energy is within its limit.
+-- States that the entry may follow the last entry and was recorded. `next` is the counter's state
+-- after the entry, `step` ends at the entry, and the total energy is within its limit.
 pub record IsBooked (range total : ℕ) (last : Last) (e : Entry) (next : Last) (step : Step) : Type 0
   where
     pub next_is : next ≡ after last e

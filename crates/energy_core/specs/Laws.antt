@@ -15,21 +15,22 @@ use Rattle.energy_core.specs.Verdict.{distance, verdict_of, IsPlausible}
 use Rattle.energy_core.specs.Admission.{entered, IsBooked}
 use Rattle.energy_core.specs.Readings.{entries_of_readings}
 
--- Theorem: the energies of the steps, the opening value and the values that resets and rescales set
--- add up to the last value plus `recorded`. `recorded` is the energy of all full turns and of the
--- counts before resets and rescales.
+-- Theorem: the energies between consecutive entries, the opening value and the values that resets
+-- and rescales set add up to the last value plus `recorded`. `recorded` is the energy of all full
+-- turns and of the counts before resets and rescales.
 abbrev pub StepsAddUp : Type 0
 StepsAddUp = (range : ℕ) (opening : Last) (es : List Entry) → NeverFalls range opening es
     → sum_by (λ (s : Step). s.mwh) (steps_of range opening es) + value_of opening + set_anew es
     ≡ value_of (last_of opening es) + recorded range opening es
 
--- Theorem: the energies of the steps of an installation add up to its total energy.
+-- Theorem: the energies between the consecutive entries of an installed meter add up to its total
+-- energy.
 abbrev pub StepsAreTheWhole : Type 0
 StepsAreTheWhole = (range : ℕ) (opening : Last) (es : List Entry) → NeverFalls range opening es
     → sum_by (λ (s : Step). s.mwh) (steps_of range opening es) ≡ whole_energy range opening es
 
--- Theorem: `entered` records an entry if and only if the entry may follow `last` and the total
--- energy stays within its limit.
+-- Theorem: `entered`, the check of manual entries, records an entry if and only if it may follow
+-- `last` and the total energy stays within its limit.
 abbrev pub EnteredIsBooked : Type 0
 EnteredIsBooked = (range total : ℕ) (last : Last) (e : Entry) (next : Last) (step : Step)
     → (entered range total last e ≡ Ok (next, step)) ↔ IsBooked range total last e next step
@@ -60,24 +61,26 @@ AcceptedIsEntered = (range : ℕ) (terms : Terms) (last : Last) (reading : Readi
 abbrev pub AccountsBegin : Type 0
 AccountsBegin = (range : ℕ) (opening : Last) → IsAccount range opening [] opening 0
 
--- Theorem: if the entries of an installed meter obey the rules (`IsAccount`), the entries with one
--- more recorded entry obey the rules too.
+-- Theorem: if the entries of an installed meter obey the rules (`IsAccount`), then the entries with
+-- one more recorded entry obey the rules too.
 abbrev pub AccountsGoOn : Type 0
 AccountsGoOn = (range : ℕ) (opening : Last) (es : List Entry) (last : Last) (total : ℕ)
     (e : Entry) (next : Last) (step : Step)
     → IsAccount range opening es last total → IsBooked range total last e next step
     → IsAccount range opening (e ∷ es) next (total + step.mwh)
 
--- The step's length and energy are within the limits for dividing the step among the quarter hours
--- that it touches.
+-- States that the length and the energy of a step (the time between two entries) are within the
+-- limits for division by quarter hour.
 pub record IsShareable (step : Step) : Type 0 where
   pub later : step.from < step.till
   pub span : intervals_touched step.from step.till ≤ MAX_INTERVALS
   pub within : step.mwh ≤ MAX_TOTAL
 
--- The recorded state of an installed meter is sound. The counter's count is below its range, its
--- scale factor is from -3 to 3, and no entry's count goes back. The total energy is the sum of the
--- steps, and each step can be divided among its intervals.
+-- States that the recorded state of an installed meter is sound. The counter's count is below its
+-- range, its scale factor is from -3 to 3, and no entry's count goes back.
+--
+-- The total energy is the sum of the energies between consecutive entries, and each of these
+-- energies can be divided among quarter-hour intervals.
 pub record IsSound (range : ℕ) (opening : Last) (es : List Entry) (last : Last)
     (total : ℕ) : Type 0 where
   pub raw : last.raw < range
@@ -86,15 +89,15 @@ pub record IsSound (range : ℕ) (opening : Last) (es : List Entry) (last : Last
   pub sum : total ≡ sum_by (λ (s : Step). s.mwh) (steps_of range opening es)
   pub steps : All IsShareable (steps_of range opening es)
 
--- Theorem: entries that obey the rules (`IsAccount`) have a sound state if the opening entry shows
--- a count below the range at a scale factor from -3 to 3.
+-- Theorem: entries that obey the rules (`IsAccount`) have a sound state. This requires that the
+-- opening (the first entry) has a count below the range and a scale factor from -3 to 3.
 abbrev pub AccountsAreSound : Type 0
 AccountsAreSound = (range : ℕ) (opening : Last) (es : List Entry) (last : Last) (total : ℕ)
     → opening.raw < range → IsScale opening.sf
     → IsAccount range opening es last total → IsSound range opening es last total
 
--- Theorem: after any list of readings, the entries that the accepted readings became obey the rules
--- (`IsAccount`).
+-- Theorem: after any list of a meter's readings, the entries that the accepted readings became obey
+-- the rules (`IsAccount`).
 abbrev pub ReadingsKeepAccounts : Type 0
 ReadingsKeepAccounts = (range ceiling : ℕ) (opening : Last) (rs : List Reading)
     → opening.raw < range

@@ -6,6 +6,6 @@ use Rattle.energy_core.specs.declared.counters.Ranged.{Ranged}
 abbrev pub range_of : Ranged → ℕ
 range_of counter = counter.range
 
--- The range of a counter is allowed: from 65,536 to 4,294,967,296 counts.
+-- True if the range of a counter is allowed: from 65,536 to 4,294,967,296 counts.
 abbrev pub IsRange : ℕ → Type 0
 IsRange range = (MIN_RANGE ≤ range) × (range ≤ MAX_RANGE)

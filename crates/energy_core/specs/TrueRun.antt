@@ -25,14 +25,14 @@ shown range sf item = record { at = item.at; raw = item.count % range; sf = sf }
 abbrev pub reported : (range : ℕ) → ℤ → Item → Reading
 reported range sf item = record { at = item.at; raw = item.count % range; sf = sf }
 
--- The latest item (time and true count) of a run. For an empty list, it is the item `first` at the
--- meter's installation.
+-- The latest item (time and true count) in a list of a meter's true counts. For an empty list, it
+-- is the item `first` at the meter's installation.
 abbrev pub newest : Item → List Item → Item
 newest first [] = first
 newest first (b ∷ items) = b
 
--- The items are a true run. Times rise. Counts never fall, and never rise faster than the ceiling
--- on power allows.
+-- True if the items can be the true counts of a meter. Times rise. Counts never fall, and never
+-- rise faster than the ceiling (the greatest power) allows.
 abbrev pub IsTrueRun : (ceiling : ℕ) → ℤ → Item → List Item → Type 0
 IsTrueRun ceiling sf first [] = Unit {0}
 IsTrueRun ceiling sf first (b ∷ items) =
@@ -42,12 +42,12 @@ IsTrueRun ceiling sf first (b ∷ items) =
     × IsTrue (can_count ceiling (unit_of sf) (b.at - a.at) (b.count - a.count))
     × IsTrueRun ceiling sf first items
 
--- The true energy between two items (times and true counts) of a run, in mWh.
+-- The true energy between two items (times and true counts) of a meter, in mWh.
 abbrev pub advance : ℤ → Item → Item → ℕ
 advance sf a b = (b.count - a.count) * unit_of sf
 
--- The meter is polled often enough, each reading shows a number other than 0, and the total energy
--- stays within its limit. Only the causes `TooFast` and `NotBelowRange` could still reject a
+-- True if the meter is polled often enough, each reading shows a number other than 0, and the total
+-- energy stays within its limit. Only the causes `TooFast` and `NotBelowRange` could still reject a
 -- reading.
 abbrev pub IsReadOftenEnough : (range ceiling : ℕ) → ℤ → Item → List Item → Type 0
 IsReadOftenEnough range ceiling sf first [] = Unit {0}
@@ -58,15 +58,17 @@ IsReadOftenEnough range ceiling sf first (b ∷ items) =
     → applies range terms (shown range sf a) (reported range sf b) c ≡ false)
     × IsReadOftenEnough range ceiling sf first items
 
--- The true steps of a run, one between each two consecutive items. The latest step comes first.
+-- The true energies and times between each two consecutive items of a meter's true counts. The
+-- latest comes first.
 abbrev pub true_steps : ℤ → Item → List Item → List Step
 true_steps sf first [] = []
 true_steps sf first (b ∷ items) =
     let a = newest first items in
     record { from = a.at; till = b.at; mwh = advance sf a b } ∷ true_steps sf first items
 
--- The readings of a run are recorded truly. Every reading is accepted, each step has the true
--- energy between its times, and the total energy is the true energy since the opening.
+-- States that the readings of a meter's true counts are recorded truly. Every reading is accepted,
+-- each recorded energy is the true energy between its times, and the total energy is the true
+-- energy since installation.
 pub record IsBookedTruly (range ceiling : ℕ) (sf : ℤ) (first : Item) (items : List Item) : Type 0
   where
     pub accepted : AllAccepted range ceiling (shown range sf first) (map (reported range sf) items)

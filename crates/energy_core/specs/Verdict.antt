@@ -1,4 +1,4 @@
--- The rules by which a reading is accepted or rejected.
+-- The rules by which a reading of a meter's counter is accepted or rejected.
 use Rattle.std.specs.Prelude.{◌≡◌, ◌≢◌, ◌<◌, ◌≤◌, ℕ, ◌+◌, ◌-◌, ◌*◌, ◌%◌, ◌==◌, nat_lt, nat_le, Bool, not, List, [], ◌∷◌, Option, Some, None, if◌then◌else◌}
 use Rattle.std.specs.List.{find}
 use Rattle.std.specs.Ordering.{int_eq}
@@ -24,7 +24,7 @@ cause_number cause.TooFast = 6
 cause_number cause.TotalFull = 7
 cause_number cause.NotBelowRange = 8
 
--- Whether a power of at most `ceiling` W can advance a meter by `count` counts in `seconds`
+-- True if a power of at most `ceiling` W can advance a meter by `count` counts in `seconds`
 -- seconds. The factors convert units: 5 mWh are 18 Ws. The first count may have been almost
 -- complete at the last reading, so it needs no energy.
 abbrev pub can_count : (ceiling unit seconds count : ℕ) → Bool
@@ -35,7 +35,7 @@ can_count ceiling unit seconds count = nat_le ((count - 1) * unit * 18) (ceiling
 abbrev pub distance : (range from to : ℕ) → ℕ
 distance range from to = (to + range - from) % range
 
--- Whether a cause to reject a reading applies, where `last` is the counter's state at the last
+-- True if a cause to reject a reading applies, where `last` is the counter's state at the last
 -- entry.
 abbrev pub applies : (range : ℕ) → Terms → Last → Reading → Cause → Bool
 -- The counter shows 0, which SunSpec defines as an accumulator that does not count.
@@ -46,17 +46,17 @@ applies range terms last reading cause.ScaleChanged = not (int_eq reading.sf las
 applies range terms last reading cause.NotBelowRange = nat_le range reading.raw
 -- The reading is not later than the last entry.
 applies range terms last reading cause.NotLater = nat_le reading.at last.at
--- The step from the last entry to the reading would touch more than 3,000 quarter hours.
+-- The time from the last entry to the reading would touch more than 3,000 quarter hours.
 applies range terms last reading cause.SpanTooLong =
     nat_lt MAX_INTERVALS (intervals_touched last.at reading.at)
 -- The counter could have made a full turn since the last entry, so its advance is unknown.
 applies range terms last reading cause.GapTooLong =
     can_count terms.ceiling (unit_of last.sf) (reading.at - last.at) range
--- The counter advanced further than the ceiling on power allows.
+-- The counter advanced further than the ceiling (the meter's greatest power) allows.
 applies range terms last reading cause.TooFast =
     not (can_count terms.ceiling (unit_of last.sf) (reading.at - last.at)
     (distance range last.raw reading.raw))
--- The total energy of the installation would exceed its limit.
+-- The total energy of the installed meter would exceed its limit.
 applies range terms last reading cause.TotalFull =
     nat_lt MAX_TOTAL (terms.total + distance range last.raw reading.raw * unit_of last.sf)
 
@@ -67,7 +67,7 @@ causes = cause.NotAccumulated ∷ cause.ScaleChanged ∷ cause.NotBelowRange ∷
     ∷ cause.GapTooLong ∷ cause.TooFast ∷ cause.TotalFull ∷ []
 
 -- The verdict on a reading. A cause rejects the reading. Without a cause, the reading is accepted,
--- with its number of rollovers and the energy in mWh since the last entry.
+-- with the number of the counter's rollovers and the energy in mWh since the last entry.
 abbrev pub judged : (range : ℕ) → Last → Reading → Option Cause → Verdict
 judged range last reading (Some cause) = Held cause
 judged range last reading None =
@@ -81,7 +81,7 @@ abbrev pub verdict_of : (range : ℕ) → Terms → Last → Reading → Verdict
 verdict_of range terms last reading =
     judged range last reading (find (applies range terms last reading) causes)
 
--- The reading is plausible after the counter's state `last`: no cause to reject the reading
+-- True if the reading is plausible after the counter's state `last`: no cause to reject the reading
 -- applies.
 pub record IsPlausible (range : ℕ) (terms : Terms) (last : Last) (reading : Reading) : Type 0 where
   pub accumulated : reading.raw ≢ 0

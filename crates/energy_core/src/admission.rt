@@ -12,16 +12,16 @@ use crate::limits::{MAX_INTERVALS, MAX_RANGE, MAX_SCALE, MAX_TOTAL, MAX_UNIT, MI
 use crate::measures::is_long_span;
 use crate::verdicts::Terms;
 
-/// The reason why an entry by hand is refused.
+/// The reason why a manual entry of a meter is refused.
 #[derive(Clone, Copy, Debug, PartialEq, Eq)]
 pub enum TermFault {
     /// The entry's count is less than the count at the last entry.
     NegativeStep,
     /// The entry is not later than the last entry.
     NotLater,
-    /// The step from the last entry to this entry would touch more than 3,000 quarter hours.
+    /// The time from the last entry to this entry would touch more than 3,000 quarter hours.
     SpanTooLong,
-    /// The total energy of the installation would exceed 4 * 10^18 mWh.
+    /// The total energy of the installed meter would exceed 4 * 10^18 mWh.
     TotalFull,
     /// The entry's scale factor is not from -3 to 3.
     BadScale,
@@ -54,8 +54,9 @@ fn moment(entry: &Entry) -> u64
     }
 }
 
-/// Returns the count that the counter reached at an entry. A `Step` includes its full turns. A
-/// `Change` counts what the counter showed before it was set.
+/// Returns the count that the counter reached at an entry. For a `Step` (a reading), the count
+/// includes the full turns. For a `Change` (a reset), it is what the counter showed before it was
+/// set.
 fn reach(range: u64, entry: &Entry) -> u64
     requires { range ≤ MAX_RANGE }
     ensures value { result ≡ reached range entry.now }
@@ -115,8 +116,9 @@ fn last_after(last: &Last, entry: &Entry) -> Last
     }
 }
 
-/// Records an entry after the counter's last entry. Returns the counter's state after the new
-/// entry, and the step between the two entries. On error, returns the first fault that applies.
+/// Records a meter's entry after the counter's last entry. Returns the counter's state after the
+/// new entry, and the energy and times between the two entries. On error, returns the first fault
+/// that applies.
 pub fn enter<C: Counter>(
     counter: &C,
     terms: &Terms,
@@ -131,14 +133,15 @@ pub fn enter<C: Counter>(
     ensures account { let range = C.range counter.now in
         AccountsGoOnBy range terms.now.total last.now entry.now result }
 
-    // On success, the returned state and the new total energy satisfy the requirements of
-    // `enter`, so the next entry can be recorded.
+    // On success, the returned state and the new total energy satisfy the preconditions of `enter`,
+    // so the next entry can be recorded.
     ensures total { IfOk result (λ r. terms.now.total + r.1.mwh ≤ MAX_TOTAL) }
     ensures raw { IfOk result (λ r. r.0.raw < C.range counter.now) }
     ensures scale_low { IfOk result (λ r. MIN_SCALE ≤ℤ r.0.sf) }
     ensures scale_high { IfOk result (λ r. r.0.sf ≤ℤ MAX_SCALE) }
 
-    // On success, the returned step can be divided among the intervals that it touches.
+    // On success, the energy of the returned step (the time between two entries) can be divided
+    // among the quarter-hour intervals that it touches.
     ensures later { IfOk result (λ r. r.1.from < r.1.till) }
     ensures span { IfOk result (λ r. intervals_touched r.1.from r.1.till ≤ MAX_INTERVALS) }
 {

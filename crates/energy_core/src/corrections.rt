@@ -10,7 +10,7 @@ use crate::limits::{MAX_SCALE, MAX_TOTAL, MIN_SCALE};
 use crate::verdicts::Terms;
 
 /// Records a reading by hand, or a reading at closing, after `rolls` full turns of the counter. The
-/// ceiling on power is not checked.
+/// ceiling (the meter's greatest power) is not checked.
 pub fn manual<C: Counter>(
     counter: &C,
     terms: &Terms,
@@ -29,8 +29,8 @@ pub fn manual<C: Counter>(
     enter(counter, terms, last, &Entry::Step { at, raw, rolls })
 }
 
-/// Records a reset: the counter showed `before` and was set to `after`. The ceiling on power is not
-/// checked.
+/// Records a reset: the counter showed `before` and was set to `after`. The ceiling (the meter's
+/// greatest power) is not checked.
 pub fn reset<C: Counter>(
     counter: &C,
     terms: &Terms,
@@ -50,7 +50,7 @@ pub fn reset<C: Counter>(
 }
 
 /// Records a rescale: a reset that also sets the scale factor. `after` is counted at the new scale
-/// factor `sf`. The ceiling on power is not checked.
+/// factor `sf`. The ceiling (the meter's greatest power) is not checked.
 pub fn rescale<C: Counter>(
     counter: &C,
     terms: &Terms,

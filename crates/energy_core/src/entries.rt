@@ -1,4 +1,4 @@
-//! The entries of a counter, the counter's state after each entry, and the step between two
+//! The entries of a counter, the counter's state after each entry, and the energy between two
 //! entries.
 /// The state of a counter: a time in seconds since 1970-01-01 UTC, the count that the counter
 /// shows, and its scale factor.
@@ -9,7 +9,8 @@ pub struct Last {
     pub sf: i16,
 }
 
-/// An entry of an installed meter, after the opening entry that recorded the installation.
+/// An entry of an installed meter, after the opening (the first entry, which records the
+/// installation).
 #[derive(Clone, Copy, PartialEq, Eq)]
 pub enum Entry {
     /// A reading, a correction by hand or a closing. The counter reached `raw` after `rolls` full

@@ -1,17 +1,19 @@
-//! Theorems about steps, entries and readings, for all values.
+//! Theorems about the energies between a meter's entries, about entries and about readings, for all
+//! values.
 ghost use Rattle.energy_core.specs.Laws.{StepsAddUp, StepsAreTheWhole, EnteredIsBooked};
 ghost use Rattle.energy_core.specs.Laws.{AcceptedIsPlausible, AcceptedIsEntered, AccountsBegin};
 ghost use Rattle.energy_core.specs.Laws.{AccountsGoOn, AccountsAreSound, ReadingsKeepAccounts};
 ghost use Rattle.energy_core.specs.TrueRun.{TruthIsBooked};
 
-/// Theorem: the energies of the steps of an installation add up to the installation's total energy.
+/// Theorem: the energies between the consecutive entries of an installed meter add up to the
+/// meter's total energy.
 pub fn steps_add_up()
     ensures both_sides { StepsAddUp }
     ensures whole { StepsAreTheWhole }
 {}
 
-/// Theorem: an entry is recorded if and only if it may follow the last entry and the total energy
-/// stays within its limit.
+/// Theorem: a meter's entry is recorded if and only if it may follow the last entry and the total
+/// energy stays within its limit.
 pub fn entered_is_booked()
     ensures { EnteredIsBooked }
 {}
@@ -21,7 +23,8 @@ pub fn accepted_is_plausible()
     ensures { AcceptedIsPlausible }
 {}
 
-/// Theorem: `enter`'s rules record each accepted reading, with the energy that the verdict states.
+/// Theorem: the rules of `enter` record each accepted reading, with the energy in the verdict on
+/// the reading.
 pub fn accepted_is_entered()
     ensures { AcceptedIsEntered }
 {}
@@ -31,26 +34,26 @@ pub fn accounts_begin()
     ensures { AccountsBegin }
 {}
 
-/// Theorem: if the entries of an installed meter obey the rules (`IsAccount`), the entries with one
-/// more recorded entry obey the rules too.
+/// Theorem: if the entries of an installed meter obey the rules (`IsAccount`), then the entries
+/// with one more recorded entry obey the rules too.
 pub fn accounts_go_on()
     ensures { AccountsGoOn }
 {}
 
-/// Theorem: entries that obey the rules (`IsAccount`) have a sound state if the opening entry shows
-/// a count below the range at a scale factor from -3 to 3.
+/// Theorem: entries that obey the rules (`IsAccount`) have a sound state. This requires that the
+/// opening (the first entry) has a count below the range and a scale factor from -3 to 3.
 pub fn accounts_are_sound()
     ensures { AccountsAreSound }
 {}
 
-/// Theorem: after any list of readings, the entries that the accepted readings became obey the
-/// rules (`IsAccount`).
+/// Theorem: after any list of a meter's readings, the entries that the accepted readings became
+/// obey the rules (`IsAccount`).
 pub fn readings_keep_accounts()
     ensures { ReadingsKeepAccounts }
 {}
 
-/// Theorem: readings from an honest meter that is polled often enough are always accepted. Each
-/// step and the total energy equal the true energy, however often the counter rolled over.
+/// Theorem: readings from a meter that shows its true counts and is polled often enough are always
+/// accepted. Each recorded energy equals the true energy, however often the counter rolled over.
 pub fn truth_is_booked()
     ensures { TruthIsBooked }
 {}

@@ -1,5 +1,5 @@
-//! Decides which readings of a counter that rolls over are accepted, and computes the energy of
-//! each step.
+//! Decides which readings of a counter that rolls over are accepted, and computes the energy
+//! between consecutive readings.
 #![tactic(auto)]
 
 mod admission;

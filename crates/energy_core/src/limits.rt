@@ -18,14 +18,16 @@ pub const MAX_SCALE: i16 = 3;
 /// The greatest energy of one count, in mWh, which is the energy at the greatest scale factor.
 pub const MAX_UNIT: u64 = 1_000_000;
 
-/// The greatest ceiling on a meter's power, in W.
+/// The greatest ceiling (limit of a meter's power) that a meter may have, in W.
 pub const MAX_CEILING: u64 = 1_000_000_000;
 
-/// The greatest total energy of an installation, in mWh.
+/// The greatest total energy of an installed meter, in mWh.
 pub const MAX_TOTAL: u64 = 4_000_000_000_000_000_000;
 
-/// The length of an interval, in seconds. Each interval begins at a multiple of this length.
+/// The length of a quarter-hour interval, in seconds. Each interval begins at a multiple of this
+/// length.
 pub const INTERVAL_SECONDS: u64 = 900;
 
-/// The greatest number of quarter-hour intervals that a step may touch.
+/// The greatest number of quarter-hour intervals that the time between two entries of a meter may
+/// touch.
 pub const MAX_INTERVALS: u64 = 3000;

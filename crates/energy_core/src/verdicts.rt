@@ -38,13 +38,13 @@ pub enum Cause {
     ScaleChanged,
     /// The reading is not later than the last entry.
     NotLater,
-    /// The step from the last entry to the reading would touch more than 3,000 quarter hours.
+    /// The time from the last entry to the reading would touch more than 3,000 quarter hours.
     SpanTooLong,
     /// The counter could have made a full turn since the last entry, so its advance is unknown.
     GapTooLong,
-    /// The counter advanced further than the ceiling on power allows.
+    /// The counter advanced further than the ceiling (the meter's greatest power) allows.
     TooFast,
-    /// The total energy of the installation would exceed 4 * 10^18 mWh.
+    /// The total energy of the installed meter would exceed 4 * 10^18 mWh.
     TotalFull,
     /// The count of the reading is not below the counter's range.
     NotBelowRange,
@@ -68,7 +68,7 @@ impl Cause {
     }
 }
 
-/// The verdict on a reading.
+/// The verdict on a reading of a meter's counter: accepted or rejected.
 #[derive(Clone, Copy, PartialEq, Eq)]
 pub enum Verdict {
     /// The reading becomes an entry. `rolls` is how often the counter rolled over since the last

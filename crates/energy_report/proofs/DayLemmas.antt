@@ -11,7 +11,6 @@ use Rattle.jiff_core.proofs.SignedLemmas.{signed_arith}
 use Rattle.energy_report.specs.declared.spelled_day.Parts.{Parts}
 use Rattle.energy_report.specs.Days.{AreFew, DigitIs, IsReadAs, PairIs, PartsAre, parts_text}
 
--- ---- texts of numbers with two digits
 -- If two bytes are the digits `a` and `b`, they are the text of the number `a * 10 + b`.
 
 pub pair : (tens ones a b : ℕ) → DigitIs tens (Some a) → DigitIs ones (Some b) → PairIs tens ones (Some (a * 10 + b))
@@ -30,8 +29,7 @@ no_ones tens ones none n few is =
     let here : 48 + n % 10 ≡ ones = ap (λ (xs : List ℕ). get_or xs 1 0) is in
     none (n % 10) (omega arith) (sym here)
 
--- ---- the numbers of year, month and day in a date
--- True if the text has the form `YYYY-MM-DD` with these numbers.
+-- True if the text has the form `YYYY-MM-DD`, with the given numbers of year, month and day.
 
 pub record Pairs (parts : Parts) (text : List ℕ) : Type 0 where
   pub size : length text ≡ 10
@@ -68,7 +66,6 @@ spelled parts text size first second century year month day = (
       ∙ ten text size first second,
 )
 
--- ---- the civil days that texts represent
 -- An integer of at least 0 equals its absolute value.
 
 natural : (z : ℤ) → pos 0 ≤ℤ z → z ≡ pos (unsigned_abs z)
@@ -76,7 +73,7 @@ natural (pos n) le = refl
 natural (negsuc n) le = absurd (omega (arith, signed_arith, le))
 
 -- True if four numbers of two digits are the century, the year within the century, the month and
--- the day of a date.
+-- the day of a civil date.
 pub record IsOf (parts : Parts) (date : Date) : Type 0 where
   pub few : AreFew parts
   pub year : date.year ≡ pos (parts.century * 100 + parts.year)
@@ -123,7 +120,8 @@ same_pair a b is =
     let second : 48 + a % 10 ≡ 48 + b % 10 = ap (λ (xs : List ℕ). get_or xs 1 0) is in
     omega (arith, first, second)
 
--- If two lists of numbers have the same text of the form `YYYY-MM-DD`, then the numbers are equal.
+-- If two dates, as numbers of two digits, have the same text of the form `YYYY-MM-DD`, then the
+-- numbers are equal.
 same_parts : (a b : Parts) (text : List ℕ) → parts_text a ≡ text → parts_text b ≡ text
     → (a.century ≡ b.century) × (a.year ≡ b.year) × (a.month ≡ b.month) × (a.day ≡ b.day)
 same_parts a b text first second =
@@ -135,7 +133,8 @@ same_parts a b text first second =
       same_pair a.day b.day (x.day ∙ sym y.day),
     )
 
--- If the calendar has a day with the numbers of a text, then the text represents this day.
+-- If the calendar has a day with the numbers in a text of the form `YYYY-MM-DD`, then the text
+-- represents this day.
 pub read : (text : List ℕ) (parts : Parts) (day : Date) → PartsAre text (Some parts)
     → IsYmd (pos (parts.century * 100 + parts.year)) (pos parts.month) (pos parts.day) day → IsReadAs text (Some day)
 read text parts day are is =
@@ -148,7 +147,8 @@ read text parts day are is =
 upward : (a b : ℕ) → a ≤ b → pos a ≤ℤ pos b
 upward a b le = omega (arith, signed_arith, le)
 
--- If the calendar has no day with the numbers of a text, then the text represents no day.
+-- If the calendar has no day with the numbers in a text of the form `YYYY-MM-DD`, then the text
+-- represents no day.
 pub unread : (text : List ℕ) (parts : Parts) → PartsAre text (Some parts)
     → ¬ IsDate (pos (parts.century * 100 + parts.year)) (pos parts.month) (pos parts.day) → IsReadAs text None
 unread text parts are lacks day spells =

@@ -1,4 +1,4 @@
--- Lemmas about six decimals, formatted as three numbers of two digits.
+-- Lemmas about the six decimals of an energy in kWh, formatted as three numbers of two digits.
 use Rattle.std.proofs.Common.{◌≡◌, ℕ, ◌+◌, ◌/◌, ◌%◌, ◌<◌, false, cond, [], ◌∷◌, ◌++◌, refl, sym, ap, arith}
 use Rattle.std.specs.Fmt.{digit_glyph}
 use Rattle.std.proofs.lemmas.Bool.{lt-ltb}

@@ -27,7 +27,8 @@ use Rattle.energy_report.specs.Texts.{energy_text, report_text}
 use Rattle.energy_report.proofs.DayLemmas.{unread}
 use Rattle.energy_report.proofs.RangeLemmas.{not_le, not_lt, of_le, of_lt}
 
--- ---- texts of energies: 0 mWh, 1 mWh, the largest below 1 kWh, 1 kWh, and the largest of 128 bits
+-- Examples of the texts of energies: 0 mWh, 1 mWh, the largest below 1 kWh, 1 kWh, and the largest
+-- of 128 bits.
 
 no_energy : energy_text KilowattHours 0 ≡ codes "0.000000"
 unfolding digits
@@ -53,12 +54,13 @@ greatest_energy : energy_text KilowattHours 340282366920938463463374607431768211
 unfolding digits
 greatest_energy = refl
 
--- After 1 mWh is added to a row with 2^128 - 1 mWh, the printed energy is still 2^128 - 1 mWh.
+-- After 1 mWh is added to a report row with 2^128 - 1 mWh, the printed energy is still 2^128 - 1
+-- mWh.
 the_greatest_stays : (a b : DayTotal) → a.mwh ≡ 340282366920938463463374607431768211455 → b.mwh ≡ 1
     → (shown (joined (row_of a) (row_of b))).mwh ≡ 340282366920938463463374607431768211455
 the_greatest_stays a b greatest one = rw (greatest, one) refl
 
--- ---- days of the calendar, and texts of days that the calendar lacks
+-- Examples of days of the calendar, and of texts of days that the calendar lacks.
 
 leap_day : (day : Date) → day.year ≡ pos 2024 → day.month ≡ 2 → day.day ≡ 29 → IsReadAs (codes "2024-02-29") (Some day)
 leap_day day year month date = rw (year, month, date) (refl, omega (arith, signed_arith))
@@ -79,7 +81,7 @@ no_month = unread (codes "2024-13-01") (record { century = 20; year = 24; month 
     (record { century = omega arith; year = omega arith; month = omega arith; day = omega arith }, refl)
     (λ (has : IsDate (pos 2024) (pos 13) (pos 1)). omega (arith, signed_arith, has.1.1))
 
--- ---- ranges of days, which contain their first day and exclude the day of their end
+-- Examples of ranges of days. A range contains its first day and excludes the day of its end.
 
 the_first_day_is_in : (from till : Date) → epoch_day from <ℤ epoch_day till → is_in (range (Some from) (Some till)) from ≡ true
 the_first_day_is_in from till forward =
@@ -101,7 +103,8 @@ from_till_itself cut day = by_lt_z (epoch_day day) (epoch_day cut)
 no_rows : rows_by period.Year [] ≡ []
 no_rows = refl
 
--- ---- lengths of months: the first days of consecutive months are 28, 29, 30 or 31 days apart
+-- Examples of the lengths of months: the first days of consecutive months are 28, 29, 30 or 31 days
+-- apart.
 
 february : (from till : Date) → from.year ≡ pos 2023 → from.month ≡ 2 → from.day ≡ 1
     → till.year ≡ pos 2023 → till.month ≡ 3 → till.day ≡ 1 → epoch_day till ≡ epoch_day from +ℤ pos 28
@@ -123,7 +126,8 @@ october : (from till : Date) → from.year ≡ pos 2024 → from.month ≡ 10 �
 unfolding days_from_civil day_count days_of_months
 october from till y m d y' m' d' = rw (y, m, d, y', m', d') (omega (arith, signed_arith))
 
--- ---- periods of consecutive days: 29 February and 1 March, 31 December and 1 January
+-- Examples of consecutive days in different periods: 29 February and 1 March, 31 December and 1
+-- January.
 
 leap_day_ends_its_month : (last first : Date) → last.year ≡ pos 2024 → last.month ≡ 2 → last.day ≡ 29
     → first.year ≡ pos 2024 → first.month ≡ 3 → first.day ≡ 1 → is_same period.Month last first ≡ false
@@ -136,12 +140,13 @@ leap_day_is_of_its_year last first year next_year = rw (year, next_year) refl
 new_year_is_another : (last first : Date) → last.year ≡ pos 2023 → first.year ≡ pos 2024 → is_same period.Year last first ≡ false
 new_year_is_another last first year next_year = rw (year, next_year) refl
 
--- If two days are in one month and a third day is in the next month, then the report has two rows.
+-- If two days are in one month and a third day is in the next month, then a report by month has two
+-- rows.
 rows_of_months : (a b c : DayTotal) → is_same period.Month a.day b.day ≡ true → is_same period.Month b.day c.day ≡ false
     → rows_by period.Month (a ∷ b ∷ c ∷ []) ≡ joined (row_of a) (row_of b) ∷ row_of c ∷ []
 rows_of_months a b c same other = rw (other, same) refl
 
--- ---- texts of reports on 28 February, 29 February and 1 March 2024
+-- Examples of the texts of reports on 28 February, 29 February and 1 March 2024.
 
 abbrev of_months : EnergyUnit → Format → ReportForm
 of_months unit format = record { range = all_days; period = period.Month; unit = unit; format = format }

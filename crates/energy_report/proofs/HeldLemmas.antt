@@ -20,7 +20,6 @@ use Rattle.energy_report.specs.HeldSinks.{CountsReading, HasCountedNone}
 use Rattle.energy_report.specs.StatementTexts.{are_none, count_piece, count_text, counts_or_zero, counts_text, held_mark, held_some}
 use Rattle.energy_report.proofs.TallyLemmas.{counts}
 
--- ---- counts of rejected readings by cause
 -- The counts of the eight causes for which readings are rejected.
 
 abbrev eight : (a b d e f g h i : ℕ) → RejectedCounts
@@ -66,14 +65,13 @@ counted_on zone range before (held ∷ holds) from to z r is took =
     counted_on zone range (before ++ held ∷ []) holds next to (took.1.zone ∙ z) (took.1.range ∙ r) here took.2
     ∙ ap (held_within zone range) (append_assoc before (held ∷ []) holds)
 
--- After `RejectedWithin` receives a list of rejected readings, its counts equal `held_within` of
--- these readings.
+-- After `RejectedWithin` receives a list of rejected readings, its counts are those of the readings
+-- in its range of days (`held_within`).
 pub counted_all : (zone : Zone) (range : DayRange) (holds : List HeldReading) (from to : RejectedWithin) → HasCountedNone zone range from
     → TakesAll CountsReading from holds to → to.counts ≡ held_within zone range holds
 counted_all zone range holds from to fresh took = counted_on zone range [] holds from to fresh.zone_is fresh.range_is fresh.none took
 
--- ---- the text of the counts of rejected readings
--- True if the count of a cause is not 0.
+-- True if the number of readings that were rejected for a cause is not 0.
 
 abbrev is_some : HeldCount → Bool
 is_some one = not (one.count == 0)
@@ -100,7 +98,7 @@ none_with [] x true = refl
 none_with [] x false = refl
 none_with (y ∷ ys) x b = refl
 
--- The counts of a list that are not 0.
+-- The counts of rejected readings in a list that are not 0.
 abbrev pub some_of : List HeldCount → List HeldCount
 some_of counts = filter is_some counts
 
@@ -112,8 +110,8 @@ text_with format before x =
 none_more : (before : List HeldCount) (x : HeldCount) → are_none (some_of (before ++ x ∷ [])) ≡ (are_none (some_of before) && (x.count == 0))
 none_more before x = ap are_none (filter-append is_some before (x ∷ [])) ∙ none_with (some_of before) x (x.count == 0)
 
--- Appending the text of the next count to the text of the first counts yields the text of one more
--- count.
+-- Appending the text of the next count of rejected readings to the text of the counts before it
+-- yields the text of one more count.
 pub piece_more : (format : Format) (xs : List HeldCount) (i : ℕ) (d : HeldCount) (old page new : List ℕ) (none : Bool) → i < length xs
     → page ≡ old ++ counts_text format (some_of (take i xs)) → none ≡ are_none (some_of (take i xs))
     → new ≡ page ++ count_piece format none (get_or xs i d) → new ≡ old ++ counts_text format (some_of (take (i + 1) xs))
@@ -132,7 +130,8 @@ still_none xs i d none next lt is put =
     put ∙ ap (λ b. b && ((get_or xs i d).count == 0)) is ∙ sym (none_more (take i xs) (get_or xs i d))
     ∙ ap (λ those. are_none (some_of those)) (sym (take_more xs i d lt))
 
--- After the text of the last count is appended, the text of all counts is complete.
+-- After the text of the last count is appended, the text of all counts of rejected readings is
+-- complete.
 pub all_pieces : (format : Format) (held : RejectedCounts) (xs : List HeldCount) (i : ℕ) (old page : List ℕ) (none : Bool) → xs ≡ by_cause held → length xs ≤ i
     → page ≡ old ++ counts_text format (some_of (take i xs)) → none ≡ are_none (some_of (take i xs))
     → (page ≡ old ++ counts_text format (held_some held)) × (none ≡ are_none (held_some held))
@@ -141,7 +140,7 @@ all_pieces format held xs i old page none are all begun is =
     let whole : take i xs ≡ by_cause held = take_all i xs all ∙ are in
     (begun ∙ ap (λ those. old ++ counts_text format (some_of those)) whole, is ∙ ap (λ those. are_none (some_of those)) whole)
 
--- If all counts are 0, then the text of the counts is `0`.
+-- If all counts of rejected readings are 0, then the text of the counts is `0`.
 pub a_zero : (format : Format) (xs : List HeldCount) → are_none xs ≡ true → counts_text format xs ++ codes "0" ≡ counts_or_zero format xs
 a_zero format [] none = refl
 a_zero format (x ∷ xs) none = absurd (cc none)

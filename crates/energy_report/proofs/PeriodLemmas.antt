@@ -1,4 +1,4 @@
--- Lemmas about civil days of the same period.
+-- Lemmas about civil days of the same period (day, month or year).
 use Rattle.std.proofs.Common.{◌≡◌, ◌⊎◌, inl, inr, ℕ, true, false, refl, sym, ◌∙◌, ap, arith}
 use Rattle.std.specs.Prelude.{ℤ, pos, ◌≤ℤ◌, ◌&&◌, ◌↔◌}
 use Rattle.std.specs.Ordering.{int_eq}
@@ -35,8 +35,8 @@ same-flipped period.Month a b =
     ∙ ap (λ v. int_eq b.year a.year && v) (flipped (pos a.month) (pos b.month))
 same-flipped period.Year a b = flipped a.year b.year
 
--- If two days are of the same period, then any third day is in the period of both days or of
--- neither.
+-- If two days are of the same period (day, month or year), then any third day is in the period of
+-- both days or of neither.
 pub same-like : (p : Period) (a b x : Date) → is_same p a b ≡ true → is_same p a x ≡ is_same p b x
 same-like period.Day a b x same = ap (λ day. int_eq day (epoch_day x)) (equal (epoch_day a) (epoch_day b) same)
 same-like period.Month a b x same =
@@ -45,7 +45,7 @@ same-like period.Month a b x same =
     ∙ ap (λ month. int_eq b.year x.year && int_eq month (pos x.month)) (equal (pos a.month) (pos b.month) parts.1)
 same-like period.Year a b x same = ap (λ year. int_eq year x.year) (equal a.year b.year same)
 
--- If a day is later than another day, then its year is not less. If the years are equal, its month
+-- If a day is not before another day, then its year is not less. If the years are equal, its month
 -- is not less.
 years : (a b : Date) → epoch_day a ≤ℤ epoch_day b → a.year ≤ℤ b.year
 years a b le = elim (cases_date a b) [
@@ -64,7 +64,7 @@ months a b le year = elim (cases_date a b) [
   | inr (inr same) ↦ omega (arith, signed_arith, same.1)
 ]
 
--- If a day is between two days of the same period, then the day is in this period.
+-- If a day is between two days of the same period (month or year), then the day is in this period.
 pub between : (p : Period) (a b c : Date) → epoch_day a ≤ℤ epoch_day b → epoch_day b ≤ℤ epoch_day c → is_same p a c ≡ true
     → is_same p a b ≡ true
 between period.Day a b c first second same =
@@ -83,8 +83,6 @@ between period.Year a b c first second same =
     let ends = equal a.year c.year same in
     equals a.year b.year (omega (arith, signed_arith, years a b first, years b c second, ends))
 
--- ---- the last day of a calendar period
-
 -- A date's number of days since 1970-01-01 follows from its year, month and day.
 pub day_of_parts : (d : Date) (y : ℤ) (m n : ℕ) → IsYmd y (pos m) (pos n) d → epoch_day d ≡ days_from_civil y m n
 day_of_parts d y m n parts =
@@ -92,7 +90,7 @@ day_of_parts d y m n parts =
     let n_is : d.day ≡ n = omega (arith, signed_arith, parts.2) in
     rw (parts.0, m_is, n_is) refl
 
--- The last day of the period that contains a day, as a date.
+-- The last day of the period (day, month or year) that contains a day, as a date.
 last_date : Period → Date → Date
 last_date period.Day day = day
 last_date period.Month day =
@@ -128,7 +126,8 @@ last_same period.Month day =
     ap (λ v. v && int_eq (pos day.month) (pos day.month)) (equals day.year day.year refl) ∙ equals (pos day.month) (pos day.month) refl
 last_same period.Year day = equals day.year day.year refl
 
--- If a day is in a period, then the day is not after the last day of the period.
+-- If a day is in a period (day, month or year), then the day is not after the last day of the
+-- period.
 up_to_last : (p : Period) (day other : Date) → is_same p day other ≡ true → epoch_day other ≤ℤ epoch_day (last_date p day)
 unfolding last_date
 up_to_last period.Day day other same =

@@ -1,4 +1,4 @@
--- Lemmas about the text that `RowLines` wrote for a list of rows.
+-- Lemmas about the text that `RowLines` (a writer of one line for each row) wrote.
 use Rattle.std.proofs.Common.{◌≡◌, ◌+◌, ◌≤◌, ◌⊎◌, inl, inr, ℕ, zero, suc, Bool, true, false, Option, List, [], ◌∷◌, ◌++◌, length, refl, sym, ap, subst, ◌∙◌, append_assoc, arith}
 use Rattle.std.specs.List.{flat_map}
 use Rattle.std.proofs.Math.Nat.{min-eq_left, min-eq_right, min-le_right}
@@ -12,7 +12,7 @@ use Rattle.energy_report.specs.declared.row_lines.RowLines.{RowLines}
 abbrev pub TakesLine : {W T : Type 0} → (W → Option (List ℕ)) → (T → List ℕ) → RowLines W → T → RowLines W → Type 0
 TakesLine contents line old row new = WritesLine contents (line row) old new
 
--- After a write fails, `RowLines` drops all further rows.
+-- After a write fails, `RowLines` (a writer of one line for each row) drops all further rows.
 all_dropped : {W T : Type 0} (contents : W → Option (List ℕ)) (line : T → List ℕ) (rows : List T) (from to : RowLines W) → from.failed ≡ true
     → TakesAll (TakesLine contents line) from rows to → to ≡ from
 all_dropped contents line [] from to failed took = took
@@ -98,7 +98,7 @@ either : {P : Type 0} (b : Bool) → (b ≡ false → P) → (b ≡ true → P) 
 either false works failed = works refl
 either true works failed = failed refl
 
--- After all rows, `RowLines` has written the lines of all rows, or only a part of these lines if a
+-- `RowLines` has written the lines of all rows that it received, or only a part of these lines if a
 -- write failed.
 pub all_written : {W T : Type 0} (contents : W → Option (List ℕ)) (line : T → List ℕ) (rows : List T) (from to : RowLines W)
     → from.failed ≡ false → Fits from.count → TakesAll (TakesLine contents line) from rows to

@@ -11,8 +11,8 @@ use Rattle.interval_core.specs.Ranges.{days_in}
 use Rattle.energy_report.specs.Rows.{rows_in, shown, shown_rows}
 use Rattle.energy_report.proofs.SumLemmas.{sums}
 
--- If the counts of all rows add up to less than 2^64, and the energies to less than 2^128 mWh, the
--- printed rows are exact.
+-- If the interval counts of all report rows add up to less than 2^64, and the energies to less than
+-- 2^128 mWh, the rows are exact.
 fits : (rows : List Row) → intervals_of_rows rows < 2 ^ 64 → energy_of_rows rows < 2 ^ 128 → map shown rows ≡ rows
 fits [] few small = refl
 fits (row ∷ rows) few small =

@@ -1,4 +1,4 @@
--- Lemmas about the rows of a report after one more day.
+-- Lemmas about the rows of a report after one more day is added.
 use Rattle.std.proofs.Common.{◌≡◌, ℕ, suc, ◌+◌, ◌-◌, ◌≤◌, ◌^◌, Bool, true, false, cond, List, [], ◌∷◌, ◌++◌, length, refl, sym, ◌∙◌, ap, add_assoc, append-nil, arith, inl, inr}
 use Rattle.std.specs.Prelude.{filter, min}
 use Rattle.std.proofs.Math.Nat.{min-eq_left, min-eq_right}
@@ -13,8 +13,8 @@ use Rattle.interval_core.specs.Ranges.{days_in, is_in}
 use Rattle.energy_report.specs.Rows.{before, joined, row_of, rows_by, rows_in, shown}
 use Rattle.energy_report.proofs.PeriodLemmas.{same-like}
 
--- The rows of a report after one more day. If the day is of the same period as the last row, it is
--- added to the last row. Otherwise the day begins a row.
+-- The rows of a report after one more day. A day of the last row's period is added to this row. Any
+-- other day begins a row.
 abbrev pub after : Period → List Row → DayTotal → List Row
 after p [] total = row_of total ∷ []
 after p (row ∷ []) total = cond (is_same p row.first total.day) (joined row (row_of total) ∷ []) (row ∷ row_of total ∷ [])
@@ -25,8 +25,8 @@ regroup a b c =
     ap (λ n. record { first = a.first; count = n; mwh = a.mwh + (b.mwh + c.mwh) }) (sym (add_assoc a.count b.count c.count))
     ∙ ap (λ n. record { first = a.first; count = a.count + b.count + c.count; mwh = n }) (sym (add_assoc a.mwh b.mwh c.mwh))
 
--- Adding a row in front of the rows and then a day at the end yields the same rows as adding the
--- day first.
+-- Adding a report row in front of other rows and then a day at the end yields the same rows as
+-- adding the day first.
 three : (p : Period) (r x : Row) (t : DayTotal) (first last : Bool) → is_same p r.first x.first ≡ first → is_same p x.first t.day ≡ last
     → before p r (cond last (joined x (row_of t) ∷ []) (x ∷ row_of t ∷ []))
     ≡ after p (cond first (joined r x ∷ []) (r ∷ x ∷ [])) t
@@ -51,15 +51,15 @@ pub rows-push : (p : Period) (days : List DayTotal) (t : DayTotal) → rows_by p
 rows-push p [] t = refl
 rows-push p (d ∷ days) t = ap (before p (row_of d)) (rows-push p days t) ∙ commute p (row_of d) (rows_by p days) t
 
--- After a day is added at the end, all rows before the last row are unchanged.
+-- After a day is added at the end of a report, all rows before the last row are unchanged.
 pub after-push : (p : Period) (done : List Row) (row : Row) (more : List Row) (t : DayTotal)
     → after p (done ++ row ∷ more) t ≡ done ++ after p (row ∷ more) t
 after-push p [] row more t = refl
 after-push p (d ∷ []) row more t = refl
 after-push p (d ∷ e ∷ done) row more t = ap (λ rows. d ∷ rows) (after-push p (e ∷ done) row more t)
 
--- If a day is in the range, then the day is added to the rows of the report. A day outside the
--- range leaves the rows unchanged.
+-- A day in the range of a report is added to the report's rows. A day outside the range leaves the
+-- rows unchanged.
 pub with_day : (form : ReportForm) (days : List DayTotal) (t : DayTotal) → is_in form.range t.day ≡ true
     → rows_in form (days ++ t ∷ []) ≡ after form.period (rows_in form days) t
 with_day form days t there =
@@ -73,8 +73,8 @@ without_day form days t absent =
     let test : DayTotal → Bool = λ total. is_in form.range total.day in
     ap (rows_by form.period) (filter-append test days (t ∷ []) ∙ ap (λ v. filter test days ++ cond v (t ∷ []) []) absent ∙ append-nil (filter test days))
 
--- ---- the number of rows of a report
--- Adding a row in front of a list of rows, merged or not, adds at most one row.
+-- Adding a report row in front of other rows, merged with the next row or not, adds at most one
+-- row.
 
 few-either : (b : Bool) (row next : Row) (rows : List Row) → length (cond b (joined row next ∷ rows) (row ∷ next ∷ rows)) ≤ suc (length (next ∷ rows))
 few-either true row next rows = omega arith
@@ -101,8 +101,8 @@ pub few : (form : ReportForm) (days : List DayTotal) → length (rows_in form da
 few form days =
     omega (arith, few_rows form.period (days_in form.range days), few_days (λ total. is_in form.range total.day) days)
 
--- ---- sums of counts and energies that saturate
--- Limiting a number to `most` before an addition does not change the limited sum.
+-- Limiting a number to `most` before an addition does not change the result of the addition,
+-- limited to `most`.
 
 pub capped : (most a b : ℕ) → min (min a most + b) most ≡ min (a + b) most
 capped most a b = elim (cases_lt a most) [
@@ -110,7 +110,8 @@ capped most a b = elim (cases_lt a most) [
   | inr more ↦ ap (λ n. min (n + b) most) (min-eq_right more) ∙ min-eq_right (omega arith) ∙ sym (min-eq_right (omega (arith, more)))
 ]
 
--- Limiting a row's count and energy before or after a day is added yields the same printed row.
+-- Limiting a report row's interval count and energy before or after a day is added yields the same
+-- printed row.
 pub shown-joined : (row : Row) (t : DayTotal) → shown (joined (shown row) (row_of t)) ≡ shown (joined row (row_of t))
 shown-joined row t =
     ap (λ n. record { first = row.first; count = n; mwh = min (min row.mwh (2 ^ 128 - 1) + t.mwh) (2 ^ 128 - 1) }) (capped (2 ^ 64 - 1) row.count t.count)

@@ -1,4 +1,4 @@
--- Worked examples of statements of meters, computed from the definitions.
+-- Worked examples of statements (billing reports) of meters, computed from the definitions.
 use Rattle.std.proofs.Common.{◌≡◌, ℕ, ℤ, true, false, List, [], ◌∷◌, Some, None, refl}
 use Rattle.std.specs.Prelude.{pos, negsuc, codes}
 use Rattle.std.specs.Fmt.{digits}
@@ -26,7 +26,8 @@ use Rattle.energy_report.specs.Held.{held_within, none_held}
 use Rattle.energy_report.specs.Statements.{energy_within, tally_of, worth_of}
 use Rattle.energy_report.specs.StatementTexts.{held_some, held_text, statement_text}
 
--- ---- a meter that counts Wh, with a voided reading by hand, a reset and a reading by hand
+-- An example meter that counts Wh, with a voided (cancelled) reading by hand, a reset and a reading
+-- by hand.
 
 abbrev opened : MeterEntry
 opened = entry.Opening (record { at = 1000; raw = 0; sf = pos 0 })
@@ -56,20 +57,22 @@ tally = record {
 all_entries : (zone : Zone) → tally_of zone all_days entries ≡ tally
 all_entries zone = refl
 
--- After a reset, the last count in the tally is the count to which the counter was set.
+-- After a reset, the last count in the tally of a meter's entries is the count to which the counter
+-- was set.
 set_anew : (zone : Zone) → (tally_of zone all_days (opened ∷ reset ∷ [])).last ≡ Some (record { at = 4000; raw = 0; sf = pos 0 })
 set_anew zone = refl
 
--- An entry later than the last timestamp with a civil day is in no range.
+-- An entry later than the last timestamp with a civil day is in no range of days.
 past_the_last_moment : (zone : Zone) → tally_of zone all_days (at_place 2 kind.Manual 4102444801 5 ∷ [])
     ≡ record { first = None; last = None; by_hand = 0; resets = 0; rescales = 0; voids = 0 }
 past_the_last_moment zone = refl
 
--- The energy of three interval rows: 5 Wh, then 2 Wh up to the reset, and 2 Wh after it.
+-- Example of the energy of three quarter hours: 5 Wh, then 2 Wh up to the reset, and 2 Wh after it.
 all_rows : (zone : Zone) → energy_within zone all_days (record { start = 900; mwh = 5000 } ∷ record { start = 1800; mwh = 2000 } ∷ record { start = 4500; mwh = 2000 } ∷ []) ≡ 9000
 all_rows zone = refl
 
--- ---- energies of 5 counts of 1 Wh, 1 mWh and 1 kWh, and at a scale factor out of range
+-- Examples of the energies of 5 counts of 1 Wh, 1 mWh and 1 kWh, and at a scale factor out of
+-- range.
 
 abbrev stood : ℤ → Last
 stood sf = record { at = 0; raw = 5; sf = sf }
@@ -89,7 +92,7 @@ five_kwh = refl
 no_such_scale : worth_of (stood (pos 4)) ≡ 0
 no_such_scale = refl
 
--- ---- counts of rejected readings: three for another scale factor, and one for a gap
+-- Examples of counts of rejected readings: three for another scale factor, and one for a gap.
 
 abbrev held_at : (moment : ℕ) → Cause → HeldReading
 held_at moment why = record { meter = codes "m1"; poll = 1; at = moment; raw = 5; sf = pos 0; cause = why }
@@ -116,8 +119,8 @@ all_holds zone = refl
 no_holds : (zone : Zone) → held_within zone all_days [] ≡ none_held
 no_holds zone = refl
 
--- Counts in which each cause has its own number as its count. The first cause has the largest count
--- instead.
+-- Example counts of rejected readings. The first cause has the largest possible count, and each
+-- other cause has its own number as its count.
 abbrev all_held : RejectedCounts
 all_held = record {
   not_accumulated = 18446744073709551615;
@@ -134,7 +137,8 @@ each_cause : held_text Text all_held ≡ codes "1=18446744073709551615,2=2,3=3,4
 unfolding digits held_some
 each_cause = refl
 
--- ---- texts of the statements of two meters: one with entries in the range, and one without
+-- Examples of the texts of the statements (billing reports) of two meters: one with entries in the
+-- range of days, and one without.
 
 abbrev m1 : MeterStatement
 m1 = record { meter = codes "m1"; entries = tally; mwh = 9000; held = some_held }

@@ -1,4 +1,4 @@
--- Lemmas about the text of statements that is written row by row.
+-- Lemmas about the text of a statement (billing report), which is written row by row.
 use Rattle.std.proofs.Common.{◌≡◌, ℕ, zero, suc, ◌+◌, ◌<◌, ◌==◌, List, [], ◌∷◌, ◌++◌, length, take, drop, get_or, refl, sym, ◌∙◌, ap, append-nil, append_assoc, arith}
 use Rattle.std.specs.List.{flat_map, join_by}
 use Rattle.std.proofs.lemmas.Bool.{ne_eqb}
@@ -9,19 +9,20 @@ use Rattle.energy_report.specs.declared.meter_statement.MeterStatement.{MeterSta
 use Rattle.energy_report.specs.StatementTexts.{begun_text, lead, opening, row_text, separator, statement_text}
 use Rattle.energy_report.specs.Texts.{ending_by}
 
--- The text of a statement's row that follows another row, with the separator before it.
+-- The text of a row of a statement (billing report) that follows another row, with the separator
+-- before it.
 abbrev next_text : StatementForm → MeterStatement → List ℕ
 next_text form row = separator form ++ row_text form row
 
 abbrev joined : StatementForm → List MeterStatement → List ℕ
 joined form rows = join_by (row_text form) (separator form) rows
 
--- The text that a statement's row adds after `count` rows. A separator precedes the row, unless the
--- row is the first.
+-- The text that a row of a statement (billing report) adds after `count` rows. A separator precedes
+-- the row, unless the row is the first.
 abbrev pub piece : StatementForm → (count : ℕ) → MeterStatement → List ℕ
 piece form count row = lead (count == 0) form ++ row_text form row
 
--- The text of a statement's rows that follow another row.
+-- The text of the rows of a statement (billing report) that follow another row.
 abbrev pub later : StatementForm → List MeterStatement → List ℕ
 later form rows = flat_map (next_text form) rows
 
@@ -34,8 +35,8 @@ split form (x ∷ done) row more =
     ∙ ap (λ b. (row_text form x ++ later form done) ++ ((lead b form ++ row_text form row) ++ later form more))
     (sym (ne_eqb (suc (length done)) 0 (λ e. omega (arith, e))))
 
--- The text of a list of rows consists of the texts of the first rows, of the next row, and of the
--- later rows.
+-- The text of the rows of a statement (billing report) is the text of the first rows, of the next
+-- row, and of the later rows.
 pub begun : (form : StatementForm) (done : List MeterStatement) (row : MeterStatement) (more : List MeterStatement)
     → begun_text form (done ++ row ∷ more) ≡ begun_text form done ++ (piece form (length done) row ++ later form more)
 begun form done row more =
@@ -47,8 +48,7 @@ pub begun_more : (form : StatementForm) (done : List MeterStatement) (row : Mete
 begun_more form done row =
     begun form done row [] ∙ ap (λ text. begun_text form done ++ text) (append-nil (piece form (length done) row))
 
--- ---- the row of a statement at an index of the list of meters
--- A list is its elements before an index, the element there, and the rest.
+-- A list consists of the elements before an index, the element at the index, and the rest.
 
 around : {X : Type 0} (xs : List X) (i : ℕ) (d : X) → i < length xs → take i xs ++ get_or xs i d ∷ drop (suc i) xs ≡ xs
 around [] i d lt = absurd (omega (arith, lt))
@@ -60,7 +60,7 @@ length_before [] i lt = absurd (omega (arith, lt))
 length_before (x ∷ xs) zero lt = refl
 length_before (x ∷ xs) (suc i) lt = ap suc (length_before xs i (omega (arith, lt)))
 
--- The text of a statement after the row at an index.
+-- The text of a statement (billing report) after the row at an index.
 abbrev pub tail : StatementForm → List MeterStatement → (i : ℕ) → List ℕ
 tail form rows i = later form (drop (suc i) rows) ++ ending_by form.format (length rows)
 
@@ -92,7 +92,6 @@ next form rows i row lt is =
     ∙ sym (begun_more form (take i rows) row)
     ∙ ap (begun_text form) (ap (λ (x : MeterStatement). take i rows ++ x ∷ []) is ∙ sym (take_more rows i row lt))
 
--- ---- concatenations of more than two texts
 -- Appending two texts one after the other is the same as appending their concatenation.
 
 pub pushed : (p q r x y : List ℕ) → q ≡ p ++ x → r ≡ q ++ y → r ≡ p ++ (x ++ y)

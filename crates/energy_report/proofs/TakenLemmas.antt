@@ -26,7 +26,8 @@ fewer days t less = omega (arith, less, length-append days (t ∷ []))
 clash : {P : Type 0} (b : Bool) → b ≡ false → b ≡ true → P
 clash b works failed = absurd (let e : false ≡ true = sym works ∙ failed in cc e)
 
--- True if the new state of a report equals the old state except for the pending row.
+-- True if the new state of a report equals the old state except for the pending row, which is not
+-- written yet.
 pub record Keeps {W : Type 0} (old new : ReportRows W) : Type 0 where
   pub form : new.form ≡ old.form
   pub now : new.output.now ≡ old.output.now
@@ -55,7 +56,8 @@ module _ {W : Type 0} (contents : W → Option (List ℕ)) where
     broken = λ failed less. clash old.failed works failed;
   }
 
-  -- If only the pending row changes, then the written text is unchanged.
+  -- If only the pending row of a report (the row not written yet) changes, then the written text is
+  -- unchanged.
   same_text : (from : W) (done : List Row) (old new : ReportRows W) → Keeps old new → Appends (contents from) (contents old.output.now) (begun_text old.form done)
       → Appends (contents from) (contents new.output.now) (begun_text new.form done)
   same_text from done old new keeps text = rw (keeps.form, keeps.now) text
@@ -116,8 +118,6 @@ module _ {W : Type 0} (contents : W → Option (List ℕ)) where
     broken = λ failed less. clash old.failed works (sym keeps.failed ∙ failed);
   }
 
--- ---- writing one row of the report
-
 -- If a report has at least one row, then it still has at least one row after a day is added.
 after-more : (p : Period) (row : Row) (rest : List Row) (t : DayTotal) (b : Bool) (next : Row) (rows : List Row)
     → (r : Row) × (rs : List Row) × (cond b (joined row next ∷ rows) (row ∷ next ∷ rows) ≡ r ∷ rs)
@@ -153,7 +153,8 @@ begun_of : (form : ReportForm) (front more : List Row) → (rest : List ℕ) × 
 begun_of form [] more = (begun_text form more, refl)
 begun_of form (row ∷ rows) more = (_, begun-append form row rows more)
 
--- After any days, the text written so far is a part of the report on all days.
+-- After any number of days, the text that a report has written is the beginning of the report on
+-- all days.
 part_of : (form : ReportForm) (front : List Row) (days : List DayTotal) → Goes form front days
     → (rest : List ℕ) × (report_text form days ≡ begun_text form front ++ rest)
 part_of form front days goes =
@@ -235,9 +236,7 @@ module _ {W : Type 0} (contents : W → Option (List ℕ)) where
             rw (form, keeps.now) whole_part;
       }
 
-  -- ---- the text of the finished report
-
-  -- After `finish`, the text of the report is the text written so far, followed by the end of the
+  -- After a report is finished, its text is the text written so far, followed by the end of the
   -- report.
   ends : (from : W) (text last whole_text : List ℕ) (old new : ReportRows W) → WritesText contents last old new → old.failed ≡ false → text ++ last ≡ whole_text
       → Appends (contents from) (contents old.output.now) text → (b : Bool) → new.failed ≡ b
@@ -251,7 +250,7 @@ module _ {W : Type 0} (contents : W → Option (List ℕ)) where
       let Q : List ℕ → Type 0 = λ text. GotPart text (contents from) (contents new.output.now) in
       subst Q is (following text last _ _ _ got (subst P failed (writes.written works)))
 
-  -- If an earlier write failed, then `finish` writes nothing more.
+  -- If an earlier write of a report failed, then `finish` writes nothing more.
   pub ends_broken : (days : List DayTotal) (from old new : ReportRows W) → old.failed ≡ true → new.failed ≡ true → new.output.now ≡ old.output.now
       → HasTaken contents days from old → length days < 2 ^ 64 → IsFinished contents days from new
   ends_broken days from old new failed again now h less =
@@ -305,7 +304,7 @@ module _ {W : Type 0} (contents : W → Option (List ℕ)) where
   ends_row days from old mid new o works is row writes h less =
       ends_after days from old mid new o works is row writes h less mid.failed refl
 
-  -- If a report is new, then it has received the empty list of days.
+  -- A new report has received the empty list of days.
   pub fresh : (new : ReportRows W) → new.failed ≡ false → new.pending ≡ None → new.count ≡ 0 → HasTaken contents [] new new
   fresh new works none count =
       let P : Option Row → Type 0 = λ o. AreWritten [] [] o in

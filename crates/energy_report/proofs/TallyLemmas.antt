@@ -1,4 +1,5 @@
--- Lemmas about the tally of a meter's entries after one more entry.
+-- Lemmas about the tally (first and last entry, corrections) of a meter's entries after one more
+-- entry.
 use Rattle.std.proofs.Common.{◌≡◌, ℕ, ◌+◌, Bool, true, false, cond, Option, Some, None, List, [], ◌∷◌, ◌++◌, reverse, refl, sym, ◌∙◌, ap, arith}
 use Rattle.std.specs.List.{count_by, find}
 use Rattle.std.specs.Option.{option_map, option_or}
@@ -50,7 +51,7 @@ last p before e = sym (
     ∙ map_choice counter_after_entry (p e) e (find p (reverse before))
     )
 
--- The tally of a meter after one more entry is added.
+-- The tally (first and last entry, corrections) of a meter after one more entry is added.
 abbrev pub with_entry : Zone → DayRange → EntryTally → MeterEntry → EntryTally
 with_entry zone range old e = record {
   first = option_or old.first (cond (stands_within zone range e) (Some (counter_after_entry e)) None);
@@ -61,7 +62,8 @@ with_entry zone range old e = record {
   voids = counted (old.voids + cond (is_voided zone range e) 1 0);
 }
 
--- A tally with the given counter states and numbers of corrections.
+-- A tally of a meter's entries with the given first and last state of the counter and the given
+-- numbers of corrections.
 abbrev tally : (first last : Option Last) (by_hand resets rescales voids : ℕ) → EntryTally
 tally first last by_hand resets rescales voids =
     record { first = first; last = last; by_hand = by_hand; resets = resets; rescales = rescales; voids = voids }

@@ -14,7 +14,7 @@ use Rattle.energy_report.specs.Rows.{rows_in, shown}
 use Rattle.energy_report.specs.Texts.{ending, last_text, lead, opening, report_text, row_text, rows_text, separator}
 use Rattle.energy_report.specs.Writing.{begun_text}
 
--- The text of a report's row that follows another row, with the separator before it.
+-- The text of a row of a report that follows another row, with the separator before it.
 abbrev next_text : ReportForm → Row → List ℕ
 next_text form row = separator form ++ row_text form row
 
@@ -27,7 +27,7 @@ nexts : (form : ReportForm) (xs ys : List Row)
 nexts form xs ys =
     ap (flat_map (next_text form)) (map-append xs ys) ∙ flat_map-append (next_text form) (map shown xs) (map shown ys)
 
--- After rows are added at the end, the new text begins with the text of the earlier rows.
+-- After rows are added at the end of a report, its text begins with the text of the earlier rows.
 pub begun-append : (form : ReportForm) (row : Row) (rows more : List Row)
     → begun_text form ((row ∷ rows) ++ more) ≡ begun_text form (row ∷ rows) ++ flat_map (next_text form) (map shown more)
 begun-append form row rows more =
@@ -38,8 +38,8 @@ begun-append form row rows more =
     ∙ ap (λ text. opening form ++ text) (sym (append_assoc front xs ys))
     ∙ sym (append_assoc (opening form) (front ++ xs) ys)
 
--- After a row is added, the new text is the earlier text, followed by the row with the text before
--- the row.
+-- After a row is added to a report, the new text is the earlier text, followed by the text before
+-- the row and the row.
 pub begun-push : (form : ReportForm) (done : List Row) (row : Row)
     → begun_text form (done ++ row ∷ []) ≡ begun_text form done ++ (lead (length done == 0) form ++ row_text form (shown row))
 begun-push form [] row = ap (λ text. opening form ++ text) (append-nil (row_text form (shown row)))

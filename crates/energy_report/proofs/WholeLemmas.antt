@@ -1,4 +1,4 @@
--- Lemmas about the report rows of days that are in order.
+-- Lemmas about the report rows that are computed from days in order.
 use Rattle.std.proofs.Common.{◌≡◌, ◌+◌, Bool, true, false, cond, List, [], ◌∷◌, map, refl, sym, ◌∙◌, ap, arith}
 use Rattle.std.specs.Prelude.{ℤ, pos, ◌<ℤ◌, ◌&&◌, All, filter}
 use Rattle.std.specs.Ordering.{int_eq}
@@ -25,8 +25,8 @@ OfDay P total = P total.day
 abbrev OfRow : (Date → Type 0) → Row → Type 0
 OfRow P row = P row.first
 
--- If the first days of two rows have a property, then the first day of the merged row also has the
--- property.
+-- If the first days of two report rows have a property, then the first day of the merged row also
+-- has the property.
 firsts-before : (P : Date → Type 0) (b : Bool) (row next : Row) (rows : List Row) → P row.first → All (OfRow P) (next ∷ rows)
     → All (OfRow P) (cond b (joined row next ∷ rows) (row ∷ next ∷ rows))
 firsts-before P true row next rows here all = All-cons (OfRow P) (joined row next) rows here (All-tail (OfRow P) next rows all)
@@ -41,13 +41,12 @@ firsts P p [] all = All-nil (OfRow P)
 firsts P p (total ∷ days) all =
     first-before P p (row_of total) (rows_by p days) (All-head (OfDay P) total days all) (firsts P p days (All-tail (OfDay P) total days all))
 
--- If a day is in a period, then the energy of the period's days includes the day's energy.
--- Otherwise the energy is unchanged.
+-- The energy of a period's days includes a day's energy if and only if the day is in the period.
 with_day : (b : Bool) (total : DayTotal) (days : List DayTotal) → energy_of_days (cond b (total ∷ days) days) ≡ cond b total.mwh 0 + energy_of_days days
 with_day true total days = sum_by-cons (λ (day : DayTotal). day.mwh) total days
 with_day false total days = omega arith
 
--- If two rows are of the same period, then the same days belong to both rows.
+-- If two report rows are of the same period, then the same days belong to both rows.
 days-like : (p : Period) (a b : Date) (days : List DayTotal) → is_same p a b ≡ true
     → filter (λ total. is_same p a total.day) days ≡ filter (λ total. is_same p b total.day) days
 days-like p a b [] same = refl
@@ -55,7 +54,8 @@ days-like p a b (total ∷ days) same =
     ap (λ v. cond v (total ∷ filter (λ d. is_same p a d.day) days) (filter (λ d. is_same p a d.day) days)) (same-like p a b total.day same)
     ∙ ap (λ more. cond (is_same p b total.day) (total ∷ more) more) (days-like p a b days same)
 
--- If no day of a list is in a period, then the energy of the period's days is 0.
+-- If no day of a list is in a period (day, month or year), then the energy of the period's days is
+-- 0.
 none_of : (p : Period) (a : Date) (days : List DayTotal) → All (λ total. is_same p a total.day ≡ false) days
     → energy_of_days (filter (λ total. is_same p a total.day) days) ≡ 0
 none_of p a [] all = refl
@@ -70,8 +70,8 @@ itself period.Month a =
     ap (λ v. v && int_eq (pos a.month) (pos a.month)) (equals a.year a.year refl) ∙ equals (pos a.month) (pos a.month) refl
 itself period.Year a = equals a.year a.year refl
 
--- If a day of another period is added to the list of days, then each row still has the energy of
--- all its days.
+-- If a day of another period is added to the list of days, then each report row still has the
+-- energy of all its days.
 kept_days : (p : Period) (total : DayTotal) (days : List DayTotal) (rows : List Row) → All (λ row. is_same p row.first total.day ≡ false) rows
     → All (HasItsDays p days) rows → All (HasItsDays p (total ∷ days)) rows
 kept_days p total days [] apart all = All-nil (HasItsDays p (total ∷ days))
@@ -86,7 +86,7 @@ kept_days p total days (row ∷ rows) apart all =
 abbrev Far : Period → Date → Row → Type 0
 Far p a later = is_same p a later.first ≡ false
 
--- True if each row has the energy of all days of its period, and no two rows are of the same
+-- True if each report row has the energy of all days of its period, and no two rows are of the same
 -- period.
 abbrev AreWhole : Period → List DayTotal → List Row → Type 0
 AreWhole p days rows = All (HasItsDays p days) rows × AreApart p rows
@@ -132,8 +132,8 @@ following day (total ∷ days) all =
     All-cons (LaterThan day) total days (All-head P (account_of total) (map account_of days) all)
     (following day days (All-tail P (account_of total) (map account_of days) all))
 
--- If a list of days is in order, then all days after a change of period are outside the earlier
--- period.
+-- If a list of days is in order, then all days after a change of period (day, month or year) are
+-- outside the earlier period.
 all_other : (p : Period) (total next : DayTotal) (days : List DayTotal) → AreInOrder (map account_of (total ∷ next ∷ days))
     → is_same p total.day next.day ≡ false → All (λ day. is_same p total.day day.day ≡ false) (next ∷ days)
 all_other p total next days order other =

@@ -21,41 +21,39 @@ abbrev pub IsReadAs : List ℕ → Option Date → Type 0
 IsReadAs text (Some day) = Spells text day
 IsReadAs text None = (day : Date) → ¬ Spells text day
 
--- True if one end of a range is the day that an argument represents. Without an argument, the range
--- is open at this end.
+-- True if one end of a range of days is the day that a command line argument represents. Without an
+-- argument, the range is open at this end.
 abbrev pub IsEnd : Option (Bor (List ℕ)) → Option Date → Type 0
 IsEnd None None = Unit {0}
 IsEnd None (Some day) = ⊥
 IsEnd (Some word) None = ⊥
 IsEnd (Some word) (Some day) = Spells word.now day
 
--- True if the argument exists and does not represent a day.
+-- True if a command line argument exists and does not represent a civil day.
 abbrev pub IsNoEnd : Option (Bor (List ℕ)) → Type 0
 IsNoEnd None = ⊥
 IsNoEnd (Some word) = (day : Date) → ¬ Spells word.now day
 
--- True if two arguments select a range of days. The first argument is the first day of the range,
--- and the second argument is the day after the last day.
+-- True if two command line arguments select a range of days. The first argument is the first day of
+-- the range, and the second argument is the day after the last day.
 pub record IsRange (first last : Option (Bor (List ℕ))) (range : DayRange) : Type 0 where
   pub from : IsEnd first range.from
   pub till : IsEnd last range.till
   pub forward : is_backward range ≡ false
 
--- True if both arguments represent days, and the second day is before the first day.
+-- True if both command line arguments represent days, and the second day is before the first day.
 pub record AreBackward (first last : Option (Bor (List ℕ))) : Type 0 where
   pub range : DayRange
   pub from : IsEnd first range.from
   pub till : IsEnd last range.till
   pub backward : is_backward range ≡ true
 
--- The reason why two arguments do not select a range of days. The first or the second argument is
--- not a day, or the second day is before the first day.
+-- The reason why two command line arguments do not select a range of days. The first or the second
+-- argument is not a day, or the second day is before the first day.
 abbrev pub IsRangeFault : (from till : Option (Bor (List ℕ))) → RangeFault → Type 0
 IsRangeFault from till fault.From = IsNoEnd from
 IsRangeFault from till fault.Till = IsNoEnd till
 IsRangeFault from till fault.Backward = AreBackward from till
-
--- ---- the digits of a date
 
 -- True if the byte is the digit with the value `n`. For `None`, true if the byte is not a digit.
 abbrev pub DigitIs : (byte : ℕ) → Option ℕ → Type 0
@@ -68,13 +66,14 @@ abbrev pub PairIs : (tens ones : ℕ) → Option ℕ → Type 0
 PairIs tens ones (Some n) = (n < 100) × (pad2 n ≡ tens ∷ ones ∷ [])
 PairIs tens ones None = (n : ℕ) → n < 100 → ¬ (pad2 n ≡ tens ∷ ones ∷ [])
 
--- The text of a date from its numbers of two digits, with hyphens between year, month and day.
+-- The text of a date from four numbers of two digits (century, year, month, day), with hyphens
+-- between year, month and day.
 abbrev pub parts_text : Parts → List ℕ
 parts_text parts =
     pad2 parts.century ++ pad2 parts.year ++ codes "-" ++ pad2 parts.month ++ codes "-"
     ++ pad2 parts.day
 
--- True if each number of the date has at most two digits.
+-- True if the century, year, month and day of a date are numbers of at most two digits.
 pub record AreFew (parts : Parts) : Type 0 where
   pub century : parts.century < 100
   pub year : parts.year < 100

@@ -16,16 +16,16 @@ use Rattle.energy_report.specs.RowLines.{counted, one_more_if}
 abbrev pub is_one : (one other : Cause) → Bool
 is_one one other = cause_number one == cause_number other
 
--- True if a reading was rejected for the cause `why` at a time in the range.
+-- True if a reading was rejected for the cause `why` at a time in the range of days.
 abbrev pub is_held_within : Zone → DayRange → (why : Cause) → HeldReading → Bool
 is_held_within zone range why held = has_moment zone range held.at && is_one held.cause why
 
--- The number of readings that were rejected for the cause `why` at a time in the range. The number
--- saturates at 2^64 - 1.
+-- The number of readings that were rejected for the cause `why` at a time in the range of days. The
+-- number saturates at 2^64 - 1.
 abbrev pub held_for : Zone → DayRange → List HeldReading → (why : Cause) → ℕ
 held_for zone range holds why = counted (count_by (is_held_within zone range why) holds)
 
--- The numbers of rejected readings with timestamps in the range, by cause.
+-- The numbers of rejected readings of a meter with timestamps in the range of days, by cause.
 abbrev pub held_within : Zone → DayRange → List HeldReading → RejectedCounts
 held_within zone range holds = record {
   not_accumulated = held_for zone range holds cause.NotAccumulated;
@@ -38,7 +38,8 @@ held_within zone range holds = record {
   not_below_range = held_for zone range holds cause.NotBelowRange;
 }
 
--- Each cause with its count, in the order of the causes' numbers.
+-- Each cause for which readings are rejected, with the count of these readings, in the order of the
+-- causes' numbers.
 abbrev pub by_cause : RejectedCounts → List HeldCount
 by_cause counts =
     record { cause = cause.NotAccumulated; count = counts.not_accumulated }
@@ -51,9 +52,7 @@ by_cause counts =
     ∷ record { cause = cause.NotBelowRange; count = counts.not_below_range }
     ∷ []
 
--- ---- counting rejected readings one by one
-
--- The counts before any rejected reading, which are all 0.
+-- The counts of rejected readings before any reading was rejected, which are all 0.
 abbrev pub none_held : RejectedCounts
 none_held = record {
   not_accumulated = 0;
@@ -66,8 +65,8 @@ none_held = record {
   not_below_range = 0;
 }
 
--- The counts after one more rejected reading. If `counts` is true, the count of the reading's cause
--- grows by one. The other counts are unchanged.
+-- The counts of rejected readings after one more reading. If `counts` is true, the count of the
+-- reading's cause grows by one. The other counts are unchanged.
 abbrev pub with_one : RejectedCounts → (counts : Bool) → (why : Cause) → RejectedCounts
 with_one old counts why = record {
   not_accumulated = one_more_if (counts && is_one why cause.NotAccumulated) old.not_accumulated;

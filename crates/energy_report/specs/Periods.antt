@@ -14,14 +14,15 @@ is_same period.Month one other =
     int_eq one.year other.year && int_eq (pos one.month) (pos other.month)
 is_same period.Year one other = int_eq one.year other.year
 
--- The last day of the period that contains a day, as its number of days since 1970-01-01.
+-- The last day of the period (day, month or year) that contains a day, as its number of days since
+-- 1970-01-01.
 abbrev pub last_day : Period → Date → ℤ
 last_day period.Day day = epoch_day day
 last_day period.Month day = days_from_civil day.year day.month (month_length day)
 last_day period.Year day = days_from_civil day.year 12 31
 
--- Theorem: a later day is in the period of a day if and only if it is not after the last day of the
--- period.
+-- Theorem: a later day is in the same period (day, month or year) if and only if it is not after
+-- the last day of the period.
 abbrev pub PeriodsEndWithTheirLastDay : Type 0
 PeriodsEndWithTheirLastDay = (period : Period) (day other : Date)
     → epoch_day day ≤ℤ epoch_day other

@@ -1,4 +1,4 @@
--- The model of `RowLines`, which receives rows one by one and writes a line for each row.
+-- Definitions for `RowLines`, which receives rows one by one and writes a line for each row.
 use Rattle.std.specs.Prelude.{◌≡◌, ℕ, ◌+◌, min, Bool, true, false, List, Option, if◌then◌else◌}
 use Rattle.std.specs.Io.KnownBytes.{Appends}
 use Rattle.energy_report.specs.declared.row_lines.RowLines.{RowLines}
@@ -12,8 +12,8 @@ counted n = min n 18446744073709551615
 abbrev pub one_more_if : (counts : Bool) → (count : ℕ) → ℕ
 one_more_if counts count = counted (count + (if counts then 1 else 0))
 
--- True if the text of `count` rows was written and the rows were counted. If a write failed, only a
--- part of the text was written.
+-- True if the text of `count` rows was written and the rows were counted, or only a part of the
+-- text after a failed write.
 pub record HasWritten {W : Type 0} (contents : W → Option (List ℕ)) (text : List ℕ) (count : ℕ)
     (old new : RowLines W) : Type 0 where
   pub output : new.output.ghost_name ≡ old.output.ghost_name
@@ -22,8 +22,8 @@ pub record HasWritten {W : Type 0} (contents : W → Option (List ℕ)) (text : 
       × (new.count ≡ counted (old.count + count))
   pub part : new.failed ≡ true → GotPart text (contents old.output.now) (contents new.output.now)
 
--- The effect of receiving a row. The line of the row is written and the row is counted. After a
--- failed write, further rows are dropped.
+-- The effect on a writer of receiving a row. The line of text of the row is written and the row is
+-- counted. After a failed write, further rows are dropped.
 pub record WritesLine {W : Type 0} (contents : W → Option (List ℕ)) (line : List ℕ)
     (old new : RowLines W)
     : Type 0 where

@@ -11,7 +11,7 @@ use Rattle.energy_report.specs.Periods.{is_same}
 abbrev pub row_of : DayTotal → Row
 row_of total = record { first = total.day; count = total.count; mwh = total.mwh }
 
--- One row with the sum of two rows of the same period. Its first day is the first day of the
+-- One report row with the sum of two rows of the same period. Its first day is the first day of the
 -- earlier row.
 abbrev pub joined : Row → Row → Row
 joined row next = record {
@@ -20,23 +20,25 @@ joined row next = record {
   mwh = row.mwh + next.mwh;
 }
 
--- A list of rows with an earlier row added in front. If the earlier row is of the same period as
--- the next row, both rows are merged.
+-- A list of report rows with an earlier row added in front. If the earlier row is of the same
+-- period as the next row, both rows are merged.
 abbrev pub before : Period → Row → List Row → List Row
 before period row [] = row ∷ []
 before period row (next ∷ rows) =
     if is_same period row.first next.first then joined row next ∷ rows else row ∷ next ∷ rows
 
--- The rows of a list of days. Consecutive days of one period form one row.
+-- The report rows of a list of days. Consecutive days of one period form one row.
 abbrev pub rows_by : Period → List DayTotal → List Row
 rows_by period [] = []
 rows_by period (total ∷ days) = before period (row_of total) (rows_by period days)
 
--- The rows of a report: the days in the form's range, added up by the form's period.
+-- The rows of a report: the days in the requested range, added up by the requested period (day,
+-- month or year).
 abbrev pub rows_in : ReportForm → List DayTotal → List Row
 rows_in form days = rows_by form.period (days_in form.range days)
 
--- A row as it is printed, with a count of at most 2^64 - 1 and an energy of at most 2^128 - 1 mWh.
+-- A report row as it is printed, with a count of at most 2^64 - 1 and an energy of at most 2^128 -
+-- 1 mWh.
 abbrev pub shown : Row → Row
 shown row = record {
   first = row.first;

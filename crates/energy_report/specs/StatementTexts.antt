@@ -1,5 +1,5 @@
--- The text of a statement: a row for each meter, in one of three formats, with energies in mWh or
--- kWh. Timestamps are in seconds since 1970-01-01 UTC.
+-- The text of a statement (a report to check bills): a row for each meter, in one of three formats,
+-- with energies in mWh or kWh. Timestamps are in seconds since 1970-01-01 UTC.
 use Rattle.std.specs.Prelude.{ℕ, Bool, true, false, not, ◌==◌, ◌++◌, List, [], ◌∷◌, length, codes, Option, Some, None, if◌then◌else◌}
 use Rattle.std.specs.List.{filter, join_by}
 use Rattle.std.specs.Fmt.{decimal}
@@ -17,9 +17,9 @@ use Rattle.energy_report.specs.Held.{by_cause}
 use Rattle.energy_report.specs.Statements.{worth_of}
 use Rattle.energy_report.specs.Texts.{ending_by, energy_text, separator_by, unit_word}
 
--- ---- texts of the state of a counter: its timestamp and its value
+-- Texts of the state of a counter: its timestamp and its value.
 
--- The text that replaces a counter's state if the range has no valid entry.
+-- The text that replaces a counter's state if the range of days has no valid entry.
 abbrev pub nothing : Format → List ℕ
 nothing Text = codes "-"
 nothing Csv = []
@@ -31,28 +31,29 @@ quote Text = []
 quote Csv = []
 quote Json = codes "\""
 
--- The timestamp of a counter's state in a format, or `nothing` without a state.
+-- The timestamp of a counter's state in an output format, or `nothing` without a state.
 abbrev pub moment_text : Format → Option Last → List ℕ
 moment_text format None = nothing format
 moment_text format (Some stand) = decimal stand.at
 
--- The value of a counter's state in a format and a unit, or `nothing` without a state.
+-- The energy that a counter's state shows, in an output format and a unit, or `nothing` without a
+-- state.
 abbrev pub worth_text : Format → EnergyUnit → Option Last → List ℕ
 worth_text format unit None = nothing format
 worth_text format unit (Some stand) =
     quote format ++ energy_text unit (worth_of stand) ++ quote format
 
--- ---- texts of counts of rejected readings, such as `2=3,5=1` (three for cause 2, one for 5)
+-- Texts of counts of rejected readings, such as `2=3,5=1` (three for cause 2, one for 5).
 
--- The text between two counts of rejected readings. In CSV, the text is not a comma, because commas
--- separate fields.
+-- The text between two counts of rejected readings. In CSV, the separator is not a comma, because
+-- commas separate fields.
 abbrev pub held_mark : Format → List ℕ
 held_mark Text = codes ","
 held_mark Csv = codes ";"
 held_mark Json = codes ","
 
--- The text between a cause and its count. In a text, it is not a colon, because spreadsheets read
--- `2:3` as a time.
+-- The text between a cause of rejection and its count. Outside JSON, the separator is not a colon,
+-- because spreadsheets read `2:3` as a time.
 abbrev pub count_mark : Format → List ℕ
 count_mark Text = codes "="
 count_mark Csv = codes "="
@@ -69,7 +70,7 @@ count_text format one =
 abbrev pub counts_text : Format → List HeldCount → List ℕ
 counts_text format counts = join_by (count_text format) (held_mark format) counts
 
--- The counts that are not 0, in the order of the causes' numbers.
+-- The counts of rejected readings that are not 0, in the order of the causes' numbers.
 unfoldable pub held_some : RejectedCounts → List HeldCount
 held_some held = filter (λ one. not (one.count == 0)) (by_cause held)
 
@@ -85,7 +86,7 @@ held_text Text held = counts_or_zero Text (held_some held)
 held_text Csv held = counts_or_zero Csv (held_some held)
 held_text Json held = codes "{" ++ counts_text Json (held_some held) ++ codes "}"
 
--- True if a list of counts is empty.
+-- True if a list of counts of rejected readings is empty.
 abbrev pub are_none : List HeldCount → Bool
 are_none [] = true
 are_none (first ∷ counts) = false
@@ -97,21 +98,22 @@ count_piece format is_first one =
     if one.count == 0 then [] else
     (if is_first then [] else held_mark format) ++ count_text format one
 
--- ---- the statement of a meter as separated fields: a line of text, or a record of CSV
+-- The statement (billing report) of a meter as separated fields: a line of text, or a record of
+-- CSV.
 
--- The timestamp and the value of a counter's state as two fields, each preceded by the separator
+-- The timestamp and the energy of a counter's state as two fields, each preceded by the separator
 -- `mark`.
 abbrev pub stand_fields : StatementForm → (mark : List ℕ) → Option Last → List ℕ
 stand_fields form mark stand =
     mark ++ moment_text form.format stand ++ mark ++ worth_text form.format form.unit stand
 
--- The numbers of corrections as fields, each preceded by the separator `mark`.
+-- The numbers of a meter's corrections as fields, each preceded by the separator `mark`.
 abbrev pub count_fields : (mark : List ℕ) → EntryTally → List ℕ
 count_fields mark tally =
     mark ++ decimal tally.by_hand ++ mark ++ decimal tally.resets ++ mark
     ++ decimal tally.rescales ++ mark ++ decimal tally.voids
 
--- The statement of a meter as fields, with the separator `mark` between them.
+-- The statement (billing report) of a meter as fields, with the separator `mark` between them.
 abbrev pub fields : StatementForm → (mark : List ℕ) → MeterStatement → List ℕ
 fields form mark row =
     row.meter ++ stand_fields form mark row.entries.first
@@ -119,22 +121,22 @@ fields form mark row =
     ++ mark ++ energy_text form.unit row.mwh ++ count_fields mark row.entries
     ++ mark ++ held_text form.format row.held
 
--- ---- the statement of a meter as a JSON object
+-- The statement (billing report) of a meter as a JSON object.
 
--- The timestamp and the value of a counter's state as members of a JSON object.
+-- The timestamp and the energy of a counter's state as members of a JSON object.
 abbrev pub stand_members : EnergyUnit → (word : List ℕ) → Option Last → List ℕ
 stand_members unit word stand =
     codes "\"" ++ word ++ codes "\":" ++ moment_text Json stand ++ codes ",\"" ++ word ++ codes "_"
     ++ unit_word unit ++ codes "\":" ++ worth_text Json unit stand ++ codes ","
 
--- The numbers of corrections as members of a JSON object.
+-- The numbers of a meter's corrections as members of a JSON object.
 abbrev pub count_members : EntryTally → List ℕ
 count_members tally =
     codes ",\"by_hand\":" ++ decimal tally.by_hand ++ codes ",\"resets\":" ++ decimal tally.resets
     ++ codes ",\"rescales\":" ++ decimal tally.rescales ++ codes ",\"voids\":"
     ++ decimal tally.voids
 
--- The statement of a meter as a JSON object.
+-- The statement (billing report) of a meter as the text of a JSON object.
 abbrev pub object : EnergyUnit → MeterStatement → List ℕ
 object unit row =
     codes "{\"meter\":\"" ++ row.meter ++ codes "\","
@@ -144,49 +146,47 @@ object unit row =
     ++ codes "\"" ++ count_members row.entries ++ codes ",\"held\":" ++ held_text Json row.held
     ++ codes "}"
 
--- ---- rows of a statement, and the texts before, between and after the rows
-
--- The statement of a meter as a row in a given format.
+-- The statement (billing report) of a meter as a row in a given format.
 abbrev pub row_by : Format → StatementForm → MeterStatement → List ℕ
 row_by Text form row = fields form (codes " ") row ++ codes "\n"
 row_by Csv form row = fields form (codes ",") row ++ codes "\r\n"
 row_by Json form row = object form.unit row
 
--- The statement of a meter as a row in the format of the form.
+-- The statement (billing report) of a meter as a row in the requested format.
 abbrev pub row_text : StatementForm → MeterStatement → List ℕ
 row_text form row = row_by form.format form row
 
--- The header of a statement in CSV.
+-- The header of a statement (billing report) in CSV.
 abbrev pub csv_header : EnergyUnit → List ℕ
 csv_header unit =
     codes "meter,first,first_" ++ unit_word unit ++ codes ",last,last_" ++ unit_word unit
     ++ codes ",energy_" ++ unit_word unit ++ codes ",by_hand,resets,rescales,voids,held\r\n"
 
--- The text before the first row of a statement in a given format.
+-- The text before the first row of a statement (billing report) in a given format.
 abbrev pub opening_by : Format → EnergyUnit → List ℕ
 opening_by Text unit = []
 opening_by Csv unit = csv_header unit
 opening_by Json unit = codes "["
 
--- The text before the first row of a statement in the format of the form.
+-- The text before the first row of a statement (billing report) in the requested format.
 abbrev pub opening : StatementForm → List ℕ
 opening form = opening_by form.format form.unit
 
--- The text between two rows of a statement in the format of the form.
+-- The text between two rows of a statement (billing report) in the requested format.
 abbrev pub separator : StatementForm → List ℕ
 separator form = separator_by form.format
 
--- The text before a row of a statement, which is empty for the first row. For a later row, it is
--- the text between two rows.
+-- The text before a row of a statement (billing report), which is empty for the first row. Before
+-- each later row, the text is the separator of two rows.
 abbrev pub lead : (is_first : Bool) → StatementForm → List ℕ
 lead true form = []
 lead false form = separator form
 
--- The text of a statement from its beginning to the last of the given rows, without the end of the
--- statement.
+-- The text of a statement (billing report) from the beginning to the last of the given rows,
+-- without the end of the statement.
 abbrev pub begun_text : StatementForm → List MeterStatement → List ℕ
 begun_text form rows = opening form ++ join_by (row_text form) (separator form) rows
 
--- The complete text of the statements of a list of meters.
+-- The complete text of the statements (billing reports) of a list of meters.
 abbrev pub statement_text : StatementForm → List MeterStatement → List ℕ
 statement_text form rows = begun_text form rows ++ ending_by form.format (length rows)

@@ -1,5 +1,5 @@
--- The statement of a meter for a range of days. The statement has the counter at the first and the
--- last entry, the number of corrections, and the energy.
+-- The statement (billing report) of a meter for a range of days. The statement has the counter at
+-- the first and the last entry, the number of corrections, and the energy.
 use Rattle.std.specs.Prelude.{ℕ, ℤ, int_lt, ◌-◌, ◌^◌, min, Bool, true, false, not, ◌&&◌, ◌||◌, List, filter, reverse, sum_by, None, if◌then◌else◌}
 use Rattle.std.specs.List.{count_by, find}
 use Rattle.std.specs.Option.{option_map}
@@ -20,20 +20,18 @@ use Rattle.energy_report.specs.declared.tallies.EntryTally.{EntryTally}
 use Rattle.interval_core.specs.Ranges.{has_moment}
 use Rattle.energy_report.specs.RowLines.{counted}
 
--- ---- the properties of a meter entry
-
--- The counter's state after a meter entry, where `sf` is the scale factor after the entry.
+-- The state of a meter's counter after an entry, where `sf` is the scale factor after the entry.
 abbrev pub stand_after : Entry → (sf : ℤ) → Last
 stand_after (step.Step at raw rolls) sf = record { at = at; raw = raw; sf = sf }
 stand_after (step.Change at before after set) sf = record { at = at; raw = after; sf = sf }
 
--- The counter's state after an entry of a meter, which may be the opening entry.
+-- The state of the counter after an entry of a meter, which may be the opening (first) entry.
 abbrev pub counter_after_entry : MeterEntry → Last
 counter_after_entry (entry.Opening last) = last
 counter_after_entry (entry.Later row sf) = stand_after row.entry sf
 
--- True if an entry is valid, which means that no void names the entry. An opening entry is always
--- valid.
+-- True if an entry is valid, which means that the entry was not voided (cancelled). An opening
+-- (first) entry is always valid.
 abbrev pub stands : MeterEntry → Bool
 stands (entry.Opening last) = true
 stands (entry.Later row sf) = row.stands
@@ -53,26 +51,25 @@ abbrev pub is_rescale : EntryKind → Bool
 is_rescale kind.Rescale = true
 is_rescale _ = false
 
--- True if the kind of an entry passes the test `is`. False for an opening entry.
+-- True if the kind of a meter entry passes the test `is`. False for an opening (first) entry.
 abbrev pub has_kind : (EntryKind → Bool) → MeterEntry → Bool
 has_kind is (entry.Opening last) = false
 has_kind is (entry.Later row sf) = is row.kind
 
--- ---- the meter entries in a range of days
-
--- True if the timestamp of an entry is in the range.
+-- True if the timestamp of a meter entry is in the range of days.
 abbrev pub is_within : Zone → DayRange → MeterEntry → Bool
 is_within zone range e = has_moment zone range (counter_after_entry e).at
 
--- True if an entry is valid and its timestamp is in the range.
+-- True if a meter entry is valid (not voided) and its timestamp is in the range of days.
 abbrev pub stands_within : Zone → DayRange → MeterEntry → Bool
 stands_within zone range e = is_within zone range e && stands e
 
--- True if an entry is valid, its timestamp is in the range, and its kind passes the test `is`.
+-- True if a meter entry is valid (not voided), its timestamp is in the range, and its kind passes
+-- the test `is`.
 abbrev pub is_corrected : Zone → DayRange → (EntryKind → Bool) → MeterEntry → Bool
 is_corrected zone range is e = stands_within zone range e && has_kind is e
 
--- True if an entry is voided and its timestamp is in the range.
+-- True if a meter entry is voided (cancelled) and its timestamp is in the range of days.
 abbrev pub is_voided : Zone → DayRange → MeterEntry → Bool
 is_voided zone range e = is_within zone range e && not (stands e)
 
@@ -81,8 +78,8 @@ abbrev pub count_of : (MeterEntry → Bool) → List MeterEntry → ℕ
 count_of does entries = counted (count_by does entries)
 
 -- The tally of a meter's entries in a range of days: the counter at the first and last valid entry,
--- and the number of corrections. A voided entry counts if its own timestamp is in the range,
--- whatever the time of its void.
+-- and the number of corrections. A voided (cancelled) entry counts if its own timestamp is in the
+-- range, whenever it was voided.
 abbrev pub tally_of : Zone → DayRange → List MeterEntry → EntryTally
 tally_of zone range entries = record {
   first = option_map counter_after_entry (find (stands_within zone range) entries);
@@ -93,26 +90,22 @@ tally_of zone range entries = record {
   voids = count_of (is_voided zone range) entries;
 }
 
--- ---- the energy of a meter in a range of days
-
--- The energy in mWh of the interval rows whose quarter hours start in the range. The sum saturates
--- at 2^128 - 1.
+-- The energy in mWh of the quarter hours that start in the range of days. The sum saturates at
+-- 2^128 - 1.
 abbrev pub energy_within : Zone → DayRange → List Share → ℕ
 energy_within zone range rows =
     min (sum_by (λ row. row.mwh) (filter (λ row. has_moment zone range row.start) rows))
     (2 ^ 128 - 1)
 
--- The energy in mWh of the count that a counter shows, or 0 if its scale factor is out of range. No
--- recorded counter has such a scale factor.
+-- The energy in mWh that corresponds to the count of a counter, or 0 if its scale factor is out of
+-- range. No recorded counter has such a scale factor.
 abbrev pub worth_of : Last → ℕ
 worth_of last =
     if int_lt last.sf MIN_SCALE || int_lt MAX_SCALE last.sf then 0 else value_of last
 
--- ---- the meters that were installed in a range of days
-
--- True if a meter was installed on at least one day of the range, by the clocks of the time zone.
--- The meter was installed before the end of the range, and was not closed before the beginning of
--- the range.
+-- True if a meter was installed on at least one day in a range, by the clocks of the time zone. The
+-- meter was installed before the end of the range, and was not closed before the beginning of the
+-- range.
 abbrev pub was_installed : Zone → DayRange → Installation → Bool
 was_installed zone range row =
     has_moment zone (record { from = None; till = range.till }) row.opening.at

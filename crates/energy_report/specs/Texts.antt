@@ -19,13 +19,13 @@ use Rattle.energy_report.specs.declared.form.ReportForm.{ReportForm}
 use Rattle.energy_report.specs.declared.row.Row.{Row}
 use Rattle.energy_report.specs.Rows.{shown_rows}
 
--- The name of a kind of period in headers and JSON members.
+-- The name of a period (day, month or year) in headers and JSON members.
 abbrev pub period_word : Period → List ℕ
 period_word period.Day = codes "day"
 period_word period.Month = codes "month"
 period_word period.Year = codes "year"
 
--- The name of a unit in headers and JSON members.
+-- The name of a unit of energy in headers and JSON members.
 abbrev pub unit_word : EnergyUnit → List ℕ
 unit_word MilliwattHours = codes "mwh"
 unit_word KilowattHours = codes "kwh"
@@ -41,14 +41,12 @@ abbrev pub energy_text : EnergyUnit → (mwh : ℕ) → List ℕ
 energy_text MilliwattHours mwh = decimal mwh
 energy_text KilowattHours mwh = magnitude_text mwh (negsuc 5)
 
--- The width in columns of a row's number of intervals. A day has up to 100 intervals, a month up to
--- 2,980 and a year up to 35,136.
+-- The width in columns of the number of quarter hours in a report row. A day has up to 100
+-- intervals, a month up to 2,980 and a year up to 35,136.
 abbrev pub count_width : Period → ℕ
 count_width period.Day = 3
 count_width period.Month = 4
 count_width period.Year = 5
-
--- ---- a row of a report in each format
 
 -- A row of a report as a line of text. Spaces (32) separate period, number of intervals and energy,
 -- and a line feed (10) ends the line.
@@ -77,11 +75,9 @@ row_by Text = text_row
 row_by Csv = csv_row
 row_by Json = json_row
 
--- A row of a report in the format of the form.
+-- A row of a report in the requested format.
 abbrev pub row_text : ReportForm → Row → List ℕ
 row_text form row = row_by form.format form row
-
--- ---- the text before, between and after the rows of a report
 
 -- The header of a report in CSV.
 abbrev pub csv_header : Period → EnergyUnit → List ℕ
@@ -93,7 +89,7 @@ opening_by Text period unit = []
 opening_by Csv period unit = csv_header period unit
 opening_by Json period unit = codes "["
 
--- The text before the first row of a report, in the format that the report form names.
+-- The text before the first row of a report, in the requested format.
 abbrev pub opening : ReportForm → List ℕ
 opening form = opening_by form.format form.period form.unit
 
@@ -103,7 +99,7 @@ separator_by Text = []
 separator_by Csv = []
 separator_by Json = codes ",\n"
 
--- The text between two rows of a report in the format of the form.
+-- The text between two rows of a report in the requested format.
 abbrev pub separator : ReportForm → List ℕ
 separator form = separator_by form.format
 
@@ -113,12 +109,12 @@ ending_by Text count = end_line count
 ending_by Csv count = []
 ending_by Json count = codes "]\n"
 
--- The text after the last of `count` rows of a report in the format of the form.
+-- The text after the last of `count` rows of a report in the requested format.
 abbrev pub ending : ReportForm → (count : ℕ) → List ℕ
 ending form count = ending_by form.format count
 
--- The text before a row of a report. Before the first row, it is the beginning of the report,
--- otherwise the text between two rows.
+-- The text before a row of a report. Before the first row, this text is the beginning of the
+-- report, otherwise the text between two rows.
 abbrev pub lead : (is_first : Bool) → ReportForm → List ℕ
 lead true form = opening form
 lead false form = separator form

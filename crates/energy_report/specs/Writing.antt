@@ -1,4 +1,4 @@
--- The text that a report has written while its days arrive one by one.
+-- Definitions for the text that a report has written while its days arrive one by one.
 use Rattle.std.specs.Prelude.{◌≡◌, ℕ, ◌+◌, ◌-◌, ◌<◌, ◌^◌, ◌==◌, ◌++◌, ◌∷◌, min, Bool, true, false, List, [], map, length, Option, Some, None}
 use Rattle.std.specs.List.{join_by}
 use Rattle.std.specs.Io.KnownBytes.{Appends}
@@ -10,15 +10,13 @@ use Rattle.energy_report.specs.declared.report_rows.ReportRows.{ReportRows}
 use Rattle.energy_report.specs.Rows.{rows_in, shown}
 use Rattle.energy_report.specs.Texts.{lead, opening, report_text, row_text, separator}
 
--- True if the text was written completely, or only in part if a write failed.
+-- True if a text was written completely, or, after a failed write, only in part.
 abbrev pub GotUnless : (failed : Bool) → (text : List ℕ) → (old new : Option (List ℕ)) → Type 0
 GotUnless false text old new = Appends old new text
 GotUnless true text old new = GotPart text old new
 
--- ---- writing one text to the output
-
--- The effect of writing a text. The report writes the text to its output, unless an earlier write
--- failed.
+-- The effect of writing a text as a part of a report. The report writes the text to its output,
+-- unless an earlier write failed.
 pub record WritesText {W : Type 0} (contents : W → Option (List ℕ)) (text : List ℕ)
     (old new : ReportRows W) : Type 0 where
   pub form : new.form ≡ old.form
@@ -29,8 +27,8 @@ pub record WritesText {W : Type 0} (contents : W → Option (List ℕ)) (text : 
       → GotUnless new.failed text (contents old.output.now) (contents new.output.now)
   pub dropped : old.failed ≡ true → (new.failed ≡ true) × (new.output.now ≡ old.output.now)
 
--- The effect of writing a row. The report writes the row with the text before it, and counts the
--- row. After a failed write, the report writes nothing.
+-- The effect of writing a row of a report. The report writes the row with the text before it, and
+-- counts the row. After a failed write, the report writes nothing.
 pub record WritesRow {W : Type 0} (contents : W → Option (List ℕ)) (row : Row)
     (old new : ReportRows W) : Type 0 where
   pub form : new.form ≡ old.form
@@ -42,23 +40,22 @@ pub record WritesRow {W : Type 0} (contents : W → Option (List ℕ)) (row : Ro
       (contents old.output.now) (contents new.output.now)
   pub dropped : old.failed ≡ true → (new.failed ≡ true) × (new.output.now ≡ old.output.now)
 
--- ---- the text for the days that the report received
-
--- The text of the rows written so far, without the end of the report. The text is empty before the
--- first row.
+-- The text of the report rows written so far, without the end of the report. The text is empty
+-- before the first row.
 abbrev pub begun_text : ReportForm → List Row → List ℕ
 begun_text form [] = []
 begun_text form (row ∷ rows) =
     opening form ++ join_by (row_text form) (separator form) (map shown (row ∷ rows))
 
--- True if all rows but the last are written. The last row is pending, because the next day may be
--- in its period.
+-- True if all rows of a report but the last are written. The last row is pending, because the next
+-- day may be in its period.
 abbrev pub AreWritten : (rows done : List Row) → (pending : Option Row) → Type 0
 AreWritten rows done None = (rows ≡ []) × (done ≡ [])
 AreWritten rows done (Some pending) =
     (last : Row) × (rows ≡ done ++ last ∷ []) × (pending ≡ shown last)
 
--- True if all rows of the days but the last row are written and counted. The last row is pending.
+-- True if all rows of a report on a list of days, except the last row, are written and counted. The
+-- last row is pending (not written yet).
 pub record IsWritten {W : Type 0} (contents : W → Option (List ℕ)) (days : List DayTotal)
     (old : W) (new : ReportRows W) : Type 0 where
   pub done : List Row
@@ -66,15 +63,15 @@ pub record IsWritten {W : Type 0} (contents : W → Option (List ℕ)) (days : L
   pub count : new.count ≡ length done
   pub text : Appends (contents old) (contents new.output.now) (begun_text new.form done)
 
--- True if the written text is a part of every report that begins with the given days, as after a
--- failed write.
+-- True if the written text is a part of every report that begins with the given days, which is the
+-- state after a failed write.
 abbrev pub IsBroken : {W : Type 0} → (W → Option (List ℕ)) → List DayTotal
     → (old : W) (new : ReportRows W) → Type 0
 IsBroken contents days old new = (more : List DayTotal)
     → GotPart (report_text new.form (days ++ more)) (contents old) (contents new.output.now)
 
--- True if the report has received a list of fewer than 2^64 days since its beginning. Their rows
--- are written, except the pending row, or a write failed.
+-- True if the report has received a list of fewer than 2^64 days since its beginning. The rows of
+-- these days are written, except the row still pending, or a write failed.
 pub record HasTaken {W : Type 0} (contents : W → Option (List ℕ)) (days : List DayTotal)
     (from to : ReportRows W) : Type 0 where
   pub form : to.form ≡ from.form
@@ -82,7 +79,7 @@ pub record HasTaken {W : Type 0} (contents : W → Option (List ℕ)) (days : Li
       → IsWritten contents days from.output.now to
   pub broken : to.failed ≡ true → length days < 2 ^ 64 → IsBroken contents days from.output.now to
 
--- The effect of one more day on the report. The report has then received the earlier days, followed
+-- The effect of one more day on a report. The report has then received the earlier days, followed
 -- by this day.
 pub record TakesDay {W : Type 0} (contents : W → Option (List ℕ)) (old : ReportRows W)
     (total : DayTotal) (new : ReportRows W) : Type 0 where
@@ -90,7 +87,7 @@ pub record TakesDay {W : Type 0} (contents : W → Option (List ℕ)) (old : Rep
   pub taken : (from : ReportRows W) (days : List DayTotal)
       → HasTaken contents days from old → HasTaken contents (days ++ total ∷ []) from new
 
--- True if a report is new. It has the given form, and has received no day yet.
+-- True if a report is new: it has the requested settings and has received no day yet.
 pub record IsFresh {W : Type 0} (contents : W → Option (List ℕ)) (asked : ReportForm)
     (writer : W) (new : ReportRows W) : Type 0 where
   pub form : new.form ≡ asked
@@ -105,8 +102,8 @@ abbrev pub IsFinished : {W : Type 0} → (W → Option (List ℕ)) → List DayT
 IsFinished contents days from to = GotUnless to.failed (report_text from.form days)
     (contents from.output.now) (contents to.output.now)
 
--- True after `finish` if `IsFinished` holds for all days that the report received, provided that
--- they are fewer than 2^64.
+-- The effect of `finish`: the complete report on all days that it received was written, unless a
+-- write failed. The days must be fewer than 2^64.
 pub record Finishes {W : Type 0} (contents : W → Option (List ℕ)) (old new : ReportRows W)
     : Type 0 where
   pub output : new.output.ghost_name ≡ old.output.ghost_name

@@ -1,11 +1,12 @@
-//! Adds up the energy of interval rows that arrive one by one, for a range of civil days.
+//! Adds up the energy of interval rows (energies of quarter hours) that arrive one by one, for a
+//! range of civil days.
 ghost use Rattle.std.specs.Prelude.{◌≡◌, if◌then◌else◌};
 
 use interval_core::{DayRange, Share, Zone};
 use office_books::RowSink;
 
-/// Adds up the energy of the interval rows whose quarter hours start in a range of days, by the
-/// clocks of a zone.
+/// Adds up the energy of the quarter hours that start in a range of days, by the clocks of a time
+/// zone.
 ///
 /// The sum saturates at 2^128 - 1 mWh.
 #[derive(Drop)]
@@ -18,7 +19,7 @@ pub struct EnergyWithin {
 impl EnergyWithin {
     ghost use Rattle.energy_report.specs.Energies.{IsFresh};
 
-    /// Creates a sum of 0 mWh, before any interval row.
+    /// Creates a sum of 0 mWh, before any energy of a quarter hour is added.
     pub fn new(zone: Zone, range: DayRange) -> EnergyWithin
         ensures { IsFresh zone range result }
     {
@@ -29,7 +30,8 @@ impl EnergyWithin {
         }
     }
 
-    /// Returns the energy in mWh of the interval rows received so far.
+    /// Returns the energy in mWh of the quarter hours received so far that start in the range of
+    /// days.
     pub fn mwh(&self) -> u128
         ensures { result ≡ self.now.mwh }
     {

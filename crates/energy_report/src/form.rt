@@ -1,4 +1,5 @@
-//! The form of a report or a statement, and the arguments on the command line that select the form.
+//! The settings (form) of a report or of a meter statement, and the arguments on the command line
+//! that select them.
 ghost use Rattle.std.specs.Prelude.{◌≡◌};
 ghost use Rattle.jiff.specs.Words.{epoch_day};
 ghost use Rattle.energy_report.specs.Periods as periods;
@@ -7,7 +8,7 @@ ghost use Rattle.energy_report.specs.Words.{period_of, unit_of, format_of, plain
 
 use interval_core::{Day, DayRange};
 
-/// The period whose days form one row of a report.
+/// The period (day, month or year) whose days form one row of a report.
 #[derive(Clone, Copy, Debug, PartialEq, Eq)]
 pub enum Period {
     Day,
@@ -35,7 +36,7 @@ pub enum Format {
     Json,
 }
 
-/// The form of a report, which is its range of days, its period, its unit and its format.
+/// The settings of a report: its range of days, its period, its unit and its format.
 #[derive(Clone, Copy)]
 pub struct ReportForm {
     pub range: DayRange,
@@ -44,7 +45,7 @@ pub struct ReportForm {
     pub format: Format,
 }
 
-/// The form of a statement, which is its range of days, its unit and its format.
+/// The settings of a statement (billing report): its range of days, its unit and its format.
 #[derive(Clone, Copy)]
 pub struct StatementForm {
     pub range: DayRange,
@@ -53,8 +54,8 @@ pub struct StatementForm {
 }
 
 impl ReportForm {
-    /// Returns the form of a report without options: all days, one row for each day, energy in mWh,
-    /// as text.
+    /// Returns the settings of a report without options: all days, one row for each day, energy in
+    /// mWh, as text.
     pub fn plain() -> ReportForm
         ensures { result ≡ plain_form }
     {
@@ -80,7 +81,7 @@ impl Period {
         }
     }
 
-    /// Returns whether two days are in the same period.
+    /// Returns whether two days are in the same period (day, month or year).
     pub fn has_both(self, one: Day, other: Day) -> bool
         ensures { result ≡ is_same self one other }
     {
@@ -91,7 +92,7 @@ impl Period {
         }
     }
 
-    /// Returns the last day of the period that contains a day.
+    /// Returns the last day of the period (day, month or year) that contains a day.
     pub fn last_day(self, day: Day) -> Day
         ensures { epoch_day result ≡ periods.last_day self day }
     {

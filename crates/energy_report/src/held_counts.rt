@@ -7,20 +7,20 @@ ghost use Rattle.energy_report.specs.RowLines.{one_more_if};
 use crate::tallies::{both, tallied};
 use energy_core::Cause;
 
-/// The number of rejected readings for each cause. Each count saturates at 2^64 - 1.
+/// The number of rejected readings for each cause of rejection. Each count saturates at 2^64 - 1.
 #[derive(Clone, Copy)]
 pub struct RejectedCounts {
     /// The counter showed 0, which SunSpec defines as an accumulator that does not count.
     pub not_accumulated: u64,
-    /// The scale factor of the reading differed from the scale factor of the last entry.
+    /// The scale factor of the reading differed from the scale factor of the meter's last entry.
     pub scale_changed: u64,
-    /// The reading was not later than the last entry.
+    /// The reading was not later than the meter's last entry.
     pub not_later: u64,
-    /// More than 3,000 quarter hours had passed since the last entry.
+    /// More than 3,000 quarter hours had passed since the meter's last entry.
     pub span_too_long: u64,
-    /// The counter could have advanced by its full range or more since the last entry.
+    /// The counter could have advanced by its full range or more since the meter's last entry.
     pub gap_too_long: u64,
-    /// The counter advanced further than the ceiling on power allows.
+    /// The counter advanced further than the greatest power of the meter (its ceiling) allows.
     pub too_fast: u64,
     /// The total energy of the meter would have exceeded its limit.
     pub total_full: u64,
@@ -36,7 +36,7 @@ pub struct HeldCount {
 }
 
 impl RejectedCounts {
-    /// Creates counts that are all 0.
+    /// Creates counts of rejected readings that are all 0.
     pub fn none() -> RejectedCounts
         ensures { result ≡ held.none_held }
     {
@@ -52,7 +52,7 @@ impl RejectedCounts {
         }
     }
 
-    /// Returns each cause with its count, in the order of the causes' numbers.
+    /// Returns each cause of rejection with its count, in the order of the causes' numbers.
     pub fn by_cause(&self) -> [HeldCount; 8]
         ensures { result ≡ held.by_cause self.now }
     {
@@ -92,8 +92,8 @@ impl RejectedCounts {
         ]
     }
 
-    // Returns the counts after one more rejected reading. If `counts` is true, the count of its
-    // cause grows by one, otherwise no count changes.
+    // Returns the counts of rejected readings after one more rejected reading. If `counts` is true,
+    // the count of the reading's cause grows by one, otherwise no count changes.
     pub(crate) fn with_one(&self, counts: bool, cause: Cause) -> RejectedCounts
         ensures { result ≡ held.with_one self.now counts cause }
     {
@@ -120,8 +120,8 @@ impl RejectedCounts {
     }
 }
 
-// Returns the count of `counted_cause` after one more reading. The count grows by one if `counts`
-// is true and the reading was rejected for this cause.
+// Returns the number of readings rejected for `counted_cause` after one more reading. The count
+// grows by one if `counts` is true and the reading was rejected for this cause.
 fn one_more_for(count: u64, counts: bool, cause: Cause, counted_cause: Cause) -> u64
     ensures { result ≡ one_more_if (counts && held.is_one cause counted_cause) count }
 {

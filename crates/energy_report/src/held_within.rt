@@ -5,8 +5,8 @@ use interval_core::{DayRange, Zone};
 use office_books::RowSink;
 use office_events::HeldReading;
 
-/// Counts, for each cause, the rejected readings whose timestamps are in a range of days, by the
-/// clocks of a zone.
+/// Counts, for each cause of rejection, the rejected readings whose timestamps are in a range of
+/// days, by the clocks of a time zone.
 #[derive(Drop)]
 pub struct RejectedWithin {
     zone: Zone,
@@ -18,7 +18,7 @@ impl RejectedWithin {
     ghost use Rattle.std.specs.Prelude.{◌≡◌};
     ghost use Rattle.energy_report.specs.HeldSinks.{HasCountedNone};
 
-    /// Creates counts that are all 0, before any rejected reading.
+    /// Creates counts of rejected readings that are all 0.
     pub fn new(zone: Zone, range: DayRange) -> RejectedWithin
         ensures { HasCountedNone zone range result }
     {
@@ -29,7 +29,8 @@ impl RejectedWithin {
         }
     }
 
-    /// Returns, for each cause, the number of rejected readings received so far.
+    /// Returns, for each cause, the number of rejected readings received so far with a timestamp in
+    /// the range of days.
     pub fn counts(&self) -> RejectedCounts
         ensures { result ≡ self.now.counts }
     {

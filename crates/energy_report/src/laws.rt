@@ -4,13 +4,13 @@ ghost use Rattle.energy_report.specs.Laws.{PlainReportsAreListsOfDays, RangesAdd
 ghost use Rattle.energy_report.specs.Periods.{PeriodsEndWithTheirLastDay};
 
 /// Proves for any period that the rows of a report add up to the energy and number of intervals of
-/// the days in the range.
+/// the days in the requested range.
 pub fn rows_add_up()
     ensures { RowsAddUp }
 {}
 
-/// Proves that the printed rows are exact if the days in the range have fewer than 2^64 intervals
-/// and less than 2^128 mWh in total.
+/// Proves that the printed rows are exact if the days in the requested range have fewer than 2^64
+/// intervals and less than 2^128 mWh in total.
 pub fn rows_are_shown()
     ensures { RowsAreShown }
 {}
@@ -26,14 +26,14 @@ pub fn rows_are_whole()
     ensures { RowsAreWhole }
 {}
 
-/// Proves that a period contains each day from a given day up to the period's last day, and no day
-/// after it.
+/// Proves that a period (day, month or year) contains each day from a given day up to the period's
+/// last day, and no day after it.
 pub fn periods_end_with_their_last_day()
     ensures { PeriodsEndWithTheirLastDay }
 {}
 
 /// Proves that the report without options (all days, one row for each day, mWh, text) is the list
-/// of days that `interval_core` defines.
+/// of days that the crate `interval_core` defines.
 pub fn plain_reports_are_lists_of_days()
     ensures { PlainReportsAreListsOfDays }
 {}

@@ -1,4 +1,4 @@
-//! Computes the rows of energy reports over a range of civil days, and writes reports and
+//! Computes the rows of energy reports over a range of civil days, and writes reports and meter
 //! statements.
 #![tactic(auto)]
 

@@ -40,14 +40,15 @@ impl<'o, W: Write> ReportRows<'o, W> {
         }
     }
 
-    /// Returns whether a write failed.
+    /// Returns whether a write of the report failed.
     pub fn has_failed(&self) -> bool
         ensures { result ≡ self.now.failed }
     {
         self.failed
     }
 
-    /// Writes the pending row and the end of the report. Call this function after the last day.
+    /// Writes the pending row (the last row, not written yet) and the end of the report. Call this
+    /// function after the last day.
     pub fn finish(&mut self)
         ensures { Finishes W.contents self.old self.new }
     {
@@ -60,7 +61,7 @@ impl<'o, W: Write> ReportRows<'o, W> {
         }
     }
 
-    // Writes a row of the report and counts it.
+    // Writes a row of the report and counts the row.
     fn write_row(&mut self, row: &Row)
         ensures { WritesRow W.contents row.now self.old self.new }
     {
@@ -80,7 +81,7 @@ impl<'o, W: Write> ReportRows<'o, W> {
         self.write(&text);
     }
 
-    // Writes a text to the output, unless an earlier write failed.
+    // Writes a text to the output of a report, unless an earlier write failed.
     fn write(&mut self, text: &Line)
         ensures { WritesText W.contents text.now self.old self.new }
     {

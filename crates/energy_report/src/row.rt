@@ -6,8 +6,8 @@ use interval_core::{Day, DayTotal};
 
 /// A row of a report, which is the sum of days in one period.
 ///
-/// `first` is the first of these days, `count` the number of their intervals, and `mwh` their
-/// energy in mWh.
+/// `first` is the first of these days, `count` the number of the days' quarter hours, and `mwh` the
+/// days' energy in mWh.
 #[derive(Clone, Copy)]
 pub struct Row {
     pub first: Day,
@@ -28,8 +28,8 @@ impl Row {
         none.and(total)
     }
 
-    /// Returns the row after the day `total` is added to it. The count saturates at 2^64 - 1, and
-    /// the energy at 2^128 - 1 mWh.
+    /// Returns the report row after the day `total` is added to the row. The number of quarter
+    /// hours saturates at 2^64 - 1, and the energy at 2^128 - 1 mWh.
     pub fn and(&self, total: &DayTotal) -> Row
         ensures { result ≡ shown (joined self.now (row_of total.now)) }
     {

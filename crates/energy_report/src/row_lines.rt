@@ -1,4 +1,4 @@
-//! Writes a line for each row that arrives.
+//! Writes a line of text for each row that arrives (a quarter hour or a day).
 ghost use Rattle.std.specs.Prelude.{◌≡◌};
 
 use interval_core::{DayTotal, Share};
@@ -6,7 +6,7 @@ use office_books::RowSink;
 use script_text::{write_day, write_interval};
 use std::io::Write;
 
-/// Writes a line for each row, and counts the rows up to 2^64 - 1.
+/// Writes a line of text for each row that arrives, and counts the rows up to 2^64 - 1.
 ///
 /// After a failed write, all later rows are dropped.
 #[derive(Drop)]

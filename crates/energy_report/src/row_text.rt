@@ -13,7 +13,8 @@ use script_text::{Line, Text, day_of_month, month_of, push_part, push_year};
 // The text of an energy in mWh or kWh, which has at most 46 characters.
 pub(crate) type Energy = Text<48>;
 
-/// Returns the text of a row, preceded by the text that begins the report or separates two rows.
+/// Returns the text of a report row, preceded by the text that begins the report or separates two
+/// rows.
 pub(crate) fn row_piece(form: &ReportForm, is_first: bool, row: &Row) -> Line
     ensures { result ≡ text.lead is_first form.now ++ text.row_text form.now row.now }
 {
@@ -23,8 +24,8 @@ pub(crate) fn row_piece(form: &ReportForm, is_first: bool, row: &Row) -> Line
     line
 }
 
-/// Returns the text after the last of `count` rows. If `count` is 0, the text also begins the
-/// report.
+/// Returns the text after the last of `count` rows of a report. If `count` is 0, the text also
+/// begins the report.
 pub(crate) fn last_piece(form: &ReportForm, count: u64) -> Line
     ensures { result ≡ text.last_text form.now count }
 {
@@ -157,8 +158,6 @@ fn count_width(period: Period) -> usize
     }
 }
 
-// ---- names of the periods of report rows
-
 /// Returns the name of the period that contains a day, such as `2026-11-25`, `2026-11` or `2026`.
 pub fn period_name(period: Period, day: Day) -> Line
     ensures { result ≡ text.period_text period day }
@@ -184,8 +183,7 @@ fn push_period(line: &mut Line, period: Period, day: Day)
     }
 }
 
-// ---- texts of energies in mWh and kWh
-// Returns the text of an energy, in mWh or in kWh with six decimals.
+// Returns the text of an energy, as mWh or as kWh with six decimals.
 
 pub(crate) fn energy(unit: EnergyUnit, mwh: u128) -> Energy
     ensures bytes { result ≡ text.energy_text unit mwh }
@@ -203,7 +201,7 @@ pub(crate) fn energy(unit: EnergyUnit, mwh: u128) -> Energy
     energy
 }
 
-// Appends a number below 1,000,000 as six digits, with leading zeros.
+// Appends a number below 1,000,000 as six decimal digits, with leading zeros.
 fn push_decimals(energy: &mut Energy, number: u32)
     requires room { length energy.old ≤ 40 }
     requires few { number < 1_000_000 }
@@ -229,7 +227,7 @@ fn push_energy_right(line: &mut Line, unit: EnergyUnit, mwh: u128)
     line.push(bytes);
 }
 
-// Appends `count` spaces, at most 24.
+// Appends `count` spaces, at most 24, to a line of a report.
 fn push_spaces(line: &mut Line, count: usize)
     requires few { count ≤ 24 }
     requires room { length line.old + count ≤ 128 }

@@ -30,7 +30,8 @@ fn pair_of(tens: u8, ones: u8) -> Option<u8>
     Some(tens * 10 + ones)
 }
 
-// Returns the numbers in a text of the form `YYYY-MM-DD`, or `None` for a text of another form.
+// Returns the century, year, month and day in a text of the form `YYYY-MM-DD`, or `None` for a text
+// of another form.
 fn parts_of(text: &[u8]) -> Option<Parts>
     ensures { PartsAre text.now result }
 {

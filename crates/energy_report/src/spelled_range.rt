@@ -8,18 +8,20 @@ use interval_core::{Day, DayRange};
 /// The reason why two arguments do not select a range of days.
 #[derive(Clone, Copy)]
 pub enum RangeFault {
-    /// The argument for the first day of the range is not a day.
+    /// The command line argument for the first day of a report's range is not a civil day.
     From,
-    /// The argument for the end of the range, which is the day after its last day, is not a day.
+    /// The command line argument for the end of a report's range (the day after the last day) is
+    /// not a civil day.
     Till,
-    /// The end of the range is before its first day.
+    /// The end of the range of days is before the first day.
     Backward,
 }
 
 #[derive(Clone, Copy)]
 struct NoDay;
 
-// Parses the argument for one end of a range. Without an argument, the range is open at this end.
+// Parses the command line argument for one end of a range of days. Without an argument, the range
+// is open at this end.
 fn read_end(word: Option<&str>) -> Result<Option<Day>, NoDay>
     ensures { MatchResult result (IsEnd word.entry) (λ none. IsNoEnd word.entry) }
 {
@@ -32,10 +34,10 @@ fn read_end(word: Option<&str>) -> Result<Option<Day>, NoDay>
     }
 }
 
-/// Parses a range of days from the argument for its first day and the argument for its end. Both
+/// Parses a range of days from two command line arguments: the first day, and the end. Both
 /// arguments have the form `YYYY-MM-DD`, and the range excludes the day of its end.
 ///
-/// Without an argument, the range is open at that end.
+/// Without an argument, the range is open at this end.
 pub fn read_range(from: Option<&str>, till: Option<&str>) -> Result<DayRange, RangeFault>
     ensures { MatchResult result (IsRange from.entry till.entry)
         (IsRangeFault from.entry till.entry) }

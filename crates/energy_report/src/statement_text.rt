@@ -1,4 +1,5 @@
-//! Writes the statements of meters in a range of days. No function allocates memory.
+//! Writes the statements (billing reports) of meters in a range of days. No function allocates
+//! memory.
 ghost use Rattle.std.specs.Prelude.{◌≡◌, ◌≤◌, ◌+◌, ◌++◌, ◌&&◌, ◌==◌, length};
 ghost use Rattle.sun_points.specs.Writing.{GotText};
 ghost use Rattle.energy_core.specs.Verdict.{cause_number};
@@ -16,11 +17,12 @@ use script_text::Text;
 use std::io::{self, Write};
 use sun_points::Sink;
 
-// The text of a statement's row with the text before it, which has at most 900 characters.
+// The text of a row of a statement (billing report) and the separator before it, which has at most
+// 900 characters.
 type Page = Text<1024>;
 
-/// Writes the statements of all meters. If a write fails, only the beginning of the text is
-/// written.
+/// Writes the statements (billing reports) of all meters. If a write fails, only the beginning of
+/// the text is written.
 pub fn write_statement<W: Write>(
     form: &StatementForm,
     rows: &[MeterStatement],
@@ -78,8 +80,8 @@ fn ending_page(form: &StatementForm, count: u64) -> Page
     page
 }
 
-// Returns the text of a statement's row, preceded by the text that separates two rows. Nothing
-// precedes the first row.
+// Returns the text of a row of a statement (billing report), preceded by the text that separates
+// two rows. Nothing precedes the first row.
 fn row_page(form: &StatementForm, is_first: bool, row: &MeterStatement) -> Page
     ensures { result ≡ text.lead is_first form.now ++ text.row_text form.now row.now }
 {
@@ -120,10 +122,8 @@ fn push_row(page: &mut Page, form: &StatementForm, row: &MeterStatement)
     }
 }
 
-// ---- the energy of the count that a counter shows
-
-// Returns the energy in mWh of the count that a counter shows, or 0 if its scale factor is out of
-// range.
+// Returns the energy in mWh that corresponds to the count of a counter, or 0 if the counter's scale
+// factor is out of range.
 fn reading_value(stand: &Last) -> u128
     ensures { result ≡ worth_of stand.now }
 {
@@ -185,7 +185,6 @@ fn push_worth(page: &mut Page, format: Format, unit: EnergyUnit, stand: &Option<
     }
 }
 
-// ---- texts of the counts of rejected readings
 // Returns the separator between two counts of rejected readings.
 
 fn held_mark(format: Format) -> &'static [u8]
@@ -234,7 +233,8 @@ fn push_counts_or_zero(page: &mut Page, format: Format, held: &RejectedCounts)
     }
 }
 
-// Appends the counts that are not 0, and returns whether all counts are 0.
+// Appends the text of those counts of rejected readings that are not 0. Returns whether all counts
+// are 0.
 fn push_counts(page: &mut Page, format: Format, held: &RejectedCounts) -> bool
     requires { length page.old ≤ 710 }
     ensures bytes { page.new ≡ page.old ++ text.counts_text format (text.held_some held.now) }
@@ -250,7 +250,8 @@ fn push_counts(page: &mut Page, format: Format, held: &RejectedCounts) -> bool
     are_none
 }
 
-// Appends a count that is not 0, preceded by a separator if the count is not the first.
+// Appends the text of a count of rejected readings that is not 0, preceded by a separator if the
+// count is not the first.
 fn push_count(page: &mut Page, format: Format, is_first: bool, one: &HeldCount)
     requires { length page.old ≤ 910 }
     ensures bytes { page.new ≡ page.old ++ text.count_piece format is_first one.now }
@@ -276,8 +277,7 @@ fn push_one(page: &mut Page, format: Format, one: &HeldCount)
     page.push_number(count_mark(format), one.count);
 }
 
-// ---- the statement of a meter as fields of a line
-// Appends the statement of a meter, with the separator `mark` between its fields.
+// Appends the statement (billing report) of a meter, with the separator `mark` between its fields.
 
 fn push_fields(page: &mut Page, form: &StatementForm, mark: &[u8], row: &MeterStatement)
     requires room { length page.old ≤ 2 }
@@ -319,8 +319,7 @@ fn push_count_fields(page: &mut Page, mark: &[u8], tally: &EntryTally)
     page.push_number(mark, tally.voids);
 }
 
-// ---- the statement of a meter as a JSON object
-// Appends the statement of a meter as a JSON object.
+// Appends the statement (billing report) of a meter as a JSON object.
 
 fn push_object(page: &mut Page, unit: EnergyUnit, row: &MeterStatement)
     requires { length page.old ≤ 2 }

@@ -1,4 +1,4 @@
-//! Tallies the entries of a meter in a range of civil days.
+//! Counts the entries of a meter in a range of civil days.
 ghost use Rattle.std.specs.Prelude.{◌≡◌, ◌&&◌, ◌++◌, ◌∷◌, [], List, Some, None, if◌then◌else◌};
 ghost use Rattle.std.specs.Option.{option_or};
 ghost use Rattle.office_books.specs.declared.entries.MeterEntry.{MeterEntry as Listed};
@@ -11,28 +11,28 @@ use interval_core::{DayRange, Zone};
 use meter_journal::EntryKind;
 use office_books::MeterEntry;
 
-/// The tally of a meter's entries in a range of days. It has the counter at the first and the last
-/// entry, and the number of corrections.
+/// The tally of a meter's entries in a range of days. The tally has the state of the counter at the
+/// first and the last entry, and the number of corrections.
 ///
 /// Each number of corrections saturates at 2^64 - 1.
 #[derive(Clone, Copy)]
 pub struct EntryTally {
-    /// The counter's state after the first and after the last valid entry in the range. `None`
-    /// without a valid entry.
+    /// The counter's state after the first and after the last valid entry in the range of days.
+    /// `None` without a valid entry.
     pub first: Option<Last>,
     pub last: Option<Last>,
-    /// The number of valid readings by hand.
+    /// The number of a meter's valid readings by hand in the range of days.
     pub by_hand: u64,
-    /// The numbers of valid resets and of valid rescales.
+    /// The numbers of a meter's valid resets and of valid rescales in the range of days.
     pub resets: u64,
     pub rescales: u64,
-    /// The number of voided entries. A voided entry counts if its own timestamp is in the range,
-    /// whatever the time of its void.
+    /// The number of voided (cancelled) entries. A voided entry counts if its own timestamp is in
+    /// the range, whenever it was voided.
     pub voids: u64,
 }
 
 impl EntryTally {
-    /// Creates the tally of an empty list of entries.
+    /// Creates the tally (first and last entry, corrections) of an empty list of entries.
     pub fn new() -> EntryTally
         ensures none { (zone : Zone) (range : DayRange) → result ≡ tally_of zone range [] }
     {
@@ -46,7 +46,7 @@ impl EntryTally {
         }
     }
 
-    /// Adds entries of the meter to the tally, in order.
+    /// Adds entries of a meter to the tally (first and last entry, corrections), in order.
     pub fn take_all(&mut self, zone: &Zone, range: &DayRange, entries: &[MeterEntry])
         ensures { (before : List Listed) → self.old ≡ tally_of zone.now range.now before
             → self.new ≡ tally_of zone.now range.now (before ++ entries.now) }
@@ -56,7 +56,7 @@ impl EntryTally {
         }
     }
 
-    // Adds the next entry of the meter to the tally.
+    // Adds the next entry of a meter to the tally (first and last entry, corrections).
     fn count_entry(&mut self, zone: &Zone, range: &DayRange, entry: &MeterEntry)
         ensures { (before : List Listed) → self.old ≡ tally_of zone.now range.now before
             → self.new ≡ tally_of zone.now range.now (before ++ entry.now ∷ []) }
@@ -75,9 +75,7 @@ impl EntryTally {
     }
 }
 
-// ---- the properties of a meter entry
-
-// Returns the counter's state after a meter entry.
+// Returns the state of a meter's counter after a meter entry.
 fn counter_after_entry(entry: &MeterEntry) -> Last
     ensures { result ≡ statements.counter_after_entry entry.now }
 {
@@ -143,7 +141,6 @@ fn is_rescale(entry: &MeterEntry) -> bool
     }
 }
 
-// ---- the tally after one more meter entry
 // Returns whether both conditions are true.
 
 pub(crate) fn both(one: bool, other: bool) -> bool

@@ -1,5 +1,5 @@
--- A meter that was installed with 5000 counts and read once with 5300 counts. Proves its last entry
--- and its total energy.
+-- Proofs of the last entry and the total energy of a meter that was installed with 5000 counts and
+-- read once with 5300 counts.
 use Rattle.std.proofs.Common.{pos, List, [], ◌∷◌, refl, arith}
 use Rattle.energy_core.specs.declared.entries.Last.{Last}
 use Rattle.energy_core.specs.declared.entries.Entry.{Entry}

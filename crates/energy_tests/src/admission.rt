@@ -71,8 +71,9 @@ static CASES: [Case; 21] = [
         entry: step!(5_000_000, 5300, 0),
         answer: booked!(last!(5_000_000, 5300, 0), 2_701_800, 0),
     },
-    // Steps (energy between two entries) over 3,000 quarter hours, which begin in the last second
-    // or in the first second of a quarter hour. Each step is also tested with one second more.
+    // Tests of steps (energy between two entries) over 3,000 quarter hours, which begin in the last
+    // second or in the first second of a quarter hour. Each step is also tested with one second
+    // more.
     Case {
         total: 0,
         last: last!(899, 5200, 0),
@@ -97,14 +98,14 @@ static CASES: [Case; 21] = [
         entry: step!(2_700_901, 5300, 0),
         answer: Err(TermFault::SpanTooLong),
     },
-    // An entry with the greatest number of rollovers.
+    // Test of a meter entry with the greatest number of rollovers.
     Case {
         total: 0,
         last: last!(1900, 5200, -3),
         entry: step!(2000, 0, 255),
         answer: booked!(last!(2000, 0, -3), 1900, 1_095_216_655_280),
     },
-    // Entries that reach the limit of the total energy, and entries that exceed it.
+    // Tests of meter entries that reach the limit of the total energy, and entries that exceed it.
     Case {
         total: NEARLY_FULL,
         last: PREVIOUS,
@@ -117,8 +118,8 @@ static CASES: [Case; 21] = [
         entry: step!(2000, 5202, 0),
         answer: Err(TermFault::TotalFull),
     },
-    // A reset or a rescale of the counter. The energy is counted up to the value before the change,
-    // and the counter continues from the value after the change.
+    // Tests of a reset and a rescale of the counter. The energy is counted up to the value before
+    // the change, and the counter continues from the value after the change.
     Case {
         total: 200_000,
         last: PREVIOUS,
@@ -131,7 +132,8 @@ static CASES: [Case; 21] = [
         entry: change!(2000, 5250, 0, 0),
         answer: booked!(last!(2000, 0, 0), 1900, 50_000),
     },
-    // Scale factors that an entry may set, and scale factors that it may not.
+    // Tests of scale factors that a meter entry may set, and scale factors that a meter entry may
+    // not set.
     Case {
         total: 0,
         last: PREVIOUS,
@@ -156,7 +158,8 @@ static CASES: [Case; 21] = [
         entry: change!(2000, 5200, 1, 4),
         answer: Err(TermFault::BadScale),
     },
-    // Entries with several faults. The first fault in the order of the rules is reported.
+    // Tests of meter entries with several faults. The first fault in the order of the rules is
+    // reported.
     Case {
         total: NEARLY_FULL,
         last: PREVIOUS,
@@ -216,8 +219,8 @@ static BELOW_A_MILLION: [Case; 7] = [
     },
 ];
 
-/// Entries of a counter with the least range: 255 rollovers of 65,536 counts, and the greatest
-/// number that the counter shows.
+/// Tests of meter entries of a counter with the least range: 255 rollovers of 65,536 counts, and
+/// the greatest number that the counter shows.
 static BELOW_65536: [Case; 5] = [
     Case {
         total: 0,

@@ -1,4 +1,4 @@
-//! Tests how the audit checks the table rows of a meter.
+//! Tests of the audit, which checks the rows that the database tables have for a meter.
 ghost use Rattle.std.specs.Prelude.{◌<◌, ◌^◌};
 
 use crate::samples::HOUSE;
@@ -10,8 +10,8 @@ use meter_journal::audit::{
 };
 use std::test::Fail;
 
-/// A table row of a reading of 5200 counts at 1900 s. The meter was installed at 1000 s with 5000
-/// counts.
+/// A row of the entry table of a reading of 5200 counts at 1900 s. The meter was installed at 1000
+/// s with 5000 counts.
 const FIRST: TableRow = TableRow {
     place: 2,
     kind: RowKind::Reading,
@@ -23,7 +23,7 @@ const FIRST: TableRow = TableRow {
     is_voided: false,
 };
 
-/// A table row of a reading of 5300 counts at 2800 s.
+/// A row of the entry table of a reading of 5300 counts at 2800 s.
 const SECOND: TableRow = TableRow {
     place: 3,
     kind: RowKind::Reading,
@@ -46,7 +46,7 @@ const SHARES: [Share; 2] = [
     },
 ];
 
-/// Returns the fault for which a row after the meter's first entry is refused, or `None`.
+/// Returns the fault for which the audit refuses a row after the meter's first entry, or `None`.
 fn refused(row: TableRow) -> Option<RowFault>
     requires { row.place < 2 ^ 63 }
 {
@@ -56,7 +56,7 @@ fn refused(row: TableRow) -> Option<RowFault>
     }
 }
 
-/// Checks the interval rows (energy by quarter hour) that follow from one checked table row.
+/// Checks the interval rows (energy by quarter hour) that follow from one row of the entry table.
 #[test]
 fn rows_give_intervals(rt: HostRuntime) {
     let mut progress = start(rt.alloc(), &HOUSE);
@@ -68,7 +68,8 @@ fn rows_give_intervals(rt: HostRuntime) {
     assert!(rt; progress.wanted.as_slice() == &SHARES[1..]);
 }
 
-/// Checks that the next table row adds energy to the last interval row (energy of a quarter hour).
+/// Checks that the next row of the entry table adds energy to the last interval row (energy of a
+/// quarter hour).
 #[test]
 fn a_row_adds_to_the_last_interval(rt: HostRuntime) -> Result<(), Fail> {
     let mut progress = start(rt.alloc(), &HOUSE);
@@ -83,7 +84,8 @@ fn a_row_adds_to_the_last_interval(rt: HostRuntime) -> Result<(), Fail> {
     Ok(())
 }
 
-/// Checks that a voided (cancelled) table row adds no interval rows (energy by quarter hour).
+/// Checks that a voided (cancelled) row of the entry table adds no interval rows (energy by quarter
+/// hour).
 #[test]
 fn a_voided_row_gives_none(rt: HostRuntime) {
     let mut progress = start(rt.alloc(), &HOUSE);
@@ -115,7 +117,8 @@ fn a_voided_row_is_checked_after_a_valid_one(rt: HostRuntime) {
     assert!(rt; check_rows(&HOUSE, &[before, following]).is_ok());
 }
 
-/// Checks that the audit continues with the next sequence number after a refused row.
+/// Checks that the audit continues with the next sequence number after a refused row of the entry
+/// table.
 #[test]
 fn a_refused_row_is_passed_over(rt: HostRuntime) {
     let mut progress = start(rt.alloc(), &HOUSE);
@@ -124,8 +127,8 @@ fn a_refused_row_is_passed_over(rt: HostRuntime) {
     assert!(rt; progress.check.place == 3 && progress.check.total == 0);
 }
 
-/// Checks that a row is refused if an unused column is not 0, or if an entry other than a rescale
-/// changes the scale factor.
+/// Checks that the audit refuses a row of the entry table if an unused column is not 0. The same
+/// applies if an entry other than a rescale changes the scale factor.
 #[test]
 fn columns_are_looked_at(rt: HostRuntime) {
     assert!(rt; refused(FIRST).is_none());
@@ -220,8 +223,8 @@ fn intervals_differ(rt: HostRuntime) {
     assert!(rt; first_difference(&SHARES, &[SHARES[0], other]) == Some(wanted));
 }
 
-/// Checks that the audit reports an interval row (energy of a quarter hour) that only one of the
-/// two lists has.
+/// Checks that the audit reports an interval row (energy of a quarter hour) that only the table or
+/// only the computed list has.
 #[test]
 fn an_interval_alone(rt: HostRuntime) {
     let wanted = IntervalDifference {

@@ -1,11 +1,12 @@
 //! Tests the interval rows (energy by quarter hour) and the last entry of a meter after one of its
-//! readings was voided.
+//! readings was voided (cancelled).
 use crate::samples::HOUSE;
 use energy_core::{Entry, Last};
 use interval_core::Share;
 use meter_journal::{EntryKind, EntryRow, checked_tally, interval_rows, tally_after};
 
-/// Two readings: 5200 counts at 1900 s, which is voided (cancelled), and 5300 counts at 2800 s.
+/// Two readings of a meter: 5200 counts at 1900 s, which is voided (cancelled), and 5300 counts at
+/// 2800 s.
 const ROWS: [EntryRow; 2] = [
     EntryRow {
         place: 2,
@@ -59,7 +60,7 @@ fn books_after_a_void(rt: HostRuntime) {
     assert!(rt; tally.total == 300_000);
 }
 
-/// Checks that rows have no total if they may not follow one another.
+/// Checks that no total energy is computed from entry rows that may not follow one another.
 #[test]
 fn rows_that_may_be_any(rt: HostRuntime) {
     let tally = checked_tally(&HOUSE, &ROWS).expect(&rt, "no tally");
@@ -71,7 +72,8 @@ fn rows_that_may_be_any(rt: HostRuntime) {
     assert!(rt; checked_tally(&HOUSE, &[ROWS[1], back]).is_none());
 }
 
-/// Checks that the interval rows (energy by quarter hour) of a meter exclude a voided row.
+/// Checks that the interval rows (energy by quarter hour) of a meter exclude a voided (cancelled)
+/// row.
 #[test]
 fn rows_after_a_void(rt: HostRuntime) {
     let shares = interval_rows(rt.alloc(), &HOUSE, &ROWS).expect(&rt, "no intervals");

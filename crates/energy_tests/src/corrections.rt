@@ -1,5 +1,5 @@
-//! Tests entries by hand. The last reading showed 5200 counts at 1900 s, and the energy so far is
-//! 200 Wh.
+//! Tests meter entries by hand. The meter's last reading showed 5200 counts at 1900 s, and the
+//! energy so far is 200 Wh.
 use crate::terms::{PREVIOUS, booked, last};
 use energy_core::{Acc32, Last, Step, TermFault, Terms, close, manual, rescale, reset};
 
@@ -29,7 +29,7 @@ fn readings_by_hand_are_entries(rt: HostRuntime) {
     assert!(rt; answer == OVER_A_TURN);
 }
 
-/// Checks that a reading at closing is recorded as an entry.
+/// Checks that the reading at the closing of a meter is recorded as an entry.
 #[test]
 fn readings_at_closing_are_entries(rt: HostRuntime) {
     let answer = close(&Acc32, &TERMS, &PREVIOUS, 2000, 5200, 0);

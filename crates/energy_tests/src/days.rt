@@ -9,7 +9,7 @@ pub const CENTRAL_EUROPE: &str = "CET-1CEST,M3.5.0,M10.5.0/3";
 
 const EASTERN: &str = "EST5EDT,M3.2.0,M11.1.0";
 
-/// An expected civil day, the number of its intervals, and their energy in mWh.
+/// An expected civil day, the number of the day's quarter hours, and their energy in mWh.
 struct Reported {
     year: i16,
     month: i8,
@@ -37,8 +37,8 @@ struct Case {
 }
 
 static CASES: [Case; 7] = [
-    // A day of 23 hours, on which daylight saving time begins, and a day of 25 hours, on which it
-    // ends.
+    // Tests of a day of 23 hours, on which daylight saving time begins, and a day of 25 hours, on
+    // which it ends.
     Case {
         zone: CENTRAL_EUROPE,
         step: step!(1_711_839_600, 1_711_922_400, 920_000),
@@ -49,7 +49,7 @@ static CASES: [Case; 7] = [
         step: step!(1_729_980_000, 1_730_070_000, 1_000_000),
         days: &[reported!(2024, 10, 27, 100, 1_000_000)],
     },
-    // A change that sets the clocks back over midnight.
+    // Test of a change that sets the clocks back over midnight.
     Case {
         zone: "AAA0BBB,M3.2.0/0:30,M11.1.0/0:30",
         step: step!(1_730_587_500, 1_730_592_900, 60_000),
@@ -83,7 +83,8 @@ static CASES: [Case; 7] = [
     },
 ];
 
-/// Adds the given rows one by one to a `DayFold`, which sums energy by civil day.
+/// Adds the given interval rows (energies of quarter hours) one by one to a `DayFold`, which sums
+/// energy by civil day.
 fn folded(
     rt: &impl Abort,
     alloc: Global,
@@ -109,7 +110,7 @@ fn is_reported(total: &DayTotal, reported: &Reported) -> bool {
         && total.mwh == reported.mwh
 }
 
-/// Returns whether day totals equal the expected days.
+/// Returns whether computed energies of days equal the expected days.
 fn are_reported(totals: &[DayTotal], days: &[Reported]) -> bool {
     totals.len() == days.len()
         && totals
@@ -118,8 +119,8 @@ fn are_reported(totals: &[DayTotal], days: &[Reported]) -> bool {
             .all(|(total, reported)| is_reported(total, reported))
 }
 
-/// Returns whether rows add up to the expected days. Also checks a clone of the running sum, and
-/// the list of its days.
+/// Returns whether energies of quarter hours add up to the expected days. Also checks a clone of
+/// the running sum, and the list of its days.
 fn folds_to(
     rt: &impl Abort,
     alloc: Global,
@@ -159,7 +160,7 @@ static ROWS: [Share; 5] = [
 
 static FOUR_INTERVALS: [Reported; 1] = [reported!(1970, 1, 1, 4, 345_000)];
 
-/// Checks that a quarter hour with two rows counts once.
+/// Checks that a quarter hour with two energy rows counts as one quarter hour of its day.
 #[test]
 fn an_interval_with_two_rows_counts_once(rt: HostRuntime) {
     let zone = Zone::read("UTC0").expect(&rt, "no zone");
@@ -170,7 +171,8 @@ static ONE_ROW: [Share; 1] = [share!(1_711_839_600, 7)];
 
 static ONE_INTERVAL: [Reported; 1] = [reported!(2024, 3, 31, 1, 7)];
 
-/// Checks that `by_day` adds up rows by civil day, and that an empty list of rows has no days.
+/// Checks that `by_day` adds up energies of quarter hours by civil day, and that an empty list has
+/// no days.
 #[test]
 fn by_day_adds_up_rows(rt: HostRuntime) {
     let zone = Zone::read(CENTRAL_EUROPE).expect(&rt, "no zone");

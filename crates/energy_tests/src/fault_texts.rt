@@ -1,4 +1,5 @@
-//! Tests the texts of causes and faults about energy.
+//! Tests the texts of the causes of rejected readings, and of the faults of entries, time zones and
+//! days.
 use crate::texts::assert_texts;
 use energy_core::{Cause, TermFault};
 use interval_core::{DayFault, ZoneFault};

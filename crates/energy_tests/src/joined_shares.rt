@@ -1,5 +1,5 @@
-//! Tests that the energies of several steps (between consecutive entries) are merged into one row
-//! for each quarter hour.
+//! Tests that the energies of several steps (between consecutive entries) are merged into one
+//! energy row for each quarter hour.
 use energy_core::Step;
 use interval_core::Share;
 use meter_journal::{append_shares, join};
@@ -21,7 +21,8 @@ const ROWS: [Share; 3] = [
     },
 ];
 
-/// Checks that two steps (each between two entries) in one quarter hour are merged into one row.
+/// Checks that two steps (each between two entries) in one quarter hour are merged into one energy
+/// row.
 #[test]
 fn steps_share_an_interval(rt: HostRuntime) {
     let mut rows = Vec::new(rt.alloc());

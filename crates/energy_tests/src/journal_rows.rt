@@ -26,7 +26,7 @@ fn places_count_on(rt: HostRuntime) {
     assert!(rt; after_a_void == reading(3, 1900, 5200, 0));
 }
 
-/// Checks that rows must have consecutive sequence numbers.
+/// Checks that the entry rows of a meter must have consecutive sequence numbers.
 #[test]
 fn rows_have_their_places(rt: HostRuntime) {
     let rows = [reading(2, 1900, 5200, 0), struck(reading(3, 2800, 5300, 0))];
@@ -75,7 +75,8 @@ fn only_readings_are_voided(rt: HostRuntime) {
     assert!(rt; !is_voidable(&row, &Some(of_kind(EntryKind::Closing, next))));
 }
 
-/// Checks that a row is found by its sequence number, together with the next valid row.
+/// Checks that a meter's entry row is found by its sequence number, together with the next valid
+/// row.
 #[test]
 fn rows_by_place(rt: HostRuntime) {
     let rows = [
@@ -91,7 +92,7 @@ fn rows_by_place(rt: HostRuntime) {
     assert!(rt; find_row(&rows, 5).is_none());
 }
 
-/// Checks that the state of the counter follows from the valid rows only.
+/// Checks that the state of the counter follows from the valid (not voided) entry rows only.
 #[test]
 fn the_counter_after_rows(rt: HostRuntime) {
     let first = reading(2, 1900, 5200, 0);

@@ -1,4 +1,4 @@
-//! Tests the numbers under which causes and faults are printed and stored.
+//! Tests the numeric codes by which causes of rejected readings and faults are printed and stored.
 use energy_core::{Cause, TermFault};
 use interval_core::{DayFault, ZoneFault};
 
@@ -22,7 +22,7 @@ static FAULTS: [(TermFault, u8); 6] = [
     (TermFault::NotBelowRange, 6),
 ];
 
-/// Checks the number of each cause of a rejection.
+/// Checks the numeric code of each cause of a rejected reading.
 #[test]
 fn causes_have_numbers(rt: HostRuntime) {
     for (cause, number) in &CAUSES {
@@ -30,7 +30,7 @@ fn causes_have_numbers(rt: HostRuntime) {
     }
 }
 
-/// Checks the number of each fault of an entry.
+/// Checks the numeric code of each fault of a meter entry.
 #[test]
 fn faults_of_entries_have_numbers(rt: HostRuntime) {
     for (fault, number) in &FAULTS {
@@ -38,7 +38,7 @@ fn faults_of_entries_have_numbers(rt: HostRuntime) {
     }
 }
 
-/// Checks the number of each fault of a zone or a civil day.
+/// Checks the numeric code of each fault of a time zone or a civil day.
 #[test]
 fn faults_of_zones_and_days_have_numbers(rt: HostRuntime) {
     assert!(rt; ZoneFault::Text.number() == 1);

@@ -68,7 +68,7 @@ static CASES: [Case; 8] = [
     },
 ];
 
-/// The energies in mWh of steps (between two entries) that begin at 0 s and touch 3,000 quarter
+/// Test energies in mWh of steps (between two entries) that begin at 0 s and touch 3,000 quarter
 /// hours.
 static LONG: [u64; 3] = [0, 1000, 4_000_000_000_000_000_000];
 

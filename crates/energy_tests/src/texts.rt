@@ -1,4 +1,4 @@
-//! Checks the texts of causes and faults.
+//! Checks the texts of causes of rejected readings, and of faults.
 use std::alloc::Global;
 use std::fmt::Display;
 use std::process::Abort;

@@ -46,7 +46,7 @@ static CASES: [Case; 22] = [
         reading: reading!(1900, 5200, 0),
         verdict: accepted!(0, 200_000),
     },
-    // Readings without an advance of the counter, and with the least advance.
+    // Tests of readings without an advance of the counter, and with the least advance.
     Case {
         ceiling: 1,
         total: 0,
@@ -68,8 +68,8 @@ static CASES: [Case; 22] = [
         reading: reading!(1901, 5202, 0),
         verdict: held!(TooFast),
     },
-    // Readings after a rollover, with power at the ceiling (the meter's greatest power) and below
-    // it.
+    // Tests of readings after a rollover, with power at the ceiling (the meter's greatest power)
+    // and below it.
     Case {
         ceiling: 1000,
         total: 0,
@@ -91,7 +91,7 @@ static CASES: [Case; 22] = [
         reading: reading!(1900, 104, 0),
         verdict: held!(TooFast),
     },
-    // A reading that is less than the last entry and cannot be a rollover.
+    // Test of a reading that is less than the last entry and cannot be a rollover.
     Case {
         ceiling: 100_000,
         total: 0,
@@ -99,7 +99,7 @@ static CASES: [Case; 22] = [
         reading: reading!(2800, 5199, 0),
         verdict: held!(TooFast),
     },
-    // Readings after the longest time in which the counter cannot complete a rollover.
+    // Tests of readings after the longest time in which the counter cannot complete a rollover.
     Case {
         ceiling: 1_000_000,
         total: 0,
@@ -114,7 +114,7 @@ static CASES: [Case; 22] = [
         reading: reading!(15462, 501, -3),
         verdict: held!(GapTooLong),
     },
-    // A reading after a rescale, and a reading after a reset.
+    // Tests of a reading after a rescale of the counter, and of a reading after a reset.
     Case {
         ceiling: 100_000,
         total: 200_000,
@@ -143,7 +143,7 @@ static CASES: [Case; 22] = [
         reading: reading!(3700, 30, 0),
         verdict: accepted!(0, 30_000),
     },
-    // Readings at the limit of the total energy.
+    // Tests of readings at the limit of the total energy.
     Case {
         ceiling: 1_000_000,
         total: 3_999_999_999_999_999_000,
@@ -158,7 +158,8 @@ static CASES: [Case; 22] = [
         reading: reading!(900, 3, 0),
         verdict: held!(TotalFull),
     },
-    // Readings whose step touches 3,000 quarter hours, which is the limit.
+    // Tests of readings whose time since the last entry touches 3,000 quarter hours, which is the
+    // limit.
     Case {
         ceiling: 1000,
         total: 0,
@@ -173,8 +174,8 @@ static CASES: [Case; 22] = [
         reading: reading!(2_700_001, 2, 0),
         verdict: held!(SpanTooLong),
     },
-    // Readings with several causes of rejection. The first cause in the order of the rules is
-    // reported.
+    // Tests of readings with several causes of rejection. The first cause in the order of the rules
+    // is reported.
     Case {
         ceiling: 1000,
         total: 0,
@@ -196,7 +197,7 @@ static CASES: [Case; 22] = [
         reading: reading!(1900, 0, 1),
         verdict: held!(NotAccumulated),
     },
-    // A reading of a meter with the greatest ceiling (power limit) that is allowed.
+    // Test of a reading of a meter with the greatest ceiling (power limit) that is allowed.
     Case {
         ceiling: 1_000_000_000,
         total: 0,
@@ -316,7 +317,7 @@ static GREATEST_RANGE: [Case; 22] = [
         accepted!(0, 5_001_000_000)
     ),
     case!(1_000_000_000, 3, 0, 1, 18, 5003, held!(TooFast)),
-    // Readings with an advance of one count at each scale factor.
+    // Tests of readings with an advance of one count at each scale factor.
     case!(1_000_000, -3, 0, 1, 900, 2, accepted!(0, 1)),
     case!(1_000_000, -2, 0, 1, 900, 2, accepted!(0, 10)),
     case!(1_000_000, -1, 0, 1, 900, 2, accepted!(0, 100)),
@@ -324,8 +325,9 @@ static GREATEST_RANGE: [Case; 22] = [
     case!(1_000_000, 1, 0, 1, 900, 2, accepted!(0, 10_000)),
     case!(1_000_000, 2, 0, 1, 900, 2, accepted!(0, 100_000)),
     case!(1_000_000, 3, 0, 1, 900, 2, accepted!(0, 1_000_000)),
-    // Steps (energy between two entries) over 3,000 quarter hours, which begin in the last second
-    // or in the first second of a quarter hour. Each step is also tested with one second more.
+    // Tests of steps (energy between two entries) over 3,000 quarter hours, which begin in the last
+    // second or in the first second of a quarter hour. Each step is also tested with one second
+    // more.
     case!(1000, 0, 899, 1, 2_700_000, 2, accepted!(0, 1000)),
     case!(1000, 0, 899, 1, 2_700_001, 2, held!(SpanTooLong)),
     case!(1000, 0, 900, 1, 2_700_900, 2, accepted!(0, 1000)),

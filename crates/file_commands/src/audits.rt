@@ -32,8 +32,8 @@ fn print_seal<S: Alter>(
     Ok(true)
 }
 
-// Compares the tables with a seal, a signed-off digest of their past, and prints the result.
-// Returns whether they still match the seal.
+// Compares the tables of a database with a seal, a signed-off digest of their past, and prints the
+// result. Returns whether the tables still match the seal.
 fn hold_to<S: Alter>(
     rt: &HostRuntime,
     connection: &mut Connection<S>,
@@ -44,8 +44,8 @@ fn hold_to<S: Alter>(
     write_checked(rt.alloc(), &checked, &mut output)
 }
 
-// Audits the tables, and returns whether no difference was found. In that case, prints a seal (a
-// digest of the tables) or compares the tables with a seal, as `seal` requests.
+// Audits the tables of a database, and returns whether no difference was found. In that case,
+// prints a seal (a digest of the tables) or compares the tables with a seal, as `seal` requests.
 fn audit_over<S: Alter>(
     rt: &HostRuntime,
     connection: &mut Connection<S>,
@@ -169,7 +169,7 @@ pub fn audit<'a, D: OfficeFiles>(
     }
 }
 
-// ---- audits of several successive database files
+// Functions that audit several successive database files.
 
 // Converts a failure to read a file's time zone into the fault that the audit reports.
 fn zone_fault(fault: OpenFault) -> AuditFault {
@@ -181,8 +181,8 @@ fn zone_fault(fault: OpenFault) -> AuditFault {
     }
 }
 
-// Checks whether a file continues the earlier files: its meters begin with their last entries
-// there.
+// Checks whether a database file continues the earlier files: its meters must begin with their last
+// entries in those files.
 fn join_next<'a, S: Alter>(
     rt: &HostRuntime,
     connection: &mut Connection<S>,
@@ -196,8 +196,8 @@ fn join_next<'a, S: Alter>(
     }
 }
 
-// Audits the tables of one of several successive files, and returns whether no difference was
-// found. If no file so far has differences, also checks whether this file continues the earlier
+// Audits the tables of one of several successive database files, and returns whether no difference
+// was found. If no file so far has differences, also checks whether this file continues the earlier
 // files.
 fn audit_next<'a, S: Alter>(
     rt: &HostRuntime,
@@ -266,7 +266,7 @@ fn twice<'a>(paths: &[&'a str]) -> Option<&'a str> {
 }
 
 /// Audits successive database files, the oldest first, and checks whether each file continues the
-/// previous file. Writes nothing to the files, and opens one file at a time.
+/// previous file. Writes nothing to the files, and opens one at a time.
 pub fn audit_several<'a, D: OfficeFiles>(
     rt: &HostRuntime,
     files: &D,

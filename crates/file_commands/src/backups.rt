@@ -4,8 +4,8 @@ use crate::copies::{Pair, copy_sound, make_whole, remove, sound_pair_at};
 use crate::parts::{finish_part, part_of};
 use stored_files::{CopyFault, Ending, Failure};
 
-/// Returns the failure of a command that could not copy a file. The failure names the original or
-/// the copy, whichever is at fault.
+/// Returns the failure of a command that could not copy a database file. The failure names the file
+/// at fault: the original or the copy.
 pub(crate) fn copy_failure<'a>(db: &'a str, to: &'a str, fault: CopyFault) -> Failure<'a> {
     match fault {
         CopyFault::Changing | CopyFault::Torn | CopyFault::NotOurs => {
@@ -33,7 +33,8 @@ fn copy_parts<'a>(
     }
 }
 
-// Completes a copy: merges its log into the file, and renames the file to its final name.
+// Completes the copy of a database: merges its log into the file, and renames the file to its final
+// name.
 fn finish<'a>(rt: &HostRuntime, db: &'a str, to: &'a str, part: &Pair) -> Result<(), Failure<'a>> {
     match make_whole(rt, part.file.as_str()) {
         Ok(()) => finish_part(rt, to, part),

@@ -16,7 +16,8 @@ use stored_files::{CarryEnd, CopyFault, Databases, Ending, Failure, Named, carry
 #[derive(Drop)]
 pub enum NotCarried<'a> {
     Failed(Failure<'a>),
-    /// A command of the file rollover was refused, or its store failed, in the file at `path`.
+    /// The program refused a command that continues a meter in the new file, or the store failed.
+    /// `path` is the file concerned.
     Refused { path: &'a str, why: Refusal },
     /// A meter of the file at `path` has no entry at or before the requested time.
     NotYet { path: &'a str, meter: Name },

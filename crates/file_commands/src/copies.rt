@@ -17,7 +17,7 @@ const TRIES: u32 = 8;
 /// in this header.
 const HEADER: u64 = 32;
 
-/// The paths of a database file and its write-ahead log.
+/// The path of a database file, and the path of its write-ahead log.
 #[derive(Drop)]
 pub(crate) struct Pair {
     pub(crate) file: String,
@@ -30,9 +30,9 @@ pub(crate) fn remove(rt: &HostRuntime, pair: &Pair) {
     let _gone = fs::remove_file(rt, pair.log.as_str());
 }
 
-/// Returns the real paths of a database file and its log. Fails if a rollback journal exists beside
-/// the file, because the file is then incomplete. Unlike [`sound_pair_at`], accepts a log that has
-/// lost commits.
+/// Returns the real paths of a database file and its write-ahead log. Fails if a rollback journal
+/// exists beside the file, because the file is then incomplete. Unlike [`sound_pair_at`], accepts a
+/// log that has lost commits.
 pub(crate) fn pair_at(rt: &HostRuntime, path: &str) -> Result<Pair, FileFault> {
     match fs::exists(rt, path) {
         Ok(true) => {}
@@ -52,15 +52,15 @@ pub(crate) fn pair_at(rt: &HostRuntime, path: &str) -> Result<Pair, FileFault> {
     }
 }
 
-/// Returns the real paths of a database file and its log, like [`pair_at`]. Fails if the log has
-/// lost commits.
+/// Returns the real paths of a database file and its write-ahead log, like [`pair_at`]. Fails if
+/// the log has lost commits.
 pub(crate) fn sound_pair_at(rt: &HostRuntime, path: &str) -> Result<Pair, FileFault> {
     check_beside(rt, path)?;
     pair_at(rt, path)
 }
 
-// Returns the first bytes of a log, up to its header's length. Returns no bytes if the log does not
-// exist.
+// Returns the first bytes of a write-ahead log, up to its header's length. Returns no bytes if the
+// log does not exist.
 fn header_of(rt: &HostRuntime, log: &str) -> io::Result<Vec<u8>> {
     let mut header = Vec::new(rt.alloc());
     match File::open(rt, log) {
@@ -86,9 +86,9 @@ fn copy_file(rt: &HostRuntime, from: &str, to: &str) -> io::Result<()> {
     copy.sync_all()
 }
 
-// Copies a file and then its log. Returns whether the log's header stayed the same during the copy.
-// If so, no checkpoint ran, and the two copies belong together. The copied log includes commits
-// that another process wrote during the copy.
+// Copies a database file and then its write-ahead log. Returns whether the log's header stayed the
+// same during the copy. If so, no checkpoint ran, and the two copies belong together. The copied
+// log includes commits that another process wrote during the copy.
 fn copy_pair(rt: &HostRuntime, source: &Pair, part: &Pair) -> io::Result<bool> {
     let before = header_of(rt, source.log.as_str())?;
     copy_file(rt, source.file.as_str(), part.file.as_str())?;
@@ -101,8 +101,8 @@ fn copy_pair(rt: &HostRuntime, source: &Pair, part: &Pair) -> io::Result<bool> {
     Ok(before.as_slice() == after.as_slice())
 }
 
-/// Copies a file and its log. Repeats the copy if a checkpoint ran during it. Returns whether the
-/// copied file and the copied log belong together.
+/// Copies a database file and its write-ahead log. Repeats the copy if a checkpoint ran during it.
+/// Returns whether the copied file and the copied log belong together.
 pub(crate) fn copy_settled(rt: &HostRuntime, source: &Pair, copy: &Pair) -> io::Result<bool> {
     for _ in 0..TRIES {
         if copy_pair(rt, source, copy)? {
@@ -113,7 +113,8 @@ pub(crate) fn copy_settled(rt: &HostRuntime, source: &Pair, copy: &Pair) -> io::
     Ok(false)
 }
 
-// Returns whether the log of a copied file has lost no commit. Fails if the log cannot be checked.
+// Returns whether the write-ahead log of a copied file has lost no commit. Fails if the log cannot
+// be checked.
 fn is_sound(rt: &HostRuntime, copy: &Pair) -> io::Result<bool> {
     match check_beside(rt, copy.file.as_str()) {
         Ok(()) => Ok(true),
@@ -123,9 +124,9 @@ fn is_sound(rt: &HostRuntime, copy: &Pair) -> io::Result<bool> {
     }
 }
 
-/// Copies a file and its log like [`copy_settled`], and also repeats the copy if the copied log has
-/// lost commits. If another process writes during the copy, the copied log can have later frames
-/// without earlier frames.
+/// Copies a database file and its log like [`copy_settled`]. Also repeats the copy if the copied
+/// log has lost commits. If another process writes during the copy, the copied log can have later
+/// frames without earlier frames.
 pub(crate) fn copy_sound(rt: &HostRuntime, source: &Pair, copy: &Pair) -> io::Result<bool> {
     for _ in 0..TRIES {
         if copy_settled(rt, source, copy)? && is_sound(rt, copy)? {
@@ -179,7 +180,7 @@ pub(crate) fn open_copy(
         Ok(false) => Err(FileFault::Busy),
         Err(_) => Err(FileFault::Unreadable),
     };
-    // An open file exists until it is closed, so the names of the copy can be removed now.
+    // Unix keeps an open file until it is closed, so the names of the copy can be removed now.
     remove(rt, &copy);
     opened
 }

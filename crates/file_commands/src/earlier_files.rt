@@ -8,12 +8,12 @@ use office_events::Name;
 use std::io::Write;
 use stored_files::{Databases, Ending, Failure, JoinedOffice};
 
-// Fills the parameter for one register's name. The name has no effect, because the energy of all
-// registers is read.
+// A value for a parameter that requires the name of an accounting register. The name has no effect,
+// because the energy of all registers is read.
 const ANY: &[u8] = b"any";
 
-// Adds the energy of all accounting registers (named counters) in a file to the merged energy. If
-// the file does not continue the earlier files, reports the reason.
+// Adds the energy of all accounting registers (named counters) in a database file to the sums of
+// the earlier files. If the file does not continue the earlier files, reports the reason.
 fn join<'a, D: Databases, K: Keeping, E: Write>(
     rt: &HostRuntime,
     databases: &D,
@@ -40,8 +40,8 @@ fn join<'a, D: Databases, K: Keeping, E: Write>(
     }
 }
 
-// Returns the merged energy of all accounting registers (named counters) in several files. Reads
-// the files in order, and opens one file at a time.
+// Returns the energy of all accounting registers (named counters) in several database files, summed
+// over the files. Reads the files in order, and opens one file at a time.
 fn keep_all<'a, D: Databases, E: Write>(
     rt: &HostRuntime,
     databases: &D,
@@ -61,7 +61,8 @@ fn keep_all<'a, D: Databases, E: Write>(
     Ok(joined)
 }
 
-// Returns the registers of the earlier files with their merged energy.
+// Returns the accounting registers of the earlier database files, each with its energy summed over
+// these files.
 fn registers_of<'a>(
     held: JoinedOffice<ComparedRegisters>,
 ) -> Result<Vec<EarlierRegister>, Ending<'a>> {
@@ -99,8 +100,8 @@ pub fn but_last<'a, 'f>(paths: &'f [&'a str]) -> &'f [&'a str] {
     &paths[..count]
 }
 
-// Reports how many earlier files the energy of the command `run` includes, and the name of the
-// first file.
+// Reports how many earlier database files the energy of the command `run` includes, and the name of
+// the first file.
 fn say_earlier<E: Write>(errors: &mut E, current: &str, paths: &[&str]) {
     if let Some(first) = paths.first() {
         let count = paths.len();

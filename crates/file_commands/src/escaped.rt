@@ -1,8 +1,8 @@
 //! Makes output on standard error safe for a terminal.
 use std::io::{self, Write};
 
-/// A writer that escapes all control bytes except line feeds, such as `\x1b`. A name from a user or
-/// a file therefore cannot control a terminal.
+/// A writer that escapes all control bytes except line feeds, for example as `\x1b`. A name from a
+/// user or a file therefore cannot control a terminal.
 #[derive(Drop)]
 pub struct Escaped<W: Write + Drop> {
     output: W,

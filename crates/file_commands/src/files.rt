@@ -17,11 +17,11 @@ pub enum Opening {
 
 /// A way to open database files. Each command chooses how its files are opened.
 ///
-/// Commands are generic over this trait for the sake of proofs. The prover needs half a minute for
-/// each call over the files of the operating system, so only the program's outermost call names
-/// them.
+/// Commands are generic over this trait for the sake of the proofs: the prover needs half a minute
+/// for each call over the files of the operating system. Only the program's outermost call names
+/// the system's files.
 pub trait OfficeFiles: Databases + Copy {
-    /// Returns the same files, with each file opened as `opening` says.
+    /// Returns the same way to open files, but with each file opened as `opening` says.
     fn opened(&self, opening: Opening) -> Self;
 }
 
@@ -33,7 +33,7 @@ pub struct Files<'r> {
 }
 
 impl<'r> Files<'r> {
-    /// Returns the files of the operating system. Each file itself is opened, not a copy.
+    /// Returns access to the files of the operating system. Each file itself is opened, not a copy.
     pub fn new(rt: &'r HostRuntime) -> Files<'r> {
         let opening = Opening::InPlace;
         Files { rt, opening }

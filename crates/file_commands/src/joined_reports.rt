@@ -19,7 +19,7 @@ use stored_files::{
     Databases, Ending, Failure, JoinFault, JoinedOffice, Named, ending_of, join_stored,
 };
 
-// The remedy that is printed if the given files do not continue each other.
+// The advice that is printed if the given database files do not continue each other.
 const REMEDY: &str =
     "name the files oldest first, each carried from the one before, and void what the older one booked after the carry";
 
@@ -28,8 +28,8 @@ fn name_of(row: &Installation) -> &str {
     from_utf8(row.opening.meter.as_bytes()).unwrap_or("?")
 }
 
-// Reports that a meter does not continue from the earlier file. The message has the meter's first
-// entry in this file, and its last entry in the earlier file.
+// Reports that a meter does not continue from the earlier database file. The message has the
+// meter's first entry in this file, and its last entry in the earlier file.
 fn say_apart<E: Write>(errors: &mut E, before: &str, path: &str, apart: &Apart) {
     let (before, path) = (Named(before), Named(path));
     let begins = &apart.begins.opening;
@@ -58,7 +58,7 @@ fn say_apart<E: Write>(errors: &mut E, before: &str, path: &str, apart: &Apart) 
     );
 }
 
-// Reports the reason why a file does not continue the earlier files.
+// Reports the reason why a database file does not continue the earlier files.
 fn say_unjoined<E: Write>(errors: &mut E, before: &str, path: &str, why: &Unjoined) {
     if let Unjoined::Apart(apart) = why {
         return say_apart(errors, before, path, apart);
@@ -83,7 +83,7 @@ fn say_unjoined<E: Write>(errors: &mut E, before: &str, path: &str, why: &Unjoin
     }
 }
 
-// Reports that a file has another time zone than the earlier files.
+// Reports that a database file has another time zone than the earlier files.
 fn say_other_zone<E: Write>(errors: &mut E, before: &str, path: &str) {
     let (before, path) = (Named(before), Named(path));
     let _said = write!(
@@ -93,18 +93,18 @@ fn say_other_zone<E: Write>(errors: &mut E, before: &str, path: &str) {
     );
 }
 
-/// A reason why a file could not be added to the earlier files of a report.
+/// A reason why a database file could not be added to the earlier files of a report.
 #[derive(Drop)]
 pub(crate) enum NotJoined<'a> {
     Failed(Failure<'a>),
     /// The store in the file failed, or memory ran out.
     Refused(Refusal),
-    /// The file does not continue the earlier files. The reason was already reported.
+    /// The file does not continue the earlier files. The program has already reported the reason.
     Apart,
 }
 
-// Converts a fault of adding a file to a merged report. If the file does not continue the earlier
-// files, also reports the reason.
+// Converts the fault when a file could not be added to a report over several files. If the file
+// does not continue the earlier files, also reports the reason.
 fn not_joined<'a, E: Write>(
     errors: &mut E,
     before: &str,
@@ -125,8 +125,8 @@ fn not_joined<'a, E: Write>(
     }
 }
 
-/// Adds the data of one file to a merged report. If the file does not continue the earlier files,
-/// writes the reason to `errors`.
+/// Adds the data of one database file to a report over several files. If the file does not continue
+/// the earlier files, writes the reason to `errors`.
 pub(crate) fn join_in<'a, D: Databases, K: Keeping, E: Write>(
     rt: &HostRuntime,
     databases: &D,
@@ -147,8 +147,8 @@ pub(crate) fn join_in<'a, D: Databases, K: Keeping, E: Write>(
     }
 }
 
-// Returns the merged data of all files for the report on an accounting register (a named counter).
-// Reads the files in order, and opens one file at a time.
+// Returns the data of all files for the report on an accounting register (a named counter), merged
+// from file to file. Reads the files in order, and opens one file at a time.
 fn join_all<'a, D: Databases, K: Keeping>(
     rt: &HostRuntime,
     databases: &D,
@@ -183,7 +183,7 @@ fn join_all<'a, D: Databases, K: Keeping>(
     Ok(joined)
 }
 
-// Flushes the output, and returns how the command ended.
+// Flushes the output of a command, and returns how the command ended.
 fn ended<W: Write + Drop>(output: &mut Buffered<W>, status: ExitStatus) -> Ending<'static> {
     match output.flush() {
         Ok(()) => ending_of(status),

@@ -6,8 +6,8 @@ use stored_files::{
     Databases, Failure, Named, check_regular, is_bare, is_blank, is_office, length_of, log_of,
 };
 
-/// The total length of a file and its log, in bytes, from which opening them takes a second or
-/// more.
+/// The total length of a database file and its log, in bytes, from which opening the database takes
+/// a second or more.
 const LARGE: u64 = 16_000_000;
 
 // Reports that a database file has no write-ahead log beside it.

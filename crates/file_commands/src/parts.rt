@@ -25,12 +25,13 @@ pub fn part_name(rt: &HostRuntime, to: &str) -> Result<String, AllocError> {
     format!(in rt.alloc(); "{to}.part")
 }
 
-// Returns whether a name has one of the reserved suffixes.
+// Returns whether a name has one of the reserved suffixes, such as those of logs and incomplete
+// files.
 fn is_reserved(path: &str) -> bool {
     RESERVED.iter().any(|end| path.ends_with(*end))
 }
 
-/// Rejects a name with a reserved suffix for a new database file.
+/// Rejects a name with a reserved suffix, such as that of a log, for a new database file.
 pub(crate) fn check_name(to: &str) -> Result<(), Failure<'_>> {
     if is_reserved(to) {
         return Err(Failure::Uncopied {
@@ -41,7 +42,7 @@ pub(crate) fn check_name(to: &str) -> Result<(), Failure<'_>> {
     Ok(())
 }
 
-// Returns the temporary names of an incomplete file and its log.
+// Returns the temporary names of an incomplete database file and its log.
 fn pair_for<'a>(rt: &HostRuntime, to: &str) -> Result<Pair, Failure<'a>> {
     match (part_name(rt, to), format!(in rt.alloc(); "{to}.part-wal")) {
         (Ok(file), Ok(log)) => Ok(Pair { file, log }),
@@ -65,8 +66,8 @@ fn check_free<'a>(rt: &HostRuntime, to: &'a str) -> Result<(), Failure<'a>> {
     Ok(())
 }
 
-/// Returns the temporary names of an incomplete file and its log. Fails if one of these names, or a
-/// final name, already exists.
+/// Returns the temporary names of an incomplete database file and its log. Fails if one of these
+/// names, or a final name, already exists.
 pub(crate) fn part_of<'a>(rt: &HostRuntime, to: &'a str) -> Result<Pair, Failure<'a>> {
     check_free(rt, to)?;
     let part = pair_for(rt, to)?;
@@ -91,7 +92,7 @@ fn make_empty(rt: &HostRuntime, path: &str) -> io::Result<()> {
     Ok(())
 }
 
-/// Returns the failure that reports that a new file cannot be written.
+/// Returns the failure that reports that a new database file cannot be written.
 pub(crate) fn unwritable(to: &str) -> Failure<'_> {
     Failure::Uncopied {
         path: to,
@@ -99,7 +100,7 @@ pub(crate) fn unwritable(to: &str) -> Failure<'_> {
     }
 }
 
-// Creates an empty file under the temporary name.
+// Creates an empty file under the temporary name of an incomplete file.
 fn begin<'a>(rt: &HostRuntime, to: &'a str, part: Pair) -> Result<Pair, Failure<'a>> {
     match make_empty(rt, part.file.as_str()) {
         Ok(()) => Ok(part),
@@ -164,8 +165,8 @@ pub(crate) fn begin_part_again<'a, D: Databases>(
     begin_again(rt, databases, to, part)
 }
 
-/// Creates an empty new file like [`begin_part_again`]. An empty file with an empty log may already
-/// have the final name.
+/// Creates an empty new file under its temporary name, like [`begin_part_again`]. The final name
+/// may already exist if it is an empty file with an empty log.
 pub(crate) fn begin_new_part<'a, D: Databases>(
     rt: &HostRuntime,
     databases: &D,
@@ -229,8 +230,8 @@ fn name_part(rt: &HostRuntime, to: &str, pair: &Pair) -> io::Result<()> {
     link_name(rt, pair.file.as_str(), to)
 }
 
-/// Renames a complete file, whose log is merged, to its final name. Fails if the final name already
-/// exists. May also fail after the renaming, like `link_name`.
+/// Renames a complete file to its final name. The file's log must be merged. Fails if the final
+/// name already exists. May also fail after the renaming, like `link_name`.
 pub(crate) fn finish_part<'a>(
     rt: &HostRuntime,
     to: &'a str,

@@ -12,8 +12,8 @@ use stored_files::{
     write_recovered,
 };
 
-// Returns the paths of a file and its log. Fails if the log has lost no commits, because then
-// nothing needs recovery.
+// Returns the paths of a database file and its log. Fails if the log has lost no commits, because
+// then nothing needs recovery.
 fn damaged_pair<'a>(rt: &HostRuntime, db: &'a str) -> Result<Pair, Failure<'a>> {
     let pair = match pair_at(rt, db) {
         Ok(pair) => pair,
@@ -55,7 +55,7 @@ fn recover_copy<'a>(
     }
 }
 
-// Copies a file and its log to a new file with a temporary name, and recovers the copy.
+// Copies a database file and its log to a new file with a temporary name, and recovers the copy.
 fn fill_part<'a>(
     rt: &HostRuntime,
     source: &Pair,

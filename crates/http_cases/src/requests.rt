@@ -40,7 +40,7 @@ fn play_blocks(
 }
 
 // Runs one block of a golden test. A block that begins with `serve MOMENT` or `run MOMENT` contains
-// a request. Any other block contains lines of a setup script.
+// an HTTP request. Any other block contains lines of a setup script.
 fn play_block(
     alloc: Global,
     office: &mut MemoryOffice,
@@ -66,8 +66,8 @@ fn play_block(
     Ok(())
 }
 
-// Executes the lines of a setup script. Appends `rejected: LINE` for each line that is not
-// accepted.
+// Executes the lines of a golden test's setup script. Appends `rejected: LINE` for each line that
+// is not accepted.
 fn set_up(
     alloc: Global,
     office: &mut MemoryOffice,

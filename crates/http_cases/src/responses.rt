@@ -35,8 +35,8 @@ pub(crate) fn serve(
     }
 }
 
-/// Appends the response of `sunreg run` to a request, with the headers for browsers. A route of
-/// `sunreg run` takes precedence over a route of `office_http`, which `sunreg serve` also has.
+/// Appends the response of `sunreg run` to a request, with the headers for browsers. The routes of
+/// `sunreg run` take precedence over those of `sunreg serve`.
 pub(crate) fn run(
     alloc: Global,
     office: &mut Office<ListBooks>,
@@ -57,7 +57,8 @@ pub(crate) fn run(
     }
 }
 
-// Returns the response of a route of `sunreg run` without devices and without earlier files.
+// Returns the response of a route of `sunreg run`, for a program without devices and without
+// earlier files.
 fn respond_alone(
     alloc: Global,
     office: &mut Office<ListBooks>,

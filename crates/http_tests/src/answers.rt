@@ -27,7 +27,7 @@ static STATUSES: [(Refusal, u16); 19] = [
     (Refusal::NotPlausible(Cause::TooFast), 422),
 ];
 
-// Each refusal has its HTTP status.
+// Checks the HTTP status of the response to each kind of refused request.
 #[test]
 fn each_refusal_has_a_status(rt: HostRuntime) {
     for (refusal, status) in &STATUSES {
@@ -51,8 +51,8 @@ static KINDS: [(CommandKind, &[u8]); 11] = [
     (CommandKind::Start, b"{\"done\":\"start\"}"),
 ];
 
-// The response body states the kind of the command, whether the command was executed now or by an
-// earlier request.
+// Checks that the body of an HTTP response states the kind of the command, whether the command was
+// executed now or by an earlier request.
 #[test]
 fn each_kind_of_command_has_a_body(rt: HostRuntime) {
     for (kind, body) in &KINDS {

@@ -1,4 +1,4 @@
-//! Tests of HTTP requests while one call of the store fails, for each call in turn.
+//! Tests of HTTP requests while one database call fails, for each database call in turn.
 use crate::cases::{Case, Served, assert_reply, serve};
 use crate::office::polled_store;
 use crate::tables::{COMMANDS, QUESTIONS};
@@ -8,12 +8,12 @@ use office_core::Office;
 use std::alloc::{AllocError, Global};
 use std::process::Abort;
 
-// The response to a request during which the store fails.
+// The HTTP response to a request during which the database fails.
 static FAILED: &[u8] =
     b"HTTP/1.1 503 Service Unavailable\r\nContent-Type: application/json\r\nContent-Length: 14\r\nConnection: close\r\n\r\n{\"refused\":13}";
 
-// Opens an `Office` (the core of `sunreg`) over a store. If the store fails, tries again with the
-// returned store.
+// Opens an `Office` (the core of `sunreg`) over a database. If a database call fails, tries again
+// with the returned database.
 fn opened<B: Books>(rt: &impl Abort, alloc: Global, books: B) -> Office<B> {
     let books = match Office::open(alloc, books, 1900) {
         Ok(office) => return office,
@@ -25,7 +25,7 @@ fn opened<B: Books>(rt: &impl Abort, alloc: Global, books: B) -> Office<B> {
     }
 }
 
-// Serves a request. If the store fails, serves the request a second time.
+// Serves an HTTP request. If the database fails, serves the request a second time.
 fn serve_again<B: Books>(
     alloc: Global,
     office: &mut Office<B>,
@@ -38,7 +38,7 @@ fn serve_again<B: Books>(
     Ok(served)
 }
 
-// Serves each request, asserts its response, and returns the store.
+// Serves each HTTP request, asserts the response, and returns the database.
 fn serve_all<B: Books>(rt: &impl Abort, alloc: Global, books: B, cases: &[Case<'_>]) -> B {
     let mut office = opened(rt, alloc, books);
     for case in cases {
@@ -48,8 +48,8 @@ fn serve_all<B: Books>(rt: &impl Abort, alloc: Global, books: B, cases: &[Case<'
     office.into_books()
 }
 
-// Serves all requests repeatedly. In repetition N, call N of the store fails. The repetitions end
-// when the requests need fewer than N calls.
+// Serves all HTTP requests repeatedly. In repetition N, database call N fails. The repetitions end
+// when the requests need fewer than N database calls.
 fn fail_each(rt: &impl Abort, alloc: Global, cases: &[Case<'_>]) {
     for failing in 1..1000 {
         let books = FailingBooks::new(polled_store(rt, alloc), failing);
@@ -61,7 +61,8 @@ fn fail_each(rt: &impl Abort, alloc: Global, cases: &[Case<'_>]) {
     panic!(rt; "a call fails each time")
 }
 
-// A request gets 503 if a call of the store fails, and its usual response when the client retries.
+// Checks that a request gets 503 if a database call fails, and the usual response when the client
+// retries.
 #[test]
 fn each_call_of_the_store_may_fail(rt: HostRuntime) {
     fail_each(&rt, rt.alloc(), &QUESTIONS);

@@ -6,8 +6,8 @@ use office_http::{HandleFault, handle};
 use std::alloc::{AllocError, Global};
 use std::process::Abort;
 
-/// A request, the timestamp at which it is served, and its response: the status with its reason,
-/// and the body.
+/// A test case: an HTTP request, the timestamp of serving the request, and the status line and body
+/// of the expected response.
 #[derive(Clone, Copy)]
 pub(crate) struct Case<'c> {
     pub(crate) at: u64,
@@ -23,8 +23,8 @@ pub(crate) struct Served {
     pub(crate) given: Vec<u8>,
 }
 
-/// Returns the bytes of a response with a Content-Length header. Its body is JSON if it begins with
-/// `{`, otherwise plain text.
+/// Returns the bytes of a response with a Content-Length header. A body that begins with `{` is
+/// JSON, any other body plain text.
 pub(crate) fn sized_reply(alloc: Global, status: &str, body: &str) -> Result<String, AllocError> {
     let size = body.len();
     let kind = if body.starts_with('{') {
@@ -37,8 +37,8 @@ pub(crate) fn sized_reply(alloc: Global, status: &str, body: &str) -> Result<Str
     )
 }
 
-/// Returns the bytes of a response. A JSON body has a Content-Length header. A plain text has none,
-/// and ends where the connection ends.
+/// Returns the bytes of a response. A JSON body has a Content-Length header. A plain text body has
+/// no such header, and ends with the connection.
 pub(crate) fn reply(alloc: Global, status: &str, body: &str) -> Result<String, AllocError> {
     if body.starts_with('{') {
         return sized_reply(alloc, status, body);
@@ -48,8 +48,8 @@ pub(crate) fn reply(alloc: Global, status: &str, body: &str) -> Result<String, A
     )
 }
 
-/// Serves a request over a link that transfers at most `piece` bytes in a call. If `failing` has a
-/// number, the call with this number fails.
+/// Serves an HTTP request over a test connection that transfers at most `piece` bytes in a call. If
+/// `failing` is a number, the call with this number fails.
 pub(crate) fn serve_over<B: Books>(
     alloc: Global,
     office: &mut Office<B>,
@@ -67,7 +67,7 @@ pub(crate) fn serve_over<B: Books>(
     })
 }
 
-/// Serves a request over a link that does not fail.
+/// Serves an HTTP request over a test connection that does not fail.
 pub(crate) fn serve<B: Books>(
     alloc: Global,
     office: &mut Office<B>,
@@ -84,8 +84,8 @@ pub(crate) fn assert_reply(rt: &impl Abort, alloc: Global, case: &Case<'_>, serv
     assert!(rt; served.given.as_slice() == want.as_bytes());
 }
 
-/// Serves a request over a link that transfers at most `piece` bytes in a call, and asserts the
-/// expected response.
+/// Serves an HTTP request over a test connection that transfers at most `piece` bytes in a call,
+/// and asserts the expected response.
 pub(crate) fn assert_served<B: Books>(
     rt: &impl Abort,
     alloc: Global,

@@ -17,7 +17,7 @@ use std::net::{TcpListener, TcpStream};
 use std::test::Fail;
 use std::time::Duration;
 
-// The clock of a test, and whether the store's files still exist.
+// The clock of a test, and whether the database files still exist.
 #[derive(Drop)]
 struct System {
     clock: Stepping,
@@ -40,7 +40,7 @@ impl RunSystem for System {
     }
 }
 
-// The HTTP port of `sunreg run`, with the event queue and the event counts that it needs.
+// The HTTP port of `sunreg run`, with the event queue and the event counts for its sockets.
 #[derive(Drop)]
 struct Listening {
     system: System,
@@ -136,7 +136,7 @@ fn read_all(alloc: Global, mut stream: TcpStream) -> Result<Vec<u8>, Fail> {
     Ok(got)
 }
 
-// A test case: a client's request and its expected response. `most` is the limit in bytes for
+// A test case: a client's HTTP request and the expected response. `most` is the limit in bytes for
 // stored commands, and `kept` is the number of bytes already stored. `energy` is the meter's energy
 // in mWh, if the request closes the meter.
 struct Client {
@@ -149,8 +149,8 @@ struct Client {
     energy: Option<u64>,
 }
 
-// Returns whether the port serves a client as expected. It reports a reached limit once, and
-// reports missing files after a command. If the store's files exist, nothing remains to be done.
+// Returns whether the port serves a client as expected. The port must report a reached limit for
+// stored commands once, and missing database files after a command.
 fn serves(
     rt: &HostRuntime,
     listener: TcpListener,
@@ -198,7 +198,7 @@ const EXCHANGED: &[u8] =
 const UNAVAILABLE: &[u8] =
     b"HTTP/1.1 503 Service Unavailable\r\nX-Content-Type-Options: nosniff\r\nCross-Origin-Resource-Policy: same-origin\r\nCache-Control: no-store\r\nContent-Type: application/json\r\nContent-Length: 13\r\nConnection: close\r\n\r\n{\"fault\":503}";
 
-// Clients with their requests. `REQUEST` has 170 bytes.
+// Test cases with one client each. The HTTP request `REQUEST` has 170 bytes.
 static CLIENTS: [Client; 4] = [
     // The limit for stored commands leaves room for the command.
     Client {
@@ -220,7 +220,8 @@ static CLIENTS: [Client; 4] = [
         reply: UNAVAILABLE,
         energy: None,
     },
-    // The command is executed, but not acknowledged, because the store's files are missing.
+    // The client's command is executed, but not acknowledged, because the database files are
+    // missing.
     Client {
         are_there: false,
         most: None,
@@ -230,7 +231,7 @@ static CLIENTS: [Client; 4] = [
         reply: UNAVAILABLE,
         energy: Some(300_000),
     },
-    // A query does not check that the store's files exist.
+    // The database files are missing, which a query does not check.
     Client {
         are_there: false,
         most: None,
@@ -242,8 +243,8 @@ static CLIENTS: [Client; 4] = [
     },
 ];
 
-// A command is acknowledged only if the limit for stored commands allows it and the store's files
-// exist.
+// Checks that a command is acknowledged only if the limit for stored commands allows the command
+// and the database files exist.
 #[test]
 fn clients_have_their_replies(rt: HostRuntime) -> Result<(), Fail> {
     let earlier = EarlierFiles {

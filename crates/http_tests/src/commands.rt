@@ -1,21 +1,22 @@
-//! Tests of point lists in the bodies of requests, and of the commands that are parsed from them.
+//! Tests of point lists in the bodies of HTTP requests, and of the commands that are parsed from
+//! these lists.
 use office_events::{Command, Name};
 use office_http::messages::{CommandFault, Route, command_in};
 
-// The CSV text of a point list, the number of its points, and the number of reads in its reading
-// plan.
+// The CSV text of a point list, the number of points, and the number of Modbus reads that cover the
+// points.
 static LISTS: [(&[u8], usize, usize); 2] = [
     (
         b"name,function,area,address,type,scale\nwh,3,0,40094,acc32,whsf\nwhsf,3,0,40096,sunssf,\n",
         2,
         1,
     ),
-    // A point list without points is accepted.
+    // This point list has no points and is accepted.
     (b"name,function,area,address,type,scale\n", 0, 0),
 ];
 
-// A point list parses to a command with the list's reading plan. The body of a query parses to no
-// command.
+// Checks that a point list parses to a command with the Modbus reads that cover its points. The
+// body of a query parses to no command.
 #[test]
 fn lists_parse_with_their_plans(rt: HostRuntime) {
     let device = Name::new(b"main");

@@ -27,8 +27,8 @@ pub(crate) const REQUEST: &[u8] =
 const REPLY: &[u8] =
     b"HTTP/1.1 200 OK\r\nContent-Type: application/json\r\nContent-Length: 19\r\nConnection: close\r\n\r\n{\"done\":\"exchange\"}";
 
-// Three clients. The second client retries the request of the first. The third sends another last
-// value under the same idempotency key.
+// Three HTTP clients. The second client repeats the request of the first. The third client sends
+// another last count of the meter under the same idempotency key.
 static ASKING: [Client; 3] = [
     Client {
         bytes: REQUEST,
@@ -167,8 +167,8 @@ impl std::rt::Clock for Stepping {
 }
 
 // Returns whether `clients` clients are served without an error. With `step`, each client has a
-// deadline, whose clock advances by `step` seconds each time that it is read. Without `step`,
-// `serve_on` serves the clients.
+// deadline, and the clock advances by `step` seconds at each reading. Without `step`, clients have
+// no deadline.
 fn serves(
     alloc: Global,
     listener: &TcpListener,

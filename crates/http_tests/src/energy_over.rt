@@ -1,5 +1,5 @@
 //! Tests of the energy of an accounting register (a named counter) by day and month, summed over
-//! earlier files and the current file.
+//! earlier database files and the current file.
 use crate::cases::sized_reply;
 use crate::office::{polled, responded, unmetered, utc};
 use carried_books::{EarlierDays, EarlierRegister, JoinedDays};
@@ -19,8 +19,8 @@ fn days_of(rt: &impl Abort, alloc: Global, rows: &[Share]) -> EarlierDays {
     EarlierDays::new(days)
 }
 
-/// Returns an accounting register (a named counter) of earlier files, with its meters and quarter
-/// hours.
+/// Returns an accounting register (a named counter) of earlier database files, with its meters and
+/// quarter hours.
 pub(crate) fn earlier_register(
     rt: &impl Abort,
     alloc: Global,
@@ -38,9 +38,9 @@ pub(crate) fn earlier_register(
 // A request for energy, and the status and the body of its response.
 type Asked = (&'static [u8], &'static str, &'static str);
 
-// Asserts the responses to requests for energy. The energy is that of the current file and of
-// earlier files. Of the two registers `main` in the earlier files, only the first has energy: the
-// quarter hours `rows`.
+// Asserts the responses to HTTP requests for energy over the current database file and earlier
+// files. Of the two registers `main` in the earlier files, only the first has energy: the quarter
+// hours `rows`.
 fn assert_energy<B: Books>(
     rt: &impl Abort,
     alloc: Global,
@@ -65,9 +65,9 @@ fn assert_energy<B: Books>(
 
 static EARLIER: [Share; 2] = [Share { start: 0, mwh: 5 }, Share { start: 900, mwh: 7 }];
 
-// Requests for energy and their responses. The current file has energy in the quarter hours that
-// begin at 900 s and at 1800 s. The earlier file also has energy in the quarter hour from 900 s:
-// the two energies are added, and the quarter hour counts once.
+// HTTP requests for energy, with their responses. The current database file has energy in the
+// quarter hours that begin at 900 s and at 1800 s. The earlier file also has energy in the quarter
+// hour from 900 s: the two energies are added, and the quarter hour counts once.
 static OF_BOTH: [Asked; 5] = [
     (
         b"GET /registers/main/days/1970-01-01/1970-01-02 HTTP/1.1\r\n\r\n",
@@ -102,8 +102,8 @@ static OF_EARLIER: [Asked; 1] = [(
     "1970-01    2                       12\nend 1\n",
 )];
 
-// A quarter hour of the earlier file that starts at 901 s, after the first quarter hour of the
-// current file (900 s).
+// A quarter hour of the earlier database file that starts at 901 s, after the first quarter hour of
+// the current file (900 s).
 static LATE: [Share; 1] = [Share { start: 901, mwh: 1 }];
 
 static OF_LATE: [Asked; 1] = [(
@@ -112,8 +112,8 @@ static OF_LATE: [Asked; 1] = [(
     "{\"refused\":13}",
 )];
 
-// The daily energy of an accounting register (a named counter) is summed over all files. If damaged
-// rows have times that go back, the response is 503.
+// Checks that the daily energy of an accounting register (a named counter) is summed over all
+// database files. If damaged rows have times that go back, the response is 503.
 #[test]
 fn days_are_those_of_all_files(rt: HostRuntime) {
     let files: [(bool, &[Share], &[Asked]); 3] = [

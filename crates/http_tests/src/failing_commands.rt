@@ -1,4 +1,4 @@
-//! Tests of the program's commands over a store that fails, and of the exit statuses of polling
+//! Tests of the program's commands over a failing database, and of the exit statuses of polling
 //! rounds.
 use crate::office::metered;
 use command_io::ExitStatus;
@@ -24,9 +24,8 @@ impl NamedFiles for NoFiles {
     }
 }
 
-// If the store fails, the line is refused. The same happens if the store fails while the entry's
-// energy is compared with the meter's ceiling (its greatest power): the user is not asked to
-// confirm the entry.
+// Checks that an input line is refused if the database fails. This also applies while an entry's
+// energy is compared with the meter's ceiling (greatest power): the user is not asked to confirm.
 #[test]
 fn a_line_over_a_failing_store_is_refused(rt: HostRuntime) {
     for failing in 1..12 {

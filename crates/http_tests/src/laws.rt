@@ -1,11 +1,11 @@
 //! Calls the theorems that no other code calls. Each theorem is a function without effect, whose
-//! contract states it.
+//! contract states the theorem.
 use crate::failing_commands::NoFiles;
 use office_program::{MOST_FILE, inputs_act_once, requests_are_repeated};
 use run_http::{chunks_form_response, entries_come_after, rows_before_stay, text_stays};
 
-// Each theorem is a function that code can call. These are about copies of a meter's rows, chunks
-// of responses, retried requests and entered inputs.
+// Calls the theorems on copies of a meter's rows, chunks of responses, retried requests and entered
+// inputs.
 #[test]
 fn theorems_are_called(rt: HostRuntime) {
     rows_before_stay();

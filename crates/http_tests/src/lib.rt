@@ -1,5 +1,6 @@
 //! Tests of HTTP and of the program's commands, for cases that golden tests cannot show. These
-//! cases are links and stores that fail, sockets, damaged rows, and numbers that no store reaches.
+//! cases are connections and databases that fail, sockets, damaged rows, and numbers that no
+//! database reaches.
 #![tactic(auto)]
 
 #[cfg(test)]

@@ -1,4 +1,4 @@
-//! Tests of requests that are cut off, and of responses over links that fail.
+//! Tests of HTTP requests that are cut off, and of responses over connections that fail.
 use matchit::Router;
 use mb_wire::{Link, MemoryLink};
 use office_http::messages::{
@@ -14,9 +14,9 @@ static REQUEST: &[u8] =
 // The length in bytes of the tested request, including its body.
 const WHOLE: usize = 89;
 
-// Reads the first `end` bytes of the request in chunks of ten bytes, over a link that ends or
-// fails. Asserts that the request counts as incomplete. Also asserts the reported fault, and the
-// bytes that were read.
+// Reads the first `end` bytes of the tested HTTP request in chunks of ten bytes, over a connection
+// that ends or fails. Asserts that the request is incomplete, the fault, and the bytes that were
+// read.
 fn assert_unread(
     rt: &impl Abort,
     alloc: Global,
@@ -91,8 +91,8 @@ fn nothing_is_written_after_a_failed_write(rt: HostRuntime) {
     assert!(rt; link.failures() == 1);
 }
 
-// If the link fails, a request with an unauthorized Host header gets no response, and the failure
-// is reported.
+// Checks that if the connection fails, a request with an unauthorized Host header gets no response,
+// and the failure is reported.
 #[test]
 fn a_link_that_fails_rejects_nobody(rt: HostRuntime) {
     let mut output = [0; 400];

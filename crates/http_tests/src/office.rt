@@ -1,5 +1,6 @@
-//! `Office` values (the core of `sunreg`) over stores in memory, for tests. Their device is `inv`,
-//! its accounting register (a named counter) is `main`, and the meter at this register is `m1`.
+//! `Office` values (the core of `sunreg`) over databases in memory, for tests. The device is `inv`,
+//! the device's accounting register (a named counter) is `main`, and the meter at this register is
+//! `m1`.
 use crate::cases::serve;
 use carried_books::EarlierRegister;
 use interval_core::Zone;
@@ -25,13 +26,14 @@ static REQUESTS: [&[u8]; 3] = [
 // factor 0.
 static FRAME: &[u8] = b"\x00\x00\x00\x00\x00\x09\x01\x03\x06\x00\x00\x14\x50\x00\x00";
 
-/// Returns the time zone of the stores in these tests: UTC.
+/// Returns the time zone of the databases in these tests: UTC.
 pub(crate) fn utc(rt: &impl Abort) -> Zone {
     Zone::read("UTC0").expect(rt, "no zone")
 }
 
-/// Returns the response of a route of `sunreg run` at time 2800 s. The response covers the current
-/// file, and the accounting registers (named counters) `registers` of earlier files.
+/// Returns the response to an HTTP request of `sunreg run` at time 2800 s. The response covers the
+/// current database file, and the accounting registers (named counters) `registers` of earlier
+/// files.
 pub(crate) fn response_of<B: Books>(
     rt: &impl Abort,
     alloc: Global,
@@ -60,7 +62,8 @@ pub(crate) fn response_of<B: Books>(
     }
 }
 
-/// Returns the response to a request of a route of `sunreg run`, as [`response_of`] does.
+/// Returns the response to the bytes of an HTTP request of `sunreg run`, as [`response_of`] does
+/// for a parsed request.
 pub(crate) fn responded<B: Books>(
     rt: &impl Abort,
     alloc: Global,
@@ -72,7 +75,7 @@ pub(crate) fn responded<B: Books>(
     response_of(rt, alloc, office, registers, &route)
 }
 
-// Returns the name of the test device.
+// Returns `inv`, the name of the device in these tests.
 fn inv() -> Option<Name> {
     Name::new(b"inv")
 }
@@ -91,8 +94,8 @@ pub(crate) fn poll(rt: &impl Abort, alloc: Global) -> [Event; 3] {
     ]
 }
 
-// Returns an `Office` (the core of `sunreg`) over the store `books`. Before that, it serves these
-// requests at time 1000 s, and processes the events of a poll at `times`, in seconds.
+// Returns an `Office` (the core of `sunreg`) over the database `books`. The `Office` has served the
+// given requests at time 1000 s, and has processed the events of a poll at `times`, in seconds.
 fn built<B: Books>(
     rt: &impl Abort,
     alloc: Global,
@@ -115,8 +118,8 @@ fn built<B: Books>(
     office
 }
 
-// Returns an `Office` (the core of `sunreg`) over a store in memory. Before that, it serves these
-// requests at time 1000 s, and processes the events of a poll at `times`, in seconds.
+// Returns an `Office` (the core of `sunreg`) over a database in memory. The `Office` has served the
+// given requests at time 1000 s, and has processed the events of a poll at `times`, in seconds.
 fn built_in_memory(
     rt: &impl Abort,
     alloc: Global,
@@ -144,7 +147,7 @@ pub(crate) fn polled(rt: &impl Abort, alloc: Global) -> Office<ListBooks> {
     built_in_memory(rt, alloc, &REQUESTS, &[1898, 1898, 1900])
 }
 
-/// Returns a store with a device that was polled once, and the recorded energy of its meter.
+/// Returns a database with a device that was polled once, and the recorded energy of its meter.
 pub(crate) fn polled_store(rt: &impl Abort, alloc: Global) -> ListBooks {
     polled(rt, alloc).into_books()
 }

@@ -1,4 +1,4 @@
-//! Tests of requests that arrive in chunks, are cut off, or whose link fails.
+//! Tests of HTTP requests that arrive in chunks, are cut off, or whose connection fails.
 use crate::cases::{Case, assert_served, reply, serve, serve_over};
 use crate::office::polled;
 use crate::tables::{COMMANDS, QUESTIONS};
@@ -28,8 +28,9 @@ fn cut_off<B: Books>(rt: &impl Abort, alloc: Global, office: &mut Office<B>, cas
     assert_served(rt, alloc, office, case, 400);
 }
 
-// Returns whether a fault reports a failed read or write of the link. After a failed read, nothing
-// may have been written. After a failed write, the written bytes must be a prefix of the response.
+// Returns whether a fault reports a failed read or write of the connection. After a failed read,
+// nothing may have been written. After a failed write, the written bytes must be a prefix of the
+// response.
 fn is_reported(fault: HandleFault, given: &[u8], reply: &[u8]) -> bool {
     match fault {
         HandleFault::Read => given.is_empty(),
@@ -38,8 +39,8 @@ fn is_reported(fault: HandleFault, given: &[u8], reply: &[u8]) -> bool {
     }
 }
 
-// Makes each call of the link fail in turn, until serving the request takes fewer calls. A retry of
-// an executed command gets the stored response.
+// Makes each call of the connection fail in turn, until serving the HTTP request takes fewer calls.
+// A retry of an executed command gets the stored response.
 fn fail_each<B: Books>(rt: &impl Abort, alloc: Global, office: &mut Office<B>, case: &Case<'_>) {
     let want = reply(alloc, case.status, case.body).expect(rt, "no memory");
     for call in 1..100 {
@@ -72,7 +73,7 @@ fn requests_come_in_chunks_or_are_cut_off(rt: HostRuntime) {
     }
 }
 
-// Any call of the link may fail, and a command is still executed only once.
+// Checks that a command is executed only once, whichever call of the connection fails.
 #[test]
 fn each_call_of_the_link_may_fail(rt: HostRuntime) {
     let tables: [&[Case<'static>]; 2] = [&QUESTIONS, &COMMANDS];

@@ -1,4 +1,5 @@
-//! Tests of long responses, whose quarter hours are sent in chunks, and of the requests for them.
+//! Tests of long HTTP responses, whose quarter hours are sent in chunks, and of the requests for
+//! these responses.
 use crate::cases::{serve, sized_reply};
 use crate::office::polled;
 use office_books::{Books, Span};
@@ -20,8 +21,8 @@ fn meter<B: Books>(rt: &impl Abort, office: &mut Office<B>) -> Installation {
     }
 }
 
-// Writes the head of a response with the rows in a time span, or with all rows. Returns the rows
-// that remain to be written.
+// Writes the head of an HTTP response with a meter's quarter hours in a time span, or all. Returns
+// the quarter hours that remain to be written.
 fn begun<B: Books>(
     rt: &impl Abort,
     alloc: Global,
@@ -40,8 +41,8 @@ fn begun<B: Books>(
     }
 }
 
-// Writes the remaining rows of a response in chunks, each with the rows of `seconds` seconds.
-// Returns the number of chunks.
+// Writes the remaining quarter hours of an HTTP response in chunks that cover `seconds` seconds
+// each. Returns the number of chunks.
 fn write_rest<B: Books>(
     rt: &impl Abort,
     alloc: Global,
@@ -62,7 +63,8 @@ fn write_rest<B: Books>(
     count
 }
 
-// Returns a response that is written in chunks, each with the rows of `seconds` seconds.
+// Returns an HTTP response with a meter's quarter hours, written in chunks that cover `seconds`
+// seconds each.
 fn in_chunks<B: Books>(
     rt: &impl Abort,
     alloc: Global,
@@ -104,13 +106,13 @@ fn assert_spans<B: Books>(rt: &impl Abort, alloc: Global, office: &mut Office<B>
 
 static ALL_ROWS: &[u8] = b"GET /meters/m1/intervals HTTP/1.1\r\nHost: localhost\r\n\r\n";
 
-// A request that enters a reading by hand after a response began. In a later response, the last row
-// has more energy, and there is one more row.
+// An HTTP request that enters a reading by hand after a response began. In a later response, the
+// last quarter hour has more energy, and one more follows.
 static LATER: &[u8] =
     b"POST /registers/main/manual HTTP/1.1\r\nContent-Length: 22\r\nOffice-Caller: desk\r\nOffice-Request: 4\r\n\r\n{\"raw\":5500,\"rolls\":0}";
 
-// Asserts that a response has the rows as of its beginning, although a reading is entered before
-// its only chunk.
+// Asserts that a response has the quarter hours as of the response's beginning, although a reading
+// is entered before the only chunk is written.
 fn assert_earlier_rows<B: Books>(rt: &impl Abort, alloc: Global, office: &mut Office<B>) {
     let mut text = Vec::new(alloc);
     let mut left = begun(rt, alloc, &mut text, office, Some((0, 9000)));
@@ -124,8 +126,9 @@ fn assert_earlier_rows<B: Books>(rt: &impl Abort, alloc: Global, office: &mut Of
     assert!(rt; text.as_slice() == wanted.as_bytes());
 }
 
-// Asserts the chunks of a response for each time span, and for all rows. The rows reach from the
-// quarter hour of the meter's first entry (900 s) to that of its last entry (1800 s).
+// Asserts the chunks of a response for each time span, and for all quarter hours. The quarter hours
+// reach from the quarter hour of the meter's first entry (900 s) to that of its last entry (1800
+// s).
 fn assert_chunks<B: Books>(rt: &impl Abort, alloc: Global, office: &mut Office<B>) {
     assert_spans(rt, alloc, office);
     let text = in_chunks(rt, alloc, office, None, 900);
@@ -167,8 +170,8 @@ static VOIDS: [(&[u8], bool); 6] = [
     (b"", false),
 ];
 
-// Requests for all rows, and requests that may void (cancel) an entry, are recognized by their
-// request lines.
+// Checks that the request line identifies requests for all quarter hours of a meter, and requests
+// that may void (cancel) an entry.
 #[test]
 fn requests_are_recognized(rt: HostRuntime) {
     let router = router(rt.alloc()).expect(&rt, "no router");

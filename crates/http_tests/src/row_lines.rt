@@ -1,5 +1,5 @@
-//! Tests of the lines of entries, accounting registers (named counters) and meters with the
-//! greatest numbers.
+//! Tests of the output lines for meter entries, accounting registers (named counters) and meters
+//! with the greatest numbers.
 use crate::office::polled;
 use energy_core::{Entry, Last};
 use meter_journal::{EntryKind, EntryRow};

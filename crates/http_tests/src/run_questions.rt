@@ -1,5 +1,5 @@
-//! Tests of the responses of `sunreg run` while its store fails, and of a query for entries from
-//! the greatest index on.
+//! Tests of the responses of `sunreg run` while the database fails, and of a query for meter
+//! entries from the greatest index on.
 use crate::cases::sized_reply;
 use crate::office::{polled, polled_store, responded, response_of};
 use memory_books::FailingBooks;
@@ -10,7 +10,7 @@ use run_http::RunRoute;
 use std::alloc::Global;
 use std::process::Abort;
 
-// Returns the response of an `Office` (the core of `sunreg`) over a store, or `None` if the
+// Returns the HTTP response of an `Office` (the core of `sunreg`) over a database, or `None` if the
 // `Office` cannot be opened.
 fn replied_over<B: Books>(
     rt: &impl Abort,
@@ -24,25 +24,25 @@ fn replied_over<B: Books>(
     Some(responded(rt, alloc, &mut office, &[], request))
 }
 
-// Returns the response if call number `failing` of the store fails. If `failing` is 0, no call
-// fails.
+// Returns the response to an HTTP request during which database call number `failing` fails. If
+// `failing` is 0, no call fails.
 fn replied(rt: &impl Abort, alloc: Global, failing: u64, request: &[u8]) -> Option<Vec<u8>> {
     let books = FailingBooks::new(polled_store(rt, alloc), failing);
     replied_over(rt, alloc, books, request)
 }
 
-// A request, and the number of store calls whose failure leads to 503.
+// Each test case has an HTTP request, and the number of database calls whose failure leads to 503.
 static FAILING: [(&[u8], u8); 3] = [
-    // One call each for the devices, for the accounting registers (named counters) of the device,
-    // and for the meter.
+    // One database call each for the devices, for the accounting registers (named counters) of the
+    // device, and for the meter.
     (b"GET /site HTTP/1.1\r\n\r\n", 3),
     (b"GET /metrics HTTP/1.1\r\n\r\n", 3),
-    // One call for the accounting register (a named counter), and one for its meters.
+    // One database call for the accounting register (a named counter), and one for its meters.
     (b"GET /registers/main/meters HTTP/1.1\r\n\r\n", 2),
 ];
 
-// Counts the calls of the store whose failure leads to 503. If any other call fails, the response
-// is complete, or the program cannot start.
+// Counts the database calls during a request whose failure leads to 503. If any other database call
+// fails, the response is complete, or the program cannot start.
 fn calls_that_fail(rt: &impl Abort, alloc: Global, request: &[u8]) -> u8 {
     let failure = sized_reply(alloc, "503 Service Unavailable", "{\"refused\":13}").expect(
         rt,
@@ -60,7 +60,7 @@ fn calls_that_fail(rt: &impl Abort, alloc: Global, request: &[u8]) -> u8 {
     count
 }
 
-// If the store fails, the response is 503, and never an incomplete response.
+// Checks that the response is 503 if the database fails, and never an incomplete response.
 #[test]
 fn a_failing_store_is_unavailable(rt: HostRuntime) {
     for (request, wanted) in &FAILING {

@@ -1,4 +1,4 @@
-//! Tests of `/site`, which shows the energy of earlier files and of the current file.
+//! Tests of `/site`, which shows the energy of earlier database files and of the current file.
 use crate::cases::sized_reply;
 use crate::energy_over::earlier_register;
 use crate::office::{polled, responded, unmetered};
@@ -9,11 +9,11 @@ use office_events::{Installation, Name, Opening};
 use std::alloc::Global;
 use std::process::Abort;
 
-// A meter in earlier files: its name, its energy in mWh, and whether it was closed.
+// A meter in earlier database files: its name, its energy in mWh, and whether it was closed.
 type Earlier = (&'static [u8], u64, bool);
 
-// A test case: its description, an accounting register (a named counter) of earlier files, the
-// meters at that register, and the meter's JSON in the response.
+// A test case: its description, an accounting register (a named counter) of earlier database files,
+// the meters at that register, and the meter's JSON in the response.
 type Case = (
     &'static str,
     &'static [u8],
@@ -21,7 +21,8 @@ type Case = (
     &'static str,
 );
 
-// Cases in which the current file has the meter `m1`, whose counter shows 5200 after 200 Wh.
+// Test cases in which the current database file has the meter `m1`, whose counter shows 5200 after
+// 200 Wh.
 static OF_A_METER: [Case; 7] = [
     (
         "an open meter has the energy of all files",
@@ -77,7 +78,7 @@ static OF_NO_METER: [Case; 2] = [
     ("no file may have a meter", b"main", &[], "null"),
 ];
 
-// Returns a meter of earlier files, with its total energy.
+// Returns the state of a meter of earlier database files, with the given total energy.
 fn earlier_meter(rt: &impl Abort, it: &Earlier) -> Installation {
     let (meter, total, ended) = *it;
     let opening = Opening {
@@ -102,8 +103,8 @@ fn earlier_meter(rt: &impl Abort, it: &Earlier) -> Installation {
     }
 }
 
-// Returns the response of `/site` at time 2800 s, if the earlier files have the meters `meters` at
-// the accounting register `register` (a named counter).
+// Returns the response of `/site` at time 2800 s, if the earlier database files have the meters
+// `meters` at the accounting register `register` (a named counter).
 fn replied<B: Books>(
     rt: &impl Abort,
     alloc: Global,
@@ -131,8 +132,8 @@ fn assert_sites<B: Books>(rt: &impl Abort, alloc: Global, office: &mut Office<B>
     }
 }
 
-// The meter at an accounting register (a named counter) is the last one of all files, with its
-// energy in all files.
+// Checks that `/site` reports the meter at an accounting register (a named counter) as the last
+// meter of all files, with the energy in all files.
 #[test]
 fn a_site_has_the_meters_of_all_files(rt: HostRuntime) {
     let mut office = polled(&rt, rt.alloc());

@@ -1,4 +1,4 @@
-//! Tests of links over sockets, links with a deadline, and clocks.
+//! Tests of connections (links) over sockets, connections with a deadline, and clocks.
 use crate::connections::client_of;
 use mb_wire::sockets::{Clock, DeadlineLink, FixedClock, SocketLink, SystemClock};
 use mb_wire::{Link, LinkFailed, MemoryLink, Took};
@@ -6,13 +6,13 @@ use std::io::{self, Read};
 use std::net::{TcpListener, TcpStream};
 use std::test::Fail;
 
-// Accepts the next client of a listening socket, and returns a link to the client.
+// Accepts the next client of a listening socket, and returns the connection to the client.
 fn link_of(listener: &TcpListener) -> io::Result<SocketLink<TcpStream>> {
     SocketLink::new(listener.accept()?.0)
 }
 
-// Returns whether a link reads the bytes that its client sent, then times out, and then writes
-// bytes that the client reads. Afterwards the client closes the connection.
+// Returns whether a connection reads the bytes that its client sent, then times out, and then
+// writes bytes that the client reads. Afterwards the client closes the connection.
 fn is_read_and_written(link: &mut SocketLink<TcpStream>, mut client: TcpStream) -> bool {
     let mut piece = [0; 16];
     let mut answer = [0; 3];
@@ -24,8 +24,8 @@ fn is_read_and_written(link: &mut SocketLink<TcpStream>, mut client: TcpStream) 
         && &answer == b"you"
 }
 
-// A link over a socket reads, times out and writes. It reports the end of input when the client
-// closes the connection, and no read fails.
+// Checks that a connection over a socket reads, times out and writes. The connection reports the
+// end of input when the client closes, and no read fails.
 #[test]
 fn a_socket_reads_writes_times_out_and_ends(rt: HostRuntime) -> Result<(), Fail> {
     let listener = TcpListener::bind(&rt, "127.0.0.1:0")?;
@@ -38,13 +38,13 @@ fn a_socket_reads_writes_times_out_and_ends(rt: HostRuntime) -> Result<(), Fail>
     Ok(())
 }
 
-// Returns whether one read and one write of a link succeed.
+// Returns whether one read and one write of a connection succeed.
 fn works_once<L: Link>(link: &mut L) -> bool {
     let mut piece = [0; 16];
     link.take(&mut piece) == Ok(Took::Bytes(3)) && link.give(b"you") == Ok(3)
 }
 
-// Returns whether another read and another write of a link fail.
+// Returns whether another read and another write of a connection fail.
 fn fails_twice<L: Link>(link: &mut L) -> bool {
     let mut piece = [0; 16];
     link.take(&mut piece) == Err(LinkFailed)
@@ -52,8 +52,8 @@ fn fails_twice<L: Link>(link: &mut L) -> bool {
         && [link.takes(), link.failures()] == [2, 2]
 }
 
-// A link with a deadline fails when the deadline has passed. Its calls then do not reach the
-// underlying link.
+// Checks that a connection with a deadline fails when the deadline has passed. Further calls do not
+// reach the underlying connection.
 #[test]
 fn a_link_fails_after_its_deadline(rt: HostRuntime) {
     let mut given = [0; 8];
@@ -65,8 +65,8 @@ fn a_link_fails_after_its_deadline(rt: HostRuntime) {
     assert!(rt; inner.given() == b"you".as_slice());
 }
 
-// A fixed clock returns its times in order, and then repeats the last one. The system clock shows a
-// time after the first second of 2020.
+// Checks that a fixed clock (for tests) returns its times in order, and then repeats the last time.
+// The system clock shows a time after the first second of 2020.
 #[test]
 fn clocks_have_times(rt: HostRuntime) {
     let mut clock = FixedClock::new(&[5, 3]);

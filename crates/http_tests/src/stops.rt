@@ -1,5 +1,5 @@
-//! Tests of an `Office` (the core of `sunreg`) whose store fails while rows are written, or while a
-//! poll ends.
+//! Tests of an `Office` (the core of `sunreg`) whose database fails while the rows of a report are
+//! written, or while a poll ends.
 use crate::cases::{Case, assert_served, serve};
 use crate::office::{poll, polled_store};
 use crate::tables::{COMMANDS, QUESTIONS};
@@ -13,7 +13,8 @@ use std::process::Abort;
 
 static INTERVALS: &[u8] = b"GET /meters/m1/intervals HTTP/1.1\r\n\r\n";
 
-// Returns the bytes of the response that were written, if it is cut off because the store fails.
+// Returns the bytes of the response that were written, if the response is cut off because the
+// database fails.
 fn cut<B: Books>(rt: &impl Abort, alloc: Global, books: B) -> Option<Vec<u8>> {
     let Ok(mut office) = Office::open(alloc, books, 1900) else {
         return None;
@@ -28,8 +29,8 @@ fn cut<B: Books>(rt: &impl Abort, alloc: Global, books: B) -> Option<Vec<u8>> {
 static ROWS: &[u8] =
     b"HTTP/1.1 200 OK\r\nContent-Type: text/plain\r\nConnection: close\r\n\r\n900 177777\n1800 22223\n";
 
-// If the store fails after the last row of a report, the response has no last line. Exactly one
-// call of the store can fail at that point.
+// Checks that a report has no last line if the database fails after the last row. Exactly one
+// database call can fail at this point.
 #[test]
 fn a_text_that_is_cut_off_has_no_end(rt: HostRuntime) {
     let mut cuts = 0u8;
@@ -43,8 +44,8 @@ fn a_text_that_is_cut_off_has_no_end(rt: HostRuntime) {
     assert!(rt; cuts == 1);
 }
 
-// Returns an `Office` (the core of `sunreg`) that refuses everything, because its store failed
-// while a poll ended. Returns `None` if the store does not fail at that point.
+// Returns an `Office` (the core of `sunreg`) that refuses everything, because a database call
+// failed while a poll ended. Returns `None` if the database does not fail at this point.
 fn stopped<B: Books>(rt: &impl Abort, alloc: Global, books: B) -> Option<Office<B>> {
     let Ok(mut office) = Office::open(alloc, books, 1900) else {
         return None;
@@ -59,8 +60,8 @@ fn stopped<B: Books>(rt: &impl Abort, alloc: Global, books: B) -> Option<Office<
     None
 }
 
-// Returns whether a failure of this store stops the `Office` (the core of `sunreg`). Asserts that
-// each request then gets the response 503.
+// Returns whether a failure of this database stops the `Office` (the core of `sunreg`). Asserts
+// that each request then gets the response 503.
 fn is_unavailable<B: Books>(rt: &impl Abort, alloc: Global, books: B) -> bool {
     let Some(mut office) = stopped(rt, alloc, books) else {
         return false;
@@ -77,8 +78,8 @@ fn is_unavailable<B: Books>(rt: &impl Abort, alloc: Global, books: B) -> bool {
     true
 }
 
-// After a failure of the store has stopped the `Office` (the core of `sunreg`), each request gets
-// the response 503.
+// Checks that after a failure of the database has stopped the `Office` (the core of `sunreg`), each
+// request gets the response 503.
 #[test]
 fn a_stopped_office_is_unavailable(rt: HostRuntime) {
     for failing in 1..20 {

@@ -139,7 +139,8 @@ pub(crate) static QUESTIONS: [Case<'static>; 22] = [
     },
 ];
 
-/// A command of each kind. A retry of a refused command is not answered from a stored response.
+/// HTTP requests of the tests: a command of each kind. A retry of a refused command is not answered
+/// from a stored response.
 pub(crate) static COMMANDS: [Case<'static>; 19] = [
     Case {
         at: 2000,

@@ -1,8 +1,9 @@
 //! Tests of the program's own time, which advances with the monotonic clock.
 use run_schedule::RunTime;
 
-// Each reading of the monotonic clock in ms, with the program's resulting time in s, and the ms
-// until its next second. The program began at 1,000.999 s, when the monotonic clock showed 50 s.
+// Test cases: a reading of the monotonic clock in ms, the program's resulting time in s, and the ms
+// until the program's next second. The program began at 1,000.999 s, when the monotonic clock
+// showed 50 s.
 static READ: [(u64, u64, u64); 6] = [
     (50_000, 1000, 1),
     (50_001, 1001, 1000),

@@ -1,4 +1,5 @@
--- The day accounts of a list of interval rows after one more row is added.
+-- Lemmas on the list of day accounts (the energy of each civil day) after one more interval row is
+-- added.
 use Rattle.std.proofs.Common.{◌≡◌, ◌≢◌, ℕ, ◌+◌, ◌-◌, ◌^◌, ◌<◌, ◌≤◌, min, Bool, false, if◌then◌else◌, List, [], ◌∷◌, ◌++◌, length, get_or, refl, sym, ap, subst, ◌∙◌, inl, inr, ◌==◌, arith}
 use Rattle.std.specs.Prelude.{ℤ, ◌↔◌, All, Contains, Option, Some, None}
 use Rattle.std.specs.Option.{ForSome}
@@ -19,12 +20,13 @@ use Rattle.interval_core.proofs.OrderLemmas.{Earlier, Later, All-split, in_order
 use Rattle.interval_core.proofs.PlaceLemmas.{Other, same_day, other_day, absent, not_contained}
 use Rattle.interval_core.proofs.CountLemmas.{among, rows_on-same, rows_on-other, distinct_count-push, present, missing, energy-rows_on}
 
--- A day account is exact: it has the number of intervals and the energy of all rows of the day.
+-- A day account (the energy of a civil day) is exact: it has the number of intervals and the energy
+-- of all rows of the day.
 abbrev pub IsExact : Zone → List Share → DayAccount → Type 0
 IsExact zone rows account = account ≡ account_on zone rows account.day
 
--- Whether a row of the same day already has the start `start`, so that the day's account already
--- counts its interval.
+-- True if a row of the same day already has the start `start`, so that the day's account already
+-- counts this interval.
 abbrev pub is_known : Zone → List Share → ℕ → Bool
 is_known zone rows start = among start (starts_of (rows_on zone rows (day_at zone start)))
 
@@ -49,7 +51,7 @@ ap_account : {count count' mwh mwh' : ℕ} (day : ℤ) → count ≡ count' → 
     → ◌≡◌ {A = DayAccount} (record { day = day; count = count; mwh = mwh }) (record { day = day; count = count'; mwh = mwh' })
 ap_account day same_count same_mwh = rw (same_count, same_mwh)
 
--- Adding a row leaves the accounts of all other days exact (`IsExact`).
+-- Adding an interval row leaves the accounts of all other days exact (`IsExact`).
 others-exact : (zone : Zone) (rows : List Share) (row : Share) (accounts : List DayAccount) → All (IsExact zone rows) accounts → All (Other (day_at zone row.start)) accounts
     → All (IsExact zone (rows ++ row ∷ [])) accounts
 others-exact zone rows row accounts exact others = λ k d lt. exact k d lt ∙ sym (account-other zone rows row (get_or accounts k d).day (others k d lt))
@@ -57,11 +59,11 @@ others-exact zone rows row accounts exact others = λ k d lt. exact k d lt ∙ s
 days-between : (before : List DayAccount) (a : DayAccount) (after : List DayAccount) → days_of (before ++ a ∷ after) ≡ days_of before ++ a.day ∷ days_of after
 days-between before a after = map-append (λ (x : DayAccount). x.day) before (a ∷ after)
 
--- Adding a row leaves the number of rows of all other days unchanged.
+-- Adding an interval row leaves the number of rows of all other days unchanged.
 same_rows : (zone : Zone) (rows : List Share) (row : Share) (day : ℤ) → day ≢ day_at zone row.start → length (rows_on zone (rows ++ row ∷ []) day) ≡ length (rows_on zone rows day)
 same_rows zone rows row day other = ap length (rows_on-other zone rows row day other)
 
--- The civil day of an added row has at least one row.
+-- The civil day of an interval row that was added has at least one row.
 more_rows : (zone : Zone) (rows : List Share) (row : Share) → 0 < length (rows_on zone (rows ++ row ∷ []) (day_at zone row.start))
 more_rows zone rows row =
     rw rows_on-same (omega (arith, length-append (rows_on zone rows (day_at zone row.start)) (row ∷ [])))
@@ -103,8 +105,8 @@ earlier-other day accounts earlier = λ k d lt same. let before = earlier k d lt
 later-other : (day : ℤ) (accounts : List DayAccount) → All (Later day) accounts → All (Other day) accounts
 later-other day accounts later = λ k d lt same. let after = later k d lt in omega (arith, signed_arith, after, same)
 
--- Adding a row to a day that has a day account replaces this account by that of all rows of the
--- day.
+-- Adding an interval row to a day that has a day account (its energy) replaces this account by that
+-- of all rows of the day.
 pub replaced : (zone : Zone) (rows : List Share) (row : Share) (before : List DayAccount) (a b : DayAccount) (after : List DayAccount)
     → AreAccounts zone rows (before ++ a ∷ after) → a.day ≡ day_at zone row.start → b ≡ account_on zone (rows ++ row ∷ []) (day_at zone row.start)
     → AreAccounts zone (rows ++ row ∷ []) (before ++ b ∷ after)
@@ -131,7 +133,8 @@ replaced zone rows row before a b after was same exact =
           (others-exact zone rows row after (All-tail (IsExact zone rows) a after parts.1) (later-other day after later)));
     }
 
--- Adding a row to a day without rows inserts the day account of this row.
+-- Adding an interval row to a day without rows inserts the day account (the energy of the day) with
+-- this row alone.
 pub inserted : (zone : Zone) (rows : List Share) (row : Share) (before : List DayAccount) (b : DayAccount) (after : List DayAccount)
     → AreAccounts zone rows (before ++ after) → All (Earlier (day_at zone row.start)) before → All (Later (day_at zone row.start)) after
     → b ≡ account_on zone (rows ++ row ∷ []) (day_at zone row.start) → AreAccounts zone (rows ++ row ∷ []) (before ++ b ∷ after)
@@ -192,7 +195,8 @@ begun zone rows row old new accounts begins =
     ap_account day refl (omega arith) ∙ sym (ap of_rows (rows_on-same zone rows row ∙ ap (λ (rs : List Share). rs ++ row ∷ []) none)) in
     rw begins.new_is (inserted zone rows row before b after was begins.earlier begins.later exact)
 
--- Whether a start equals the latest start of all rows before. False if there are no rows before.
+-- True if a start equals the latest start of all earlier interval rows. False if there are no
+-- earlier rows.
 abbrev pub is_latest : Option ℕ → ℕ → Bool
 is_latest None start = false
 is_latest (Some latest) start = latest == start

@@ -1,4 +1,5 @@
--- The rows of a day, and the number of their different starts, after one more row is added.
+-- Lemmas on the interval rows of a day, and the number of their different starts, after one more
+-- row is added.
 use Rattle.std.proofs.Common.{◌≡◌, ◌≢◌, ℕ, ◌+◌, ◌<◌, ◌≤◌, ◌||◌, ◌==◌, if◌then◌else◌, cond, Bool, true, false, List, [], ◌∷◌, ◌++◌, refl, sym, ap, subst, ◌∙◌, inl, inr, arith}
 use Rattle.std.specs.Prelude.{ℤ, All, Contains, filter}
 use Rattle.std.specs.List.{list_any}
@@ -14,14 +15,14 @@ use Rattle.interval_core.specs.Account.{starts_of, energy_of}
 use Rattle.interval_core.specs.Zone.{day_at}
 use Rattle.interval_core.specs.Days.{rows_on, distinct_count}
 
--- Whether a start is in a list of starts.
+-- True if a start is in a list of starts.
 abbrev pub among : ℕ → List ℕ → Bool
 among start starts = list_any (λ n. n == start) starts
 
 abbrev one_if_new : Bool → ℕ
 one_if_new known = if known then 0 else 1
 
--- Adding a row appends it to the rows of its civil day.
+-- Adding an interval row appends the row to the rows of its civil day.
 pub rows_on-same : (zone : Zone) (rows : List Share) (row : Share) → rows_on zone (rows ++ row ∷ []) (day_at zone row.start) ≡ rows_on zone rows (day_at zone row.start) ++ row ∷ []
 rows_on-same zone rows row =
     let day = day_at zone row.start in
@@ -96,7 +97,8 @@ present zone (row ∷ rows) start contains =
           ]
     ]
 
--- A start that is later than the starts of all rows is not among the starts of a day's rows.
+-- A start that is later than the starts of all interval rows is not among the starts of a day's
+-- rows.
 pub missing : (zone : Zone) (rows : List Share) (day : ℤ) (start : ℕ) → All (λ (row : Share). row.start < start) rows → among start (starts_of (rows_on zone rows day)) ≡ false
 missing zone [] day start earlier = refl
 missing zone (row ∷ rows) day start earlier =
@@ -109,7 +111,7 @@ missing zone (row ∷ rows) day start earlier =
       | false ↦ none
     ]
 
--- The energy of the rows of a day is at most the energy of all rows.
+-- The energy of the interval rows of a day is at most the energy of all rows.
 pub energy-rows_on : (zone : Zone) (rows : List Share) (day : ℤ) → energy_of (rows_on zone rows day) ≤ energy_of rows
 energy-rows_on zone [] day = omega arith
 energy-rows_on zone (row ∷ rows) day =

@@ -7,8 +7,8 @@ use Rattle.interval_core.specs.declared.limits.TheConstants.{MAX_STEP_SECONDS, M
 use Rattle.interval_core.specs.Account.{Touches}
 use Rattle.interval_core.specs.Fold.{IsSoundFold}
 
--- A step that ends with its 3,000th interval touches 3,000 intervals, and a step one second longer
--- touches 3,001.
+-- A step (the energy between two readings) that ends with its 3,000th quarter hour touches 3,000
+-- quarter hours. One second more makes 3,001.
 longest_step : intervals_touched 0 2700000 ≡ 3000
 longest_step = refl
 
@@ -18,21 +18,22 @@ step_too_long = refl
 most_seconds : MAX_STEP_SECONDS ≡ 2700000
 most_seconds = refl
 
--- An interval includes its last second, and excludes the first second of the next interval.
+-- A quarter-hour interval includes its last second, and excludes the first second of the next
+-- interval.
 last_second : Touches (record { from = 899; till = 900; mwh = 1 }) 0
 last_second = (refl, omega arith, omega arith)
 
 first_second_of_the_next : Touches (record { from = 900; till = 901; mwh = 1 }) 0 → ⊥
 first_second_of_the_next touches = omega (arith, touches.2)
 
--- The latest row of a fold may begin up to the beginning of 2100.
+-- The latest row that a `DayFold` adds up may begin up to the beginning of 2100.
 last_moment : IsSoundFold [] (Some 4102444800)
 last_moment = record { in_order = tt; counts = λ k d lt. absurd (omega (arith, lt)); moments = lit≤ tt }
 
 past_the_last_moment : IsSoundFold [] (Some 4102444801) → ⊥
 past_the_last_moment fold = omega (arith, fold.moments)
 
--- The text of a zone has at most 64 bytes.
+-- The text of a time zone has at most 64 bytes.
 longest_zone_text : nat_le 64 MAX_ZONE_TEXT ≡ true
 longest_zone_text = refl
 

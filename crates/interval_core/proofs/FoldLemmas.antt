@@ -1,4 +1,4 @@
--- The invariant and the model of `DayFold` after one more row is pushed.
+-- Lemmas on `DayFold`, which adds up energy by civil day, after one more row is added.
 use Rattle.std.proofs.Common.{◌≡◌, ◌≢◌, ℕ, ◌+◌, ◌-◌, ◌^◌, ◌<◌, ◌≤◌, min, Bool, true, false, not, if◌then◌else◌, List, [], ◌∷◌, ◌++◌, map, length, get_or, take, refl, sym, ap, subst, ◌∙◌, inl, inr, ◌==◌, nat_eq, arith}
 use Rattle.std.specs.Prelude.{ℤ, All, Option, Some, None}
 use Rattle.std.specs.Option.{ForSome, option_eq}
@@ -22,14 +22,16 @@ use Rattle.interval_core.proofs.AccountLemmas.{grown, begun, known-is, is_known,
 pub All-of_map : {X Y : Type 0} (P : Y → Type 0) (f : X → Y) (xs : List X) → All P (map f xs) → All (λ x. P (f x)) xs
 All-of_map P f xs all = λ k d lt. rw (← get_or-map f xs k d (f d) lt) (all k (f d) (rw (length-map xs f) lt))
 
--- As long as the invariant of a fold holds, no day's number of intervals reaches 2^32 - 1.
+-- If the invariant of a `DayFold` (energy by civil day) holds, no day's number of intervals reaches
+-- 2^32 - 1.
 pub count-fits : (latest : Option ℕ) (totals : List DayTotal) → IsSoundFold (map account_of totals) latest → All (λ (total : DayTotal). total.count < 2 ^ 32 - 1) totals
 count-fits latest totals sound = λ k d lt.
     let P : DayAccount → Type 0 = λ a. a.count ≤ most_intervals latest in
     let small = All-of_map P account_of totals sound.counts k d lt in
     omega (arith, small, sound.moments)
 
--- The program's comparison of the latest start with a start computes `is_latest`.
+-- Comparing the optional latest start with a start, as the program does, gives the same result as
+-- the definition `is_latest`.
 pub is_latest-eq : (latest : Option ℕ) (start : ℕ) → option_eq nat_eq latest (Some start) ≡ is_latest latest start
 is_latest-eq None start = refl
 is_latest-eq (Some latest) start = refl
@@ -106,7 +108,7 @@ taken-added zone rows row latest old new taken order fits (inr begins) = record 
   latest = latest-push rows latest row taken.latest order;
 }
 
--- A new fold has added up the empty list of rows.
+-- A new `DayFold`, which adds up energy by civil day, has added up the empty list of rows.
 pub taken-none : (zone : Zone) → HasTaken zone [] no_rows
 taken-none zone = record {
   accounts = record {
@@ -131,6 +133,7 @@ latest-before rows i latest d order within at =
     let le : (get_or rows k d).start ≤ (get_or rows i d).start = order k i d (omega (arith, before)) within in
     omega (arith, le, is, ap start same)
 
--- The energy of the first rows of a list grows by the energy of the next row.
+-- The energy of the first `i` + 1 rows is the energy of the first `i` rows plus that of the next
+-- row.
 pub energy-more : (rows : List Share) (i : ℕ) (d : Share) → i < length rows → energy_of (take (i + 1) rows) ≡ energy_of (take i rows) + (get_or rows i d).mwh
 energy-more rows i d within = sum_by_more (λ (row : Share). row.mwh) rows i d within

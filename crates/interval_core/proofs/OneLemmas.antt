@@ -1,4 +1,4 @@
--- Each list of interval rows has exactly one list of day accounts.
+-- Each list of interval rows has exactly one list of day accounts (the energy of each civil day).
 use Rattle.std.proofs.Common.{◌≡◌, List, [], ◌∷◌, ◌++◌, refl, sym, ap, subst, ◌∙◌, inl, inr, append_assoc, arith}
 use Rattle.std.specs.Prelude.{ℤ, ◌<ℤ◌, ◌⊎◌, All, Contains}
 use Rattle.std.specs.Cmp.{int_ranks}
@@ -21,8 +21,8 @@ by_order : {P : Type 0} (x y : ℤ) → (x <ℤ y → P) → (x ≡ y → P) →
 by_order {P} x y less equal greater =
     elim (int_cmp x y) as (λ r. MatchOrdering r (x <ℤ y) (x ≡ y) (y <ℤ x) → P) [ Less ↦ less | Equal ↦ equal | Greater ↦ greater ] (int_ranks x y)
 
--- ---- a list of accounts exists: each day either has an account in the list or has none
--- The list has an account of the day, with the accounts before and after it.
+-- States that a list of day accounts (energies of civil days) has an account of the day `day`, and
+-- accounts before and after it.
 
 record Among (day : ℤ) (accounts : List DayAccount) : Type 0 where
   pub before : List DayAccount
@@ -87,13 +87,13 @@ more zone done (row ∷ rows) so_far =
 pub exists_for : (zone : Zone) (rows : List Share) → (accounts : List DayAccount) × AreAccounts zone rows accounts
 exists_for zone rows = more zone [] rows ([], (taken-none zone).accounts)
 
--- ---- no second list of accounts exists
 -- The list of days contains the day of the first account.
 
 first-contained : (a : DayAccount) (accounts : List DayAccount) → Contains (days_of (a ∷ accounts)) a.day
 first-contained a accounts = (0, omega arith, refl)
 
--- A day before all days of a list of day accounts has no day account.
+-- A day before all days in a list of day accounts (energies of civil days) has no account in the
+-- list.
 before-all : (day : ℤ) (a : DayAccount) (accounts : List DayAccount) → AreInOrder (a ∷ accounts) → day <ℤ a.day → Contains (days_of (a ∷ accounts)) day → ⊥
 before-all day a accounts order lt =
     not_contained day (a ∷ accounts) (All-cons (Other day) a accounts
@@ -103,8 +103,8 @@ before-all day a accounts order lt =
 none-contained : (day : ℤ) → Contains (days_of []) day → ⊥
 none-contained day contains = omega (arith, contains.1)
 
--- Suppose that two lists of accounts begin with the same day. If a later day of the first list is
--- in the second list, the day is also in the second list without its first account.
+-- Suppose that two lists of day accounts begin with the same day. If a later day of the first list
+-- is in the second list, the day is also in the second list without its first account.
 following : (a b : DayAccount) (xs ys : List DayAccount) → a.day ≡ b.day → AreInOrder (a ∷ xs) → (d : ℤ)
     → (Contains (days_of (a ∷ xs)) d → Contains (days_of (b ∷ ys)) d) → Contains (days_of xs) d → Contains (days_of ys) d
 following a b xs ys same order d into contains =

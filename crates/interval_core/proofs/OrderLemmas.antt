@@ -1,4 +1,4 @@
--- Lists of day accounts in the order of their days.
+-- Lemmas on lists of day accounts (energies of civil days) in the order of their days.
 use Rattle.std.proofs.Common.{◌≡◌, ℕ, zero, suc, ◌<◌, List, [], ◌∷◌, ◌++◌, length, get_or, take, true, false, arith}
 use Rattle.std.specs.Prelude.{ℤ, ◌<ℤ◌, ◌≤ℤ◌, All}
 use Rattle.std.specs.Cmp.{int_ranks}
@@ -8,15 +8,15 @@ use Rattle.jiff.proofs.SpanFacts.{signed_arith}
 use Rattle.std.proofs.lemmas.List.Elements.{All-nil, All-cons, All-head, All-tail, All-append, All-get_or}
 use Rattle.interval_core.specs.Days.{DayAccount, AreInOrder}
 
--- The day account (a number of intervals and an energy) is of a day before `day`.
+-- True if the day account (the energy of a civil day) is of a day before `day`.
 abbrev pub Earlier : ℤ → DayAccount → Type 0
 Earlier day account = account.day <ℤ day
 
 abbrev pub Later : ℤ → DayAccount → Type 0
 Later day account = day <ℤ account.day
 
--- If a day account in an ordered list is of an earlier day than `day`, all day accounts before it
--- are earlier too.
+-- If a day account in an ordered list is of a day before `day`, all accounts before it in the list
+-- are too. A day account is the energy of a civil day.
 pub earlier-take : (day : ℤ) (accounts : List DayAccount) (place : ℕ) (d : DayAccount) → AreInOrder accounts → place < length accounts
     → (get_or accounts place d).day <ℤ day → All (Earlier day) (take (suc place) accounts)
 earlier-take day [] place d order within last = absurd (omega arith)
@@ -32,8 +32,8 @@ All-split P (x ∷ xs) ys all =
     let tail = All-split P xs ys (All-tail P x (xs ++ ys) all) in
     (All-cons P x xs (All-head P x (xs ++ ys) all) tail.0, tail.1)
 
--- In an ordered list, the day accounts before a day account are of earlier days, and the day
--- accounts after it are of later days.
+-- In an ordered list of day accounts (energies of civil days), accounts before an account are of
+-- earlier days, and later accounts of later days.
 pub in_order-between : (before : List DayAccount) (a : DayAccount) (after : List DayAccount) → AreInOrder (before ++ a ∷ after)
     → All (Earlier a.day) before × All (Later a.day) after
 in_order-between [] a after order = (All-nil (Earlier a.day), order.0)
@@ -42,8 +42,8 @@ in_order-between (b ∷ before) a after order =
     let parts = All-split (Later b.day) before (a ∷ after) order.0 in
     (All-cons (Earlier a.day) b before (All-head (Later b.day) a after parts.1) tail.0, tail.1)
 
--- A list of day accounts stays in order if a day account is replaced by another day account of the
--- same day.
+-- A list of day accounts (energies of civil days) stays in order if an account is replaced by
+-- another account of the same day.
 pub in_order-changed : (before : List DayAccount) (a b : DayAccount) (after : List DayAccount) → b.day ≡ a.day → AreInOrder (before ++ a ∷ after)
     → AreInOrder (before ++ b ∷ after)
 in_order-changed [] a b after same order = (rw same order.0, order.1)
@@ -54,8 +54,8 @@ in_order-changed (x ∷ before) a b after same order =
       in_order-changed before a b after same order.1,
     )
 
--- A list of day accounts stays in order if a day account is inserted between the day accounts of
--- earlier days and the day accounts of later days.
+-- A list of day accounts (energies of civil days) stays in order if an account is inserted between
+-- the earlier and the later days.
 pub in_order-inserted : (before : List DayAccount) (a : DayAccount) (after : List DayAccount) → All (Earlier a.day) before → All (Later a.day) after
     → AreInOrder (before ++ after) → AreInOrder (before ++ a ∷ after)
 in_order-inserted [] a after earlier later order = (later, order)

@@ -1,4 +1,5 @@
--- The list of day accounts after a row is added at the index of its day.
+-- Lemmas on the list of day accounts (energies of civil days) after a row is added at the index of
+-- its day.
 use Rattle.std.proofs.Common.{◌≡◌, ◌≢◌, ℕ, zero, suc, ◌+◌, ◌-◌, ◌^◌, ◌<◌, ◌≤◌, min, List, [], ◌∷◌, ◌++◌, map, length, get_or, set, take, drop, sym, ap, ◌∙◌, refl, true, false, inl, inr, arith}
 use Rattle.std.specs.Prelude.{ℤ, ◌<ℤ◌, ◌≤ℤ◌, All, Contains, insert}
 use Rattle.std.specs.Ordering.{int_eq}
@@ -17,11 +18,11 @@ use Rattle.interval_core.proofs.OrderLemmas.{Earlier, Later}
 abbrev pub NotEarlier : ℤ → DayAccount → Type 0
 NotEarlier day account = day ≤ℤ account.day
 
--- The day account is of a day other than `day`.
+-- True if the day account (the energy of a civil day) is of a day other than `day`.
 abbrev pub Other : ℤ → DayAccount → Type 0
 Other day account = account.day ≢ day
 
--- The day account at an index of a converted list is the converted day total at this index.
+-- Converting a list of day totals to day accounts converts the day total at each index.
 pub account-at : (totals : List DayTotal) (n : ℕ) (t : DayTotal) → n < length totals → t ≡ get_or totals n t
     → get_or (map account_of totals) n (account_of t) ≡ account_of t
 account-at totals n t within is = get_or-map account_of totals n t (account_of t) within ∙ sym (ap account_of is)
@@ -32,14 +33,15 @@ same_day x y test = (Decides-int_eq x y).0 test
 pub other_day : (x y : ℤ) → int_eq x y ≡ false → x ≢ y
 other_day x y test = not_from_Decides (int_eq x y) (Decides-int_eq x y) test
 
--- The day accounts from an index on are in order if the complete list is in order.
+-- The day accounts (energies of civil days) from an index on are in order if the complete list is
+-- in order.
 in_order-drop : (n : ℕ) (accounts : List DayAccount) → AreInOrder accounts → AreInOrder (drop n accounts)
 in_order-drop zero accounts order = order
 in_order-drop (suc n) [] order = tt
 in_order-drop (suc n) (a ∷ accounts) order = in_order-drop n accounts order.1
 
--- If the day account at a day's index is of another day, all day accounts from this index on are of
--- later days.
+-- Suppose that the day account (the energy of a civil day) at a day's index is of another day. Then
+-- this account and all following accounts are of later days.
 pub later-from : (day : ℤ) (accounts : List DayAccount) (n : ℕ) (d : DayAccount) → AreInOrder accounts → n ≤ length accounts → All (NotEarlier day) (drop n accounts)
     → (n < length accounts → (get_or accounts n d).day ≢ day) → All (Later day) (drop n accounts)
 later-from day accounts n d order within others other =
@@ -59,8 +61,8 @@ later-from day accounts n d order within others other =
           rw none (All-nil (Later day))
     ]
 
--- Replacing a day account by another of the same day, with more intervals and energy, produces the
--- list that `Grows` describes.
+-- Replacing a day account by an account of the same day, with more intervals and energy, produces
+-- the list that `Grows` describes.
 pub grows : (day : ℤ) (count mwh : ℕ) (totals : List DayTotal) (n : ℕ) (t u : DayTotal) → HoldsDay day (map account_of totals) n → t ≡ get_or totals n t
     → epoch_day u.day ≡ day → u.count ≡ t.count + count → u.mwh ≡ min (t.mwh + mwh) (2 ^ 128 - 1)
     → Grows day count mwh (map account_of totals) (map account_of (set totals n u))
@@ -82,7 +84,8 @@ grows day count mwh totals n t u holds is there counted added =
           ∙ ap (λ (a : DayAccount). take n accounts ++ a ∷ drop (suc n) accounts) new;
     }
 
--- Inserting a day account of a day that has none produces the list that `Begins` describes.
+-- Inserting a day account for a day without one produces the list of day accounts that `Begins`
+-- describes.
 pub begins : (day : ℤ) (mwh : ℕ) (totals : List DayTotal) (n : ℕ) (u : DayTotal) → IsGap day (map account_of totals) n
     → epoch_day u.day ≡ day → u.count ≡ 1 → u.mwh ≡ mwh → Begins day mwh (map account_of totals) (map account_of (insert totals n u))
 begins day mwh totals n u gap there counted added =
@@ -98,7 +101,8 @@ begins day mwh totals n u gap there counted added =
           ∙ rw (take-map account_of n totals, drop-map account_of n totals, new);
     }
 
--- If all day accounts of a list are of earlier or later days, no day account is of the day.
+-- If all day accounts of a list are of days earlier or later than a given day, no day account is of
+-- this day.
 pub absent : (day : ℤ) (before after : List DayAccount) → All (Earlier day) before → All (Later day) after → All (Other day) (before ++ after)
 absent day before after earlier later =
     All-append (Other day) before after

@@ -1,4 +1,5 @@
--- The interval rows of a list of steps add up to the energy of the steps.
+-- The interval rows of a list of steps add up to the energy of the steps. A step is the energy
+-- between two readings.
 use Rattle.std.proofs.Common.{◌≡◌, ℕ, ◌+◌, ◌-◌, ◌*◌, ◌/◌, ◌%◌, ◌<◌, ◌≤◌, min, max, List, [], ◌∷◌, get_or, sum_by, refl, sym, ap, ◌∙◌, inl, inr, arith}
 use Rattle.std.specs.Prelude.{All, Contains}
 use Rattle.std.proofs.lemmas.Bool.{cases_lt}
@@ -12,14 +13,13 @@ use Rattle.interval_core.specs.Account.{Touches, IsAscending, IsAccount, starts_
 use Rattle.interval_core.proofs.ShareLemmas.{running_mono}
 use Rattle.interval_core.proofs.SumLemmas.{running-from, running-till}
 
--- ---- the interval rows of one step
--- A time that is the start of an interval, at or after `bound`.
+-- True if a time is the start of a quarter-hour interval, at or after `bound`.
 
 abbrev IsStartFrom : ℕ → ℕ → Type 0
 IsStartFrom bound start = (bound ≤ start) × (start % 900 ≡ 0)
 
--- The start of the first interval at or after `bound` that the step touches, if the step does not
--- end before it.
+-- The start of the first quarter hour at or after `bound` that the step (the energy between two
+-- readings) touches. The step must end after this start.
 abbrev first_from : Step → ℕ → ℕ
 first_from step bound = max bound (step.from / 900 * 900)
 
@@ -47,8 +47,8 @@ in_rest x xs t lt contains =
       | inr there ↦ there
     ]
 
--- The shares of all touched intervals from `bound` on add up to the energy of the step after the
--- time `bound`.
+-- The shares of a step in the intervals that start from `bound` on add up to the step's energy
+-- after `bound`. A share is the energy in one quarter hour.
 energy-from : (step : Step) (xs : List ℕ) (bound : ℕ) → step.from < step.till → bound % 900 ≡ 0 → IsAscending xs → All (IsStartFrom bound) xs
     → ((t : ℕ) → bound ≤ t → Touches step t → Contains xs t)
     → sum_by (share_at step) xs ≡ running_energy step step.till - running_energy step (min (max bound step.from) step.till)
@@ -102,7 +102,6 @@ energy-from step (x ∷ xs) bound forward whole order starts has =
       ]
     ]
 
--- ---- the interval rows of all steps
 -- If two functions agree on each element of a list, their sums over the list are equal.
 
 same_sums : {X : Type 0} (f g : X → ℕ) (xs : List X) → All (λ x. f x ≡ g x) xs → sum_by f xs ≡ sum_by g xs

@@ -1,4 +1,5 @@
--- The running energy of a step, which is the step's energy up to a time.
+-- Lemmas on the energy of a step up to a time. A step is the energy between two readings of a
+-- meter.
 use Rattle.std.proofs.Common.{◌≡◌, ℕ, ◌+◌, ◌-◌, ◌*◌, ◌/◌, ◌<◌, ◌≤◌, suc, sym, ap, ◌∙◌, ◌∷◌, map, arith}
 use Rattle.std.specs.List.{range_with_len}
 use Rattle.std.proofs.Math.Nat.{mul-add-div_right, div-mul-le_self, mul-le-mul_left}
@@ -6,8 +7,8 @@ use Rattle.std.proofs.lemmas.Nat.{le-div}
 use Rattle.energy_core.specs.declared.entries.Step.{Step}
 use Rattle.interval_core.specs.Share.{running_energy}
 
--- The energy of a step up to a time can be computed in two parts: whole mWh for each second, and
--- the rest of the energy, spread over all seconds.
+-- The energy of a step (between two readings) up to a time has two parts: whole mWh for each
+-- second, and the rest, spread over all seconds.
 pub running-split : (each rest seconds passed : ℕ) → 0 < seconds → each * passed + rest * passed / seconds ≡ (each * seconds + rest) * passed / seconds
 running-split each rest seconds passed some =
     sym (mul-add-div_right some (each * passed) (rest * passed))
@@ -16,13 +17,14 @@ running-split each rest seconds passed some =
 pub div_mono : (a b n : ℕ) → 0 < n → a ≤ b → a / n ≤ b / n
 div_mono a b n some le = le-div (a / n) b n some (omega (arith, div-mul-le_self a n))
 
--- The running energy of a step never falls over time.
+-- The energy of a step (between two readings) up to a time never falls over time.
 pub running_mono : (step : Step) (a b : ℕ) → step.from < step.till → a ≤ b → running_energy step a ≤ running_energy step b
 running_mono step a b forward le =
     let order : a - step.from ≤ b - step.from = omega arith in
     div_mono (step.mwh * (a - step.from)) (step.mwh * (b - step.from)) (step.till - step.from) (omega arith) (mul-le-mul_left step.mwh order)
 
--- The list of remaining shares begins with the share of the next interval.
+-- The list of a step's remaining shares (its energies by quarter hour) begins with the share of the
+-- next quarter hour.
 pub left-next : {X : Type 0} (f : ℕ → X) (next end : ℕ) → next < end → map f (range_with_len next (end - next)) ≡ f next ∷ map f (range_with_len (next + 1) (end - (next + 1)))
 left-next f next end lt =
     let one_more : end - next ≡ suc (end - (next + 1)) = omega arith in

@@ -1,4 +1,5 @@
--- The shares of a step are the shares of the intervals that the step touches.
+-- A step (the energy between two readings) has a share in exactly the quarter hours that it
+-- touches.
 use Rattle.std.proofs.Common.{◌≡◌, ℕ, zero, suc, ◌+◌, ◌-◌, ◌*◌, ◌/◌, ◌<◌, List, ◌∷◌, map, refl, sym, ap, ◌∙◌, arith, min, max, inl, inr, ◌≤◌}
 use Rattle.std.specs.Prelude.{◌↔◌, All, Contains}
 use Rattle.std.specs.List.{range_with_len}
@@ -20,7 +21,7 @@ starts-left : (step : Step) (count next : ℕ) → starts_of (map (share_of step
 starts-left step zero next = refl
 starts-left step (suc count) next = ap (λ (l : List ℕ). next * 900 ∷ l) (starts-left step count (next + 1))
 
--- The starts of the shares of a step ascend.
+-- The shares of a step (its energies by quarter hour) are in ascending order of their starts.
 rising : (count next : ℕ) → IsAscending (map start_of (range_with_len next count))
 rising zero next = tt
 rising (suc count) next =
@@ -52,7 +53,8 @@ touched-starts step start forward =
           ),
     )
 
--- An interval entirely before or after a step has a share of 0.
+-- In a quarter hour that is entirely before or after a step (the energy between two readings), the
+-- step has the energy 0.
 outside-zero : (step : Step) (start : ℕ) → step.from < step.till → (start + 900 ≤ step.from) ⊎ (step.till ≤ start) → share_at step start ≡ 0
 outside-zero step start forward (inl before) =
     let up = running_mono step (min (start + 900) step.till) (max start step.from) forward (omega (arith, before)) in

@@ -1,4 +1,4 @@
--- The shares of a step add up to the step's energy.
+-- The shares of a step (its energies by quarter hour) add up to the step's energy.
 use Rattle.std.proofs.Common.{◌≡◌, ℕ, zero, suc, ◌+◌, ◌-◌, ◌*◌, ◌/◌, ◌<◌, ◌≤◌, min, max, ap, map, arith}
 use Rattle.std.specs.List.{range_with_len}
 use Rattle.std.proofs.Math.Nat.{mul-div_cancel, mul-zero, zero-div}
@@ -18,8 +18,8 @@ running-from step =
 pub running-till : (step : Step) → step.from < step.till → running_energy step step.till ≡ step.mwh
 running-till step forward = mul-div_cancel step.mwh (omega arith)
 
--- The shares of the intervals from `next` on add up to the energy of the step after the start of
--- interval `next`.
+-- The shares of a step (its energies by quarter hour) from number `next` on add up to its energy
+-- after the start of this share.
 pub energy-left : (step : Step) (count next : ℕ) → step.from < step.till → step.from / 900 ≤ next → next + count ≡ (step.till - 1) / 900 + 1
     → energy_of (map (share_of step) (range_with_len next count)) ≡ running_energy step step.till - running_energy step (min (max (next * 900) step.from) step.till)
 energy-left step zero next forward begun end =

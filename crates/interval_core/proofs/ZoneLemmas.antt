@@ -1,4 +1,4 @@
--- The text of a POSIX rule determines the UTC offsets of its zone.
+-- The text of a POSIX rule determines the UTC offsets of the time zone that it describes.
 use Rattle.std.proofs.Common.{◌≡◌, ℕ, Bool, true, false, Option, Some, None, List, sym, ap, ◌∙◌, unwrap_or}
 use Rattle.std.specs.Prelude.{ℤ, pos, ◌+ℤ◌, ◌*ℤ◌, cond}
 use Rattle.std.specs.Int.{int_div_euclid}

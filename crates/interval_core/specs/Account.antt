@@ -1,31 +1,33 @@
--- The energy of a list of steps, added up by quarter-hour interval.
+-- The energy of a list of steps, added up by quarter hour. A step is the energy between two
+-- consecutive readings of a meter.
 use Rattle.std.specs.Prelude.{◌≡◌, ◌↔◌, ℕ, ◌+◌, ◌%◌, ◌<◌, ◌≤◌, ◌⊎◌, List, [], ◌∷◌, map, All, Any, Contains, sum_by}
 use Rattle.energy_core.specs.declared.entries.Step.{Step}
 use Rattle.energy_core.specs.declared.limits.TheConstants.{INTERVAL_SECONDS}
 use Rattle.interval_core.specs.declared.shares.Share.{Share}
 use Rattle.interval_core.specs.Share.{share_at, shares_of}
 
--- A step touches the quarter-hour interval from `start`: the step and the interval have a second in
--- common.
+-- States that a step (the energy between two readings) touches the quarter hour from `start`: the
+-- two have a second in common.
 abbrev pub Touches : Step → ℕ → Type 0
 Touches step start = (start % INTERVAL_SECONDS ≡ 0) × (start < step.till)
     × (step.from < start + INTERVAL_SECONDS)
 
--- The start times of the intervals of a list of rows.
+-- The start times of the quarter hours in a list of interval rows.
 abbrev pub starts_of : List Share → List ℕ
 starts_of rows = map (λ row. row.start) rows
 
--- The sum of the energies of interval rows, in mWh.
+-- The sum of the energies of interval rows (energies of quarter hours), in mWh.
 abbrev pub energy_of : List Share → ℕ
 energy_of rows = sum_by (λ row. row.mwh) rows
 
--- The numbers of a list ascend strictly: each number is less than all numbers after it.
+-- States that the numbers of a list ascend strictly: each number is less than all numbers after it.
 abbrev pub IsAscending : List ℕ → Type 0
 IsAscending [] = Unit {0}
 IsAscending (n ∷ ns) = All (λ later. n < later) ns × IsAscending ns
 
--- A list has one share for each interval that the step touches, in order. The shares add up to the
--- energy of the step. An interval that the step does not touch has a share of 0.
+-- States that `shares` has the energy of a step (between two readings) in each quarter hour that it
+-- touches, in order. The shares add up to the step's energy. The step has no energy in any other
+-- quarter hour.
 pub record IsSpread (step : Step) (shares : List Share) : Type 0 where
   pub in_order : IsAscending (starts_of shares)
   pub touched : (start : ℕ) → Contains (starts_of shares) start ↔ Touches step start
@@ -34,20 +36,21 @@ pub record IsSpread (step : Step) (shares : List Share) : Type 0 where
       → share_at step start ≡ 0
   pub whole : energy_of shares ≡ step.mwh
 
--- Theorem: `shares_of` divides the energy of every step as `IsSpread` describes.
+-- Theorem: `shares_of` divides the energy of every step (between two readings) into quarter hours
+-- as `IsSpread` describes.
 abbrev pub SharesAddUp : Type 0
 SharesAddUp = (step : Step) → step.from < step.till → IsSpread step (shares_of step)
 
--- `rows` contains one row for each interval that a step touches, in order. Each row is the sum of
--- the shares of all steps in its interval.
+-- States that `rows` contains one row for each quarter hour that a step touches, in order. Each row
+-- is the sum of all steps' energies in its quarter hour.
 pub record IsAccount (steps : List Step) (rows : List Share) : Type 0 where
   pub in_order : IsAscending (starts_of rows)
   pub touched : (start : ℕ)
       → Contains (starts_of rows) start ↔ Any (λ step. Touches step start) steps
   pub each : All (λ row. row.mwh ≡ sum_by (λ step. share_at step row.start) steps) rows
 
--- Theorem: interval rows that are the sums of the steps' shares (`IsAccount`) have the same total
--- energy as the steps.
+-- Theorem: interval rows that are the sums of the steps' energies in each quarter hour
+-- (`IsAccount`) have the same total energy as the steps.
 abbrev pub AccountsAddUp : Type 0
 AccountsAddUp = (steps : List Step) (rows : List Share) → All (λ step. step.from < step.till) steps
     → IsAccount steps rows

@@ -1,16 +1,16 @@
--- The numbers of the faults of zones and civil days.
+-- The numeric codes of the faults of time zones and civil days.
 use Rattle.std.specs.Prelude.{ℕ}
 use Rattle.interval_core.specs.declared.zone.ZoneFault.{ZoneFault}
 use Rattle.interval_core.specs.declared.zone.ZoneFault.TheVariants as zone
 use Rattle.interval_core.specs.declared.day.DayFault.{DayFault}
 use Rattle.interval_core.specs.declared.day.DayFault.TheVariants as day
 
--- The number of each fault of a text that should describe a time zone.
+-- The numeric code of each reason why a text does not describe a time zone.
 abbrev pub zone_fault_number : ZoneFault → ℕ
 zone_fault_number zone.Text = 1
 zone_fault_number zone.Memory = 2
 
--- The number of each reason why a timestamp has no civil day.
+-- The numeric code of each reason why a timestamp has no civil day.
 abbrev pub day_fault_number : DayFault → ℕ
 day_fault_number day.Zone = 1
 day_fault_number day.Memory = 2

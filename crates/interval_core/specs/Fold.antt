@@ -1,4 +1,5 @@
--- The model of `DayFold`, which adds up interval rows by civil day as they arrive.
+-- The model of `DayFold`, which adds up interval rows (energies of quarter hours) by civil day as
+-- they arrive.
 use Rattle.std.specs.Prelude.{◌≡◌, ℕ, ℤ, ◌+◌, ◌-◌, ◌≤◌, ◌<◌, ◌<ℤ◌, ◌≤ℤ◌, ◌^◌, min, Option, Some, None, MatchOption, List, [], ◌∷◌, ◌++◌, length, take, drop, All, Contains, Bool, if◌then◌else◌, ◌⊎◌, Result, OnOk}
 use Rattle.std.specs.List.{HoldsAt}
 use Rattle.interval_core.specs.declared.day.DayFault.{DayFault}
@@ -8,67 +9,70 @@ use Rattle.interval_core.specs.declared.zone.Zone.{Zone}
 use Rattle.interval_core.specs.Account.{energy_of, starts_of}
 use Rattle.interval_core.specs.Days.{DayAccount, AreAccounts, AreInOrder}
 
--- The state of a `DayFold`: the day accounts of all pushed rows, and the start of the latest row.
--- The start is `None` if no row was pushed.
+-- The state of a `DayFold`: the energy by civil day of all rows that were added, and the start of
+-- the latest row. The start is `None` if no row was added.
 pub record FoldState : Type 0 where
   pub accounts : List DayAccount
   pub latest : Option ℕ
 
--- The state of a `DayFold` to which no row was pushed.
+-- The state of a `DayFold` (energy by civil day) to which no row was added.
 abbrev pub no_rows : FoldState
 no_rows = record { accounts = []; latest = None }
 
--- `latest` is the latest start of a list of interval rows, or `None` if the list is empty.
+-- True if `latest` is the latest start of a list of interval rows, or `None` if the list is empty.
 abbrev pub IsLatest : List Share → Option ℕ → Type 0
 IsLatest rows latest =
     MatchOption latest (rows ≡ [])
     (λ start. Contains (starts_of rows) start × All (λ row. row.start ≤ start) rows)
 
--- The `DayFold` has added up exactly the rows of a list, each on its civil day in the zone.
+-- States that a `DayFold` has added up exactly the rows of a list, each on its civil day in the
+-- time zone.
 pub record HasTaken (zone : Zone) (rows : List Share) (fold : FoldState) : Type 0 where
   pub accounts : AreAccounts zone rows fold.accounts
   pub latest : IsLatest rows fold.latest
 
--- A successful `push` adds a row to the rows that the fold added up before. The energy of all rows
--- must be less than 2^128 mWh.
+-- The contract of `push`: if it succeeds, it adds a row to the rows that the `DayFold` added up
+-- before. The energy of all rows must be less than 2^128 mWh.
 abbrev pub TakesRow : Zone → Share → (old : FoldState) → Result (Unit {0}) DayFault
     → (new : FoldState) → Type 0
 TakesRow zone row old answer new = (rows : List Share) → HasTaken zone rows old
     → energy_of rows + row.mwh < 2 ^ 128
     → OnOk answer (HasTaken zone (rows ++ row ∷ []) new)
 
--- An upper bound of the number of intervals of a day: one for each second up to the start of the
--- latest row.
+-- An upper bound of the number of quarter hours of a day: one for each second up to the start of
+-- the latest row.
 abbrev pub most_intervals : Option ℕ → ℕ
 most_intervals None = 0
 most_intervals (Some start) = start + 1
 
--- The invariant of a `DayFold`, over its day accounts and the start of its latest row.
+-- The invariant of a `DayFold` (energy by civil day), over its day accounts and the start of its
+-- latest row.
 pub record IsSoundFold (accounts : List DayAccount) (latest : Option ℕ) : Type 0 where
   pub in_order : AreInOrder accounts
   pub counts : All (λ account. account.count ≤ most_intervals latest) accounts
   pub moments : most_intervals latest ≤ LAST_MOMENT + 1
 
--- `place` is the index at which a day belongs in a list of day accounts. Day accounts before this
--- index are of earlier days, and the other day accounts are not.
+-- States that `place` is the index at which a day belongs in a list of day accounts (energies of
+-- civil days). Accounts before this index are of earlier days, and the other accounts are not.
 pub record IsPlace (day : ℤ) (accounts : List DayAccount) (place : ℕ) : Type 0 where
   pub earlier : All (λ account. account.day <ℤ day) (take place accounts)
   pub others : All (λ account. day ≤ℤ account.day) (drop place accounts)
 
--- The day account at the index `place` of a list is that of a given day.
+-- True if the day account (the energy of a civil day) at the index `place` of a list is that of a
+-- given day.
 abbrev pub HoldsDay : ℤ → List DayAccount → ℕ → Type 0
 HoldsDay day accounts place =
     (place < length accounts) × HoldsAt (λ account. account.day ≡ day) accounts place
 
--- The day has no day account. Day accounts before the index `place` are of earlier days, and the
--- other day accounts are of later days.
+-- States that a day has no day account (its energy) in a list. Accounts before the index `place`
+-- are of earlier days, and the other accounts are of later days.
 pub record IsGap (day : ℤ) (accounts : List DayAccount) (place : ℕ) : Type 0 where
   pub within : place ≤ length accounts
   pub earlier : All (λ account. account.day <ℤ day) (take place accounts)
   pub later : All (λ account. day <ℤ account.day) (drop place accounts)
 
--- Between the lists `old` and `new`, the day account of a day grows by `count` intervals and `mwh`
--- of energy. The energy saturates at 2^128 - 1 mWh.
+-- States that the lists `old` and `new` differ in one day's account (its energy), which grows by
+-- `count` quarter hours and `mwh` of energy. The energy saturates at 2^128 - 1 mWh.
 pub record Grows (day : ℤ) (count mwh : ℕ) (old new : List DayAccount) : Type 0 where
   pub before : List DayAccount
   pub after : List DayAccount
@@ -82,7 +86,8 @@ pub record Grows (day : ℤ) (count mwh : ℕ) (old new : List DayAccount) : Typ
         mwh = min (had_mwh + mwh) (2 ^ 128 - 1);
       } ∷ after
 
--- The day has no day account in the list `old`, and has a day account in the list `new`.
+-- States that a day has no day account (its energy) in the list `old`, and has an account in the
+-- list `new`.
 pub record Begins (day : ℤ) (mwh : ℕ) (old new : List DayAccount) : Type 0 where
   pub before : List DayAccount
   pub after : List DayAccount
@@ -91,8 +96,8 @@ pub record Begins (day : ℤ) (mwh : ℕ) (old new : List DayAccount) : Type 0 w
   pub old_is : old ≡ before ++ after
   pub new_is : new ≡ before ++ record { day = day; count = 1; mwh = mwh } ∷ after
 
--- A row of `mwh` energy was added to the day account of its day, or began this day account. If
--- `is_new`, an existing day account counts another interval.
+-- True if `mwh` of energy was added to the day account of a day, or began this day account. If
+-- `is_new`, an existing day account counts another quarter hour.
 abbrev pub IsAdded : ℤ → Bool → ℕ → List DayAccount → List DayAccount → Type 0
 IsAdded day is_new mwh old new =
     Grows day (if is_new then 1 else 0) mwh old new ⊎ Begins day mwh old new

@@ -1,4 +1,4 @@
--- Time zones and civil days. The crate `jiff` defines the UTC offset of a zone.
+-- Defines time zones and civil days. The crate `jiff` defines the UTC offset of a zone.
 use Rattle.std.specs.Prelude.{◌≡◌, ◌≤◌, ℕ, ℤ, pos, ◌+ℤ◌, ◌*ℤ◌, IsSome, List, length}
 use Rattle.std.specs.Int.{int_div_euclid}
 use Rattle.jiff.specs.Words.{offset_at, plain_zone}
@@ -8,20 +8,20 @@ use Rattle.jiff.specs.declared.tz.timezone.TimeZone.{TimeZone}
 use Rattle.interval_core.specs.declared.limits.TheConstants.{MAX_ZONE_TEXT}
 use Rattle.interval_core.specs.declared.zone.Zone.{Zone}
 
--- The zone as a `TimeZone` of the crate `jiff`.
+-- The time zone as a `TimeZone` of the crate `jiff`.
 abbrev pub rule_of : Zone → TimeZone
 rule_of zone = zone.rule
 
--- `jiff` parses the text as the POSIX rule of the zone.
+-- States that `jiff` parses a text as the POSIX rule of a time zone.
 abbrev pub HasRule : List ℕ → Zone → Type 0
 HasRule text zone = IsPosixZone text (plain_zone (rule_of zone))
 
--- A text describes a zone: `jiff` parses it as a POSIX rule, and it has at most `MAX_ZONE_TEXT`
--- bytes.
+-- States that a text describes a time zone: `jiff` parses it as a POSIX rule, and it has at most
+-- `MAX_ZONE_TEXT` bytes.
 abbrev pub IsZoneText : List ℕ → Type 0
 IsZoneText text = IsSome (read_whole text) × (length text ≤ MAX_ZONE_TEXT)
 
--- The UTC offset of the zone at a timestamp, in seconds.
+-- The UTC offset of the time zone at a timestamp, in seconds.
 abbrev pub offset_of : Zone → ℕ → ℤ
 offset_of zone moment = offset_at (plain_zone (rule_of zone)) (pos moment *ℤ pos 1_000_000_000)
 
@@ -30,7 +30,7 @@ offset_of zone moment = offset_at (plain_zone (rule_of zone)) (pos moment *ℤ p
 abbrev pub day_at : Zone → ℕ → ℤ
 day_at zone moment = int_div_euclid (pos moment +ℤ offset_of zone moment) (pos 86_400)
 
--- Theorem: two zones that were parsed from the same text have the same civil day at every
+-- Theorem: two time zones that were parsed from the same text have the same civil day at every
 -- timestamp.
 abbrev pub ZonesAreOne : Type 0
 ZonesAreOne = (text : List ℕ) (a b : Zone) → HasRule text a → HasRule text b → (moment : ℕ)

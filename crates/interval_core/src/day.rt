@@ -23,7 +23,8 @@ pub enum DayFault {
 }
 
 impl DayFault {
-    /// Returns the number of the fault, from 1. The program does not print or store this number.
+    /// Returns the numeric code of the fault, from 1. The program does not print or store this
+    /// number.
     pub fn number(self) -> u8
         ensures { result ≡ day_fault_number self }
     {

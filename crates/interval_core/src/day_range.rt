@@ -48,7 +48,7 @@ impl DayRange {
     }
 
     /// Returns whether the end of the range is before its first day. Such a range contains no day.
-    /// A range whose end is its first day is not backward, but contains no day either.
+    /// A range whose end equals its first day is not backward, but also contains no day.
     pub fn is_backward(&self) -> bool
         ensures { result ≡ is_backward self.now }
     {

@@ -1,4 +1,5 @@
-//! The shares of a step's energy in the quarter-hour intervals that the step touches.
+//! The shares of a step (the energy between two consecutive readings) in the quarter hours that it
+//! touches.
 ghost use Rattle.std.specs.Prelude.{◌≡◌, ◌<◌, ◌≤◌};
 ghost use Rattle.std.specs.Iterator.{YieldsFirst, item_count};
 ghost use Rattle.energy_core.specs.Account.{intervals_touched};
@@ -16,8 +17,8 @@ pub struct Share {
     pub mwh: u64,
 }
 
-/// An iterator over the shares of a step, one for each interval that the step touches, in order.
-/// The iterator allocates nothing.
+/// An iterator over the shares of a step (the energy between two readings), one for each quarter
+/// hour that the step touches, in order. The iterator allocates nothing.
 #[derive(Drop)]
 pub struct Shares {
     spread: Spread,
@@ -40,7 +41,7 @@ impl Model for Shares {
 }
 
 impl Shares {
-    /// Returns an iterator over the shares of a step.
+    /// Returns an iterator over the shares of a step (its energies by quarter hour).
     pub fn of(step: &Step) -> Shares
         requires forward { step.now.from < step.now.till }
         requires intervals { intervals_touched step.now.from step.now.till ≤ MAX_INTERVALS }

@@ -1,4 +1,4 @@
-//! The energy of a step, spread evenly over the step's seconds.
+//! The energy of a step (between two consecutive readings), spread evenly over the step's seconds.
 ghost use Rattle.std.specs.Prelude.{◌≡◌, ◌+◌, ◌-◌, ◌*◌, ◌<◌, ◌≤◌};
 ghost use Rattle.energy_core.specs.declared.limits.TheConstants.{MAX_TOTAL};
 ghost use Rattle.interval_core.specs.declared.limits.TheConstants.{MAX_STEP_SECONDS};
@@ -6,8 +6,8 @@ ghost use Rattle.interval_core.specs.declared.limits.TheConstants.{MAX_STEP_SECO
 use crate::limits::MAX_STEP_SECONDS;
 use energy_core::{MAX_TOTAL, Step};
 
-/// The energy of a step by seconds. Every second has `each` mWh, and `left_over` mWh are spread
-/// over all seconds.
+/// The energy of a step (between two readings) by seconds. Every second has `each` mWh, and
+/// `left_over` mWh are spread over all seconds.
 #[derive(Clone, Copy)]
 pub struct Spread {
     pub step: Step,
@@ -40,8 +40,8 @@ impl Spread {
         }
     }
 
-    /// Returns the energy of the step from its beginning to the time `moment`, rounded down to
-    /// whole mWh.
+    /// Returns the energy of the step (between two readings) from its beginning to the time
+    /// `moment`, rounded down to whole mWh.
     pub fn running(&self, moment: u64) -> u64
         requires from { self.now.step.from ≤ moment }
         requires till { moment ≤ self.now.step.till }

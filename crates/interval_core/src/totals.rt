@@ -1,4 +1,5 @@
-//! The interval rows of an accounting register, added up by civil day.
+//! Adds up the energies of quarter hours of an accounting register (a named energy counter) by
+//! civil day.
 ghost use Rattle.std.specs.Prelude.{◌≡◌, ◌+◌, ◌-◌, ◌≤◌, ◌<◌, ◌^◌, ◌++◌, ◌∷◌, [], List, Option};
 ghost use Rattle.std.specs.Prelude.{Some, None, map, length, All, Contains, IsOk, IfOk, IfErr};
 ghost use Rattle.std.specs.Prelude.{OnOk, OnErr};
@@ -16,8 +17,8 @@ use jiff::civil::Date;
 use std::alloc::{AllocError, Global};
 use std::marker::Model;
 
-/// A civil day, the number of its intervals that have a row, and their energy in mWh. An interval
-/// with several rows counts once.
+/// A civil day, the number of its quarter hours that have a row, and their energy in mWh. A quarter
+/// hour with several rows counts once.
 #[derive(Clone, Copy, PartialEq, Eq)]
 pub struct DayTotal {
     pub day: Date,
@@ -25,8 +26,8 @@ pub struct DayTotal {
     pub mwh: u128,
 }
 
-/// Adds up interval rows by civil day. The caller pushes the rows one by one, in order of their
-/// starts.
+/// Adds up interval rows (energies of quarter hours) by civil day. The caller pushes the rows one
+/// by one, in order of their starts.
 #[derive(Drop)]
 pub struct DayFold {
     totals: Vec<DayTotal>,
@@ -49,7 +50,8 @@ impl DayFold {
     ghost use Rattle.interval_core.specs.Fold.{no_rows, HasTaken, TakesRow};
     ghost use Rattle.interval_core.specs.Zone.{day_at};
 
-    /// Creates a fold without rows. The fold stores the allocator, which only `push` uses.
+    /// Creates a fold (a sum of energy by civil day) without rows. The fold stores the allocator,
+    /// which only `push` uses.
     pub fn new(alloc: Global) -> DayFold
         ensures empty { result ≡ no_rows }
         ensures taken { (zone : Zone) → HasTaken zone [] result }
@@ -60,7 +62,8 @@ impl DayFold {
         }
     }
 
-    /// Returns the days of all pushed rows, in order. This function allocates nothing.
+    /// Returns the civil days of all pushed rows with their energy, in order. This function
+    /// allocates nothing.
     pub fn rows(&self) -> &[DayTotal]
         ensures accounts { map account_of result.now ≡ self.now.accounts }
         ensures in_order { AreInOrder self.now.accounts }
@@ -68,7 +71,8 @@ impl DayFold {
         self.totals.as_slice()
     }
 
-    /// Converts the fold to the list of its days, in order. This function allocates nothing.
+    /// Converts the fold to the list of its civil days with their energy, in order. This function
+    /// allocates nothing.
     pub fn into_rows(self) -> Vec<DayTotal>
         ensures { map account_of result.items ≡ self.accounts }
     {
@@ -76,12 +80,12 @@ impl DayFold {
         totals
     }
 
-    /// Adds a row with `mwh` of energy in the interval from `start`. The row belongs to the civil
-    /// day of `start` in the zone.
+    /// Adds a row with `mwh` of energy in the quarter hour from `start`. The row belongs to the
+    /// civil day of `start` in the zone.
     ///
-    /// A row with the same start as the latest row does not count as another interval. The energy
-    /// of a day saturates at 2^128 - 1 mWh. The only error is out of memory, which leaves the fold
-    /// unchanged.
+    /// A row with the same start as the latest row does not count as another quarter hour. The
+    /// energy of a day saturates at 2^128 - 1 mWh. The only error is out of memory, which leaves
+    /// the fold unchanged.
     pub fn push(&mut self, start: u64, mwh: u64, zone: &Zone) -> Result<(), DayFault>
         requires moment { start ≤ LAST_MOMENT }
         requires not_back { ForSome self.old.latest (λ latest. latest ≤ start) }
@@ -100,7 +104,8 @@ impl DayFold {
     }
 }
 
-/// Copies the days of all pushed rows. Pushing rows to the copy leaves the original unchanged.
+/// Copies the civil days of all pushed rows with their energy. Pushing rows to the copy leaves the
+/// original unchanged.
 impl Clone for DayFold {
     ghost use Rattle.std.specs.Prelude.{◌≡◌};
 
@@ -115,8 +120,9 @@ impl Clone for DayFold {
     }
 }
 
-/// Returns the civil days of interval rows, which must be in order of their starts. Each day has
-/// the number of its intervals and their energy in mWh. An interval with several rows counts once.
+/// Returns the civil days of interval rows (energies of quarter hours), which must be in order of
+/// their starts. Each day has the number of its quarter hours and their energy in mWh. A quarter
+/// hour with several rows counts once.
 pub fn by_day(alloc: Global, rows: &[Share], zone: &Zone) -> Result<Vec<DayTotal>, DayFault>
     requires never_back { IsNonDecreasingBy (λ row. row.start) rows.now }
     requires moments { All (λ row. row.start ≤ LAST_MOMENT) rows.now }
@@ -132,7 +138,7 @@ pub fn by_day(alloc: Global, rows: &[Share], zone: &Zone) -> Result<Vec<DayTotal
 }
 
 /// Returns the index of the first day in the list that is not before `day`. The search begins at
-/// the end of the list, because rows that arrive in order belong there.
+/// the end of the list, because the latest rows belong there.
 fn place_of(totals: &[DayTotal], day: Date) -> usize
     ensures within { result ≤ length totals.now }
     ensures place { AreInOrder (map account_of totals.now)
@@ -160,8 +166,8 @@ fn find_day(totals: &[DayTotal], day: Date) -> Result<usize, usize>
     }
 }
 
-/// Adds a row with `mwh` of energy to its day, or inserts the day if it is missing. If `is_new`, an
-/// existing day counts another interval.
+/// Adds `mwh` of energy to a day in the list, or inserts the day if it is missing. If `is_new`, an
+/// existing day counts another quarter hour.
 fn add(totals: &mut Vec<DayTotal>, day: Date, is_new: bool, mwh: u64) -> Result<(), AllocError>
     requires in_order { AreInOrder (map account_of totals.old.items) }
     requires counts { All (λ total. total.count < 2 ^ 32 - 1) totals.old.items }

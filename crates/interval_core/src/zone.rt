@@ -14,13 +14,14 @@ use std::fmt::{Display, Formatter};
 pub enum ZoneFault {
     /// The text is not a POSIX rule of at most 64 bytes.
     Text,
-    /// The process is out of memory. No function returns this fault, since a zone allocates
+    /// The process is out of memory. No function returns this fault, because a time zone allocates
     /// nothing.
     Memory,
 }
 
 impl ZoneFault {
-    /// Returns the number of the fault, from 1. The program does not print or store this number.
+    /// Returns the numeric code of the fault, from 1. The program does not print or store this
+    /// number.
     pub fn number(self) -> u8
         ensures { result ≡ zone_fault_number self }
     {
@@ -65,7 +66,7 @@ impl Zone {
         }
     }
 
-    /// Returns the zone as a `TimeZone` of the crate `jiff`.
+    /// Returns the time zone as a `TimeZone` of the crate `jiff`.
     pub(crate) fn rule(&self) -> &TimeZone<'static>
         ensures { result.now ≡ rule_of self.now }
     {

@@ -1,4 +1,4 @@
--- Lemmas about slices of a table and writes to its parts.
+-- Lemmas about reading and writing ranges of addresses in a table of Modbus values.
 use Rattle.std.proofs.Common.{◌≡◌, ◌∙◌, ℕ, Bool, Option, Some, List, ap, sym, min, length, take, drop, replicate}
 use Rattle.std.proofs.Math.Seq.{paste}
 use Rattle.std.proofs.lemmas.List.{take_min, drop_min, length-replicate}

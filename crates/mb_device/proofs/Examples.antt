@@ -48,12 +48,13 @@ a_write_is_kept : value_in (maps_after_all maps (own_frames all)).holdings 0 ≡
 unfolding maps frames frames_in
 a_write_is_kept = refl
 
--- ---- Injected faults: the bytes that a server sends when a client writes a register and reads it
+-- Examples of injected faults: the bytes that a simulated device sends when a client writes a
+-- register and reads it.
 
 abbrev on_first : Trick → Course
 on_first trick = begun ((1, trick) ∷ [])
 
--- The server executes a write whose response is dropped.
+-- A simulated device executes a write even if an injected fault drops the response.
 a_dropped_answer : sent_to (on_first play.Drop) maps (own_frames all) ≡ five
 unfolding maps answer_to_frame sent_next course_next trick_at frames frames_in
 a_dropped_answer = refl
@@ -62,12 +63,13 @@ a_later_answer : sent_to (on_first play.Later) maps (own_frames all) ≡ five ++
 unfolding maps answer_to_frame sent_next course_next trick_at frames frames_in
 a_later_answer = refl
 
--- With two delayed responses, the first is sent when the second is delayed.
+-- If injected faults delay two responses in a row, the first response is sent when the second is
+-- delayed.
 two_later_answers : sent_to (begun ((2, play.Later) ∷ (1, play.Later) ∷ [])) maps (own_frames all) ≡ write
 unfolding maps answer_to_frame sent_next course_next trick_at frames frames_in
 two_later_answers = refl
 
--- A server executes no frame after an injected fault closed its connection.
+-- A simulated device executes no frame after an injected fault closed its connection.
 a_cut_answer : sent_to (on_first (play.Cut 4)) maps (own_frames (read ++ write)) ≡ 0 ∷ 7 ∷ 0 ∷ 0 ∷ []
 unfolding maps answer_to_frame sent_next course_next trick_at frames frames_in
 a_cut_answer = refl
@@ -76,13 +78,13 @@ a_cut_connection : carried_out (on_first (play.Cut 4)) (own_frames (read ++ writ
 unfolding trick_at frames frames_in
 a_cut_connection = refl
 
--- The first fault in the list with the frame's number applies.
+-- If two injected faults name the same frame, the first in the list applies.
 the_first_trick : sent_to (begun ((1, play.Unit) ∷ (1, play.Drop) ∷ [])) maps (own_frames read) ≡ 0 ∷ 7 ∷ 0 ∷ 0 ∷ 0 ∷ 5 ∷ 2 ∷ 3 ∷ 2 ∷ 0 ∷ 9 ∷ []
 unfolding maps answer_to_frame sent_next course_next trick_at frames frames_in
 the_first_trick = refl
 
--- The fault `Id` changes the greatest transaction identifier to 0, and the fault `Unit` the
--- greatest unit identifier.
+-- The injected fault `Id` changes the greatest transaction identifier to 0, and the fault `Unit`
+-- the greatest unit identifier.
 the_last_id : sent_to (on_first play.Id) maps (own_frames (255 ∷ 255 ∷ 0 ∷ 0 ∷ 0 ∷ 6 ∷ 1 ∷ 3 ∷ 0 ∷ 0 ∷ 0 ∷ 1 ∷ [])) ≡ 0 ∷ 0 ∷ 0 ∷ 0 ∷ 0 ∷ 5 ∷ 1 ∷ 3 ∷ 2 ∷ 0 ∷ 9 ∷ []
 unfolding maps answer_to_frame sent_next course_next trick_at frames frames_in
 the_last_id = refl
@@ -91,8 +93,8 @@ the_last_unit : sent_to (on_first play.Unit) maps (own_frames (0 ∷ 7 ∷ 0 ∷
 unfolding maps answer_to_frame sent_next course_next trick_at frames frames_in
 the_last_unit = refl
 
--- ---- limits: a device without addresses responds to a valid quantity with exception 2, and to an
--- invalid quantity with exception 3
+-- Examples of limits: a device without addresses responds to a valid quantity with exception 2, and
+-- to an invalid quantity with exception 3.
 
 abbrev nothing : Maps
 nothing = record { coils = []; discretes = []; holdings = []; inputs = [] }
@@ -135,7 +137,7 @@ writes_123_registers = refl
 writes_124_registers : answer_to nothing (16 ∷ 0 ∷ 0 ∷ 0 ∷ 124 ∷ 248 ∷ replicate 248 0) ≡ 144 ∷ 3 ∷ []
 writes_124_registers = refl
 
--- An area may end at address 65535. An area that ends after this address is out of range.
+-- A range of addresses may end at address 65535. A range that ends after this address is rejected.
 the_last_address : is_out_of_range (record { kind = Holding; start = 65535; count = 1 }) ≡ false
 the_last_address = refl
 
@@ -148,8 +150,8 @@ all_addresses = refl
 one_more_address : is_out_of_range (record { kind = Holding; start = 0; count = 65537 }) ≡ true
 one_more_address = refl
 
--- ---- The examples in the Modbus standard (Modbus Application Protocol V1.1b3, section 6), with a
--- device that has the values that these requests read
+-- The examples in the Modbus standard (Modbus Application Protocol V1.1b3, section 6), with a
+-- device that has the values that these requests read.
 
 abbrev sample : Maps
 sample = record {

@@ -1,4 +1,4 @@
--- Lemmas about consecutive exchanges: the bytes that a device's server reads and writes on a
+-- Lemmas about consecutive exchanges: the bytes that a simulated device reads and writes on a
 -- connection.
 use Rattle.std.proofs.Common.{◌≡◌, ℕ, false, List, [], ◌∷◌, ◌++◌, Ok, refl, sym, ap, ◌∙◌, subst}
 use Rattle.mb_wire.specs.Frames.{IsOpen, rest}
@@ -29,7 +29,8 @@ serving_exchanges buffered course count old new standing serves =
       exchanges = record { given = refl; maps = serves.answered.maps; stands = serves.stands; is_open = serves.reports.0.is_open };
     }
 
--- The buffered bytes of a server that is still serving.
+-- The bytes of an incomplete frame that a simulated device has buffered, if its connection is still
+-- open.
 abbrev bytes_in : Standing → List ℕ
 bytes_in (Holds buffered course) = buffered
 bytes_in Over = []

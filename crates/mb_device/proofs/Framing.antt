@@ -39,7 +39,8 @@ frames-then a b =
 pub own_frames-then : (a b : List ℕ) → own_frames (a ++ b) ≡ own_frames a ++ own_frames (rest a ++ b)
 own_frames-then a b = ap (filter is_own) (frames-then a b).0 ∙ filter-append is_own (frames a) (frames (rest a ++ b))
 
--- An incomplete or invalid frame contains no complete frame: all of its bytes are left over.
+-- If some bytes are an incomplete frame or begin with an invalid header, then they contain no
+-- complete frame. All of the bytes are left over.
 rest_alone : (b : List ℕ) → IsOpen b ⊎ IsBad b → (frames b ≡ []) × (rest b ≡ b)
 rest_alone b ends = Reads-only b [] b record { joined = refl; each = tt; ends = ends }
 
@@ -62,7 +63,8 @@ bad_alone b left bad =
     let alone = rest_alone (b ++ left) (inr still) in
     (ap (filter is_own) alone.0, subst IsBad (sym alone.1) still)
 
--- The Modbus frame that a feed ended is the frame in the reader after the feed.
+-- When the reader of frames stops consuming bytes, it holds the Modbus frame that these bytes
+-- complete, if any.
 reported_frames : (what : Framing) (b : List ℕ) → ReportsFraming what b → (own_frames b ≡ buffered_frames (buffered_after what b).frame) × (rest b ≡ (buffered_after what b).rest)
 reported_frames Need b reports = open_alone b reports
 reported_frames Whole b reports =
@@ -73,8 +75,8 @@ reported_frames Foreign b reports =
     (ap (filter is_own) alone.0 ∙ cond-false _ _ _ (ne_eqb _ _ reports.1), alone.1)
 reported_frames Garbled b reports = let alone = rest_alone b (inr reports.0) in (ap (filter is_own) alone.0, alone.1)
 
--- After a feed, the remaining frames of a chunk are those of the bytes that the feed did not
--- consume.
+-- If the reader of frames consumed a part of a chunk, the chunk's remaining frames are those of the
+-- bytes not consumed.
 pub piece_frames : (what : Framing) (r piece : List ℕ) (taken : ℕ) (buffered : Buffered) → ReportsFraming what (r ++ take taken piece) → buffered ≡ buffered_after what (r ++ take taken piece)
     → (own_frames (r ++ piece) ≡ buffered_frames buffered.frame ++ own_frames (buffered.rest ++ from taken piece)) × (rest (r ++ piece) ≡ rest (buffered.rest ++ from taken piece))
 piece_frames what r piece taken buffered reports is =
@@ -88,7 +90,7 @@ piece_frames what r piece taken buffered reports is =
       ap rest whole ∙ (frames-then b left).1 ∙ ap (λ y. rest (y ++ left)) stays,
     )
 
--- After a feed that consumes all of a chunk and ends no frame, the reader has buffered the bytes
+-- If the reader of frames consumed all of a chunk and completed no frame, it has buffered the bytes
 -- after the stream's last complete frame.
 pub need_piece : (what : Framing) (r piece : List ℕ) (taken : ℕ) (buffered : Buffered) → ReportsFraming what (r ++ take taken piece) → buffered ≡ buffered_after what (r ++ take taken piece) → what ≡ Need → taken ≡ length piece
     → (own_frames (r ++ piece) ≡ buffered_frames buffered.frame) × IsOpen (rest (r ++ piece)) × (buffered.rest ≡ rest (r ++ piece))
@@ -105,8 +107,8 @@ need_piece what r piece taken buffered reports is need all =
       stays ∙ sym alone.1 ∙ ap rest whole,
     )
 
--- After a feed that ends at an invalid length field, the stream has that invalid header after its
--- last complete frame.
+-- If the reader of frames stopped at an invalid length field, the stream has that invalid header
+-- after its last complete frame.
 pub garbled_piece : (what : Framing) (r piece : List ℕ) (taken : ℕ) (buffered : Buffered) → ReportsFraming what (r ++ take taken piece) → buffered ≡ buffered_after what (r ++ take taken piece) → what ≡ Garbled
     → (own_frames (r ++ piece) ≡ buffered_frames buffered.frame) × IsBad (rest (r ++ piece))
 garbled_piece what r piece taken buffered reports is garbled =

@@ -1,4 +1,4 @@
--- Lemmas about loops that pack values into bytes or store values from bytes.
+-- Lemmas about loops that pack Modbus values into bytes, or store values from bytes.
 use Rattle.std.proofs.Common.{◌≡◌, ℕ, zero, suc, ◌+◌, ◌-◌, ◌*◌, ◌<◌, ◌≤◌, min, inl, inr, Bool, List, [], ◌∷◌, ◌++◌, length, take, drop, map, set, get_or, slice_get, Option, Some, true, subst, refl, sym, ap, ◌∙◌, arith, append_assoc, length-drop, length-take-le}
 use Rattle.std.proofs.lemmas.Bool.{cases_lt, and_parts, leb-true}
 use Rattle.std.specs.Option.{option_map}
@@ -12,7 +12,7 @@ use Rattle.mb_wire.proofs.Words.{length-word_bytes, words_of-word_bytes}
 use Rattle.mb_device.specs.Device.{is_kept_on, kept_value}
 use Rattle.mb_device.specs.Maps.{all_written, are_there, values_at}
 
--- After one more step of the loop, one more byte of coils is packed.
+-- After one more iteration of the loop that packs coils, one more byte is packed.
 pub packed_more : (count i : ℕ) (coils : List Bool) (out whole : List ℕ) (byte : ℕ) → i < count → i < length out → byte ≡ number_of (take 8 (drop (8 * i) coils)) → take i out ++ packed_in (count - i) (drop (8 * i) coils) ≡ whole → take (i + 1) (set out i byte) ++ packed_in (count - (i + 1)) (drop (8 * (i + 1)) coils) ≡ whole
 unfolding packed_in
 packed_more count i coils out whole byte less room is h =
@@ -41,7 +41,8 @@ pub word_bytes-append : (xs ys : List ℕ) → word_bytes (xs ++ ys) ≡ word_by
 word_bytes-append [] ys = refl
 word_bytes-append (x ∷ xs) ys = ap (λ rest. word x ++ rest) (word_bytes-append xs ys)
 
--- After one more step of the loop, one more register is written to the data bytes.
+-- After one more iteration of the loop that writes registers, one more register is in the data
+-- bytes.
 pub words_more : (f : Option ℕ → ℕ) (values : List (Option ℕ)) (i : ℕ) (d : Option ℕ) (old new : List ℕ) → i < length values → take (2 * i + 2) new ≡ take (2 * i) old ++ word (f (get_or values i d)) → take (2 * i) old ≡ word_bytes (map f (take i values)) → take (2 * (i + 1)) new ≡ word_bytes (map f (take (i + 1) values))
 words_more f values i d old new less step h =
     let next : 2 * (i + 1) ≡ 2 * i + 2 = omega arith in
@@ -55,7 +56,7 @@ get_some [] i h = absurd (omega arith)
 get_some (w ∷ ws) zero h = refl
 get_some (w ∷ ws) (suc i) h = get_some ws i (omega arith)
 
--- After one more step of the loop, one more value is stored in the table.
+-- After one more iteration of the loop that stores values, one more value is in the table.
 pub written_more : (table whole : List (Option ℕ)) (place i : ℕ) (values : List ℕ) (value : Option ℕ) → i < length values → value ≡ slice_get values i → all_written table (place + i) (drop i values) ≡ whole → all_written (set table (place + i) value) (place + (i + 1)) (drop (i + 1) values) ≡ whole
 written_more table whole place i values value less is h =
     let next : place + (i + 1) ≡ place + i + 1 = omega arith in
@@ -64,7 +65,7 @@ written_more table whole place i values value less is h =
     ∙ sym (ap (all_written table (place + i)) (drop_more values i 0 less))
     ∙ h
 
--- If no value is left, the loop has stored all values.
+-- If no value is left, then the loop that stores values has stored all of them.
 pub written_all : (table whole : List (Option ℕ)) (place i : ℕ) (values : List ℕ) → length values ≤ i → all_written table (place + i) (drop i values) ≡ whole → table ≡ whole
 written_all table whole place i values past h = sym (ap (all_written table (place + i)) (drop_all i values past)) ∙ h
 
@@ -73,7 +74,7 @@ get-map f [] i = refl
 get-map f (x ∷ xs) zero = refl
 get-map f (x ∷ xs) (suc i) = get-map f xs i
 
--- If no byte is left, the loop has packed all coils.
+-- If no byte is left, then the loop that packs coils has packed all of them.
 pub packed_all : (count i : ℕ) (coils : List Bool) (out whole : List ℕ) → count ≡ i → take i out ++ packed_in (count - i) (drop (8 * i) coils) ≡ whole → take count out ≡ whole
 unfolding packed_in
 packed_all count i coils out whole same h =

@@ -14,7 +14,7 @@ unfolding sent_next
 sends course true tricks number later answer is going = let both : true ≡ false = sym (ap is_cut is) ∙ going in absurd cc
 sends course false tricks number later answer is going = ap (λ c. sent_next c answer) is
 
--- The state of a connection after a sender sent a response.
+-- The state of a connection after a response was sent.
 pub goes_on : (course : Course) (cut : Bool) (tricks : List (ℕ × Trick)) (number : ℕ) (later : List ℕ) (answer : Fields) → course ≡ course_in cut tricks number later → is_cut course ≡ false
     → course_next course answer ≡ following (trick_at tricks number) (spelled_by (trick_at tricks number) answer) course
 unfolding course_next
@@ -22,7 +22,7 @@ goes_on course true tricks number later answer is going = let both : true ≡ fa
 goes_on course false tricks number later answer is going =
     ap (λ c. course_next c answer) is ∙ ap (following (trick_at tricks number) (spelled_by (trick_at tricks number) answer)) (sym is)
 
--- ---- Consecutive responses: sending two lists of responses equals sending their concatenation
+-- Lemmas: sending two lists of responses one after the other equals sending their concatenation.
 
 pub sent-append : (course : Course) (xs ys : List Fields) → sent course (xs ++ ys) ≡ sent course xs ++ sent (course_after course xs) ys
 sent-append course [] ys = refl
@@ -48,7 +48,7 @@ pub is_cut-true : (course : Course) → is_cut course ≡ true → course ≡ Cu
 is_cut-true (Playing tricks number later) cut = absurd cc
 is_cut-true CutOff cut = refl
 
--- ---- the frames that are executed
+-- Lemmas on the frames that a simulated device executes.
 
 pub carried_out-none : (course : Course) → carried_out course [] ≡ []
 carried_out-none (Playing tricks number later) = refl
@@ -68,7 +68,7 @@ pub carried_out-one : (course : Course) (answer : Fields) (frame : List ℕ) →
 carried_out-one course answer frame going =
     carried_out-next course answer frame [] going ∙ ap (λ fs. frame ∷ fs) (carried_out-none (course_next course answer))
 
--- ---- without injected faults, or after the last frame with one
+-- Lemmas on connections without injected faults, or after the last frame with an injected fault.
 
 either_none : (b : Bool) (one other : Option Trick) → one ≡ None → other ≡ None → (if b then one else other) ≡ None
 either_none true one other first next = first

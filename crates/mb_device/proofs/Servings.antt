@@ -1,5 +1,5 @@
--- Lemmas about consecutive turns of a server. A turn is one read, followed by the responses to the
--- frames that the read completed.
+-- Lemmas about consecutive turns of a simulated device. A turn is one read, followed by the
+-- responses to the frames that the read completed.
 use Rattle.std.proofs.Common.{◌≡◌, ℕ, ◌+◌, Bool, true, false, not, List, [], ◌++◌, length, Option, Result, Ok, Err, refl, sym, ap, ◌∙◌, subst}
 use Rattle.std.specs.Prelude.{◌&&◌}
 use Rattle.std.proofs.KnownBytes.{Consumes-trans, Keeps-refl}
@@ -33,7 +33,7 @@ Served-none buffered course around standing is_open going stands =
       counts = record { counted = sym (ap length nothing); is_open = λ _. subst IsOpen (sym none.1) is_open };
     }
 
--- The state of a server on an open connection after the frames executed until now.
+-- The state of an open connection to a simulated device after the frames executed until now.
 reached : (buffered : List ℕ) (course : Course) (count : ℕ) (a b : Around) (before : Standing) → (so_far : Served buffered course count a b before) → is_serving before ≡ true
     → Dealt course a.maps (own_frames (buffered ++ so_far.taken)) (course_after_all course a.maps (own_frames (buffered ++ so_far.taken))) b.maps
 reached buffered course count a b before so_far serving =
@@ -69,8 +69,8 @@ Served-more buffered course count turned a b c before after so_far serving turns
           (counts_then course left a.maps b.maps (own_frames bytes) (buffered ++ (so_far.taken ++ turn.taken)) (rest bytes ++ turn.taken) turned.answered dealt more.0 more.1 turn.reports.0);
     }
 
--- If a turn found the end of the input, or an injected fault closed the connection, `serve` returns
--- with the effects that `Serves` defines.
+-- If a turn (one read and its responses) found the end of the input, or an injected fault closed
+-- the connection, `serve` returns. Its effects are those that `Serves` defines.
 pub Serves-end : (buffered : List ℕ) (course : Course) (count : ℕ) (turned : Turned) (a b c : Around) (before after : Standing) → Served buffered course count a b before → is_serving before ≡ true
     → ((later : List ℕ) (mid : Course) → before ≡ Holds later mid → Turns later mid (Ok turned) b c after) → turned.ended ≡ true → Serves buffered course (Ok (count + turned.answered)) a c after
 unfolding Served-more
@@ -91,8 +91,8 @@ Serves-end buffered course count turned a b c before after so_far serving turns 
       reports = (all.counts, λ going. (turn.reports.1.end (ap is_cut (sym same) ∙ going) ended).1);
     }
 
--- If all allowed turns were made and the input has not ended, the result `TurnsUsed` has the
--- effects that `Serves` defines.
+-- If `serve` made all allowed reads and the input has not ended, then the result `TurnsUsed` has
+-- the effects that `Serves` defines.
 pub Serves-used : (buffered : List ℕ) (course : Course) (count : ℕ) (a b : Around) (before : Standing) → Served buffered course count a b before → is_serving before ≡ true → Serves buffered course (Err fault.TurnsUsed) a b Faulted
 Serves-used buffered course count a b before so_far serving =
     let dealt = reached buffered course count a b before so_far serving in
@@ -114,7 +114,7 @@ serve_reports_fault fault.Garbled buffered taken more course left maps after rem
     garbled_then course left maps after (own_frames (buffered ++ taken)) (buffered ++ (taken ++ more)) (rest (buffered ++ taken) ++ more) dealt same.0 same.1 reports
 serve_reports_fault fault.TurnsUsed buffered taken more course left maps after remaining is_open dealt reports = absurd reports
 
--- `serve` returns the fault that its last turn returned.
+-- The function `serve` returns the fault that its last turn (read) returned.
 pub Serves-fault : (e : ServeFault) (buffered : List ℕ) (course : Course) (count : ℕ) (a b c : Around) (before after : Standing) → Served buffered course count a b before → is_serving before ≡ true
     → ((later : List ℕ) (mid : Course) → before ≡ Holds later mid → Turns later mid (Err e) b c after) → Serves buffered course (Err e) a c after
 Serves-fault e buffered course count a b c before after so_far serving turns =
@@ -132,7 +132,7 @@ Serves-fault e buffered course count a b c before after so_far serving turns =
       reports = serve_reports_fault e buffered so_far.taken turn.taken course left a.maps b.maps c.remaining (so_far.counts.is_open dealt.going) dealt turn.reports;
     }
 
--- ---- a server that is still serving
+-- Lemmas on a simulated device whose connection is still open.
 
 pub has_not_failed : (standing : Standing) (failed over : Bool) → failed ≡ has_faulted standing → failed ≡ false → over ≡ is_over standing → over ≡ false → is_serving standing ≡ true
 has_not_failed (Holds buffered course) failed over is none was going = refl
@@ -152,7 +152,8 @@ cut_or_not : (b ended : Bool) → (b ≡ true → ended ≡ true) → ended ≡ 
 cut_or_not true ended ends going = absurd (both_ways ended (ends refl) going)
 cut_or_not false ended ends going = refl
 
--- After a turn that did not report the end, the server is still serving.
+-- If a turn (one read and its responses) did not report the end of the input, the device still
+-- serves the connection.
 pub turn_serves : (turned : Turned) (old new : Around) (before after : Standing) → is_serving before ≡ true → ((buffered : List ℕ) (course : Course) → before ≡ Holds buffered course → Turns buffered course (Ok turned) old new after) → turned.ended ≡ false → is_serving after ≡ true
 turn_serves turned old new before after serving turns no_end =
     let holds = buffered_by before serving in
@@ -163,22 +164,26 @@ turn_serves turned old new before after serving turns no_end =
 no_end : (result : Result Turned ServeFault) (turned : Turned) (after : Standing) → result ≡ Ok turned → turned.ended ≡ false → came_to_end result after ≡ false
 no_end result turned after is going = ap (λ r. came_to_end r after) is ∙ ap (λ b. b && not (is_over after)) going
 
--- If a turn did not report the end of the input, its read neither failed nor found the end.
+-- If a turn (one read and its responses) did not report the end of the input, its read did not fail
+-- or find the end.
 pub goes_on : (result : Result Turned ServeFault) (turned : Turned) (after : Standing) (last : Option LastTake) → ReportsTake (came_to_end result after) (is_read_fault result) last → result ≡ Ok turned → turned.ended ≡ false → ReportsTake false false last
 goes_on result turned after last reports is going =
     let first = no_end result turned after is going in
     let second : is_read_fault result ≡ false = ap is_read_fault is in
     record { answer = reports.answer; taken = reports.taken; end = sym first ∙ reports.end; failure = sym second ∙ reports.failure }
 
--- If a turn did not report the end of the input, the link's count of ends is unchanged.
+-- If a turn (one read and its responses) did not report the end of the input, the number of ends
+-- found is unchanged.
 pub counts_no_end : (result : Result Turned ServeFault) (turned : Turned) (standing : Standing) (before after : ℕ) → after ≡ risen (came_to_end result standing) before → result ≡ Ok turned → turned.ended ≡ false → after ≡ before
 counts_no_end result turned standing before after counted is going = counted ∙ ap (λ (b : Bool). risen b before) (no_end result turned standing is going)
 
--- If the last turn reported the end, `serve` found the end of the input exactly if that turn did.
+-- If the last turn (read) of `serve` reported the end, then `serve` found the end of the input
+-- exactly if that turn did.
 pub same_end : (result : Result Turned ServeFault) (turned : Turned) (count : ℕ) (after : Standing) → result ≡ Ok turned → turned.ended ≡ true → came_to_end result after ≡ served_to_end (Ok count) after
 same_end result turned count after is ended = ap (λ r. came_to_end r after) is ∙ ap (λ b. b && not (is_over after)) ended
 
--- A turn never returns `TurnsUsed`.
+-- A single turn (one read and its responses) never returns `TurnsUsed`, the fault for too many
+-- reads.
 pub turn_is_no_end : (e : ServeFault) (old new : Around) (before after : Standing) → is_serving before ≡ true → ((buffered : List ℕ) (course : Course) → before ≡ Holds buffered course → Turns buffered course (Err e) old new after) → e ≡ fault.TurnsUsed → ⊥
 turn_is_no_end e old new before after serving turns is =
     let holds = buffered_by before serving in

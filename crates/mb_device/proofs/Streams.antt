@@ -51,9 +51,10 @@ carried_out-append (Playing tricks number later) maps (x ∷ xs) ys =
     ∙ ap (λ fs. fs ++ carried_out (course_after_all course maps (x ∷ xs)) ys) (sym (carried_out-next course answer x xs refl))
 carried_out-append CutOff maps (x ∷ xs) ys = ap (λ c. carried_out c ys) (sym (course_after-cut (answers maps (x ∷ xs))))
 
--- ---- an open connection
+-- Lemmas on an open connection.
 
--- A server executes all frames of a connection that is open after them.
+-- If a connection is still open after some frames, then the simulated device executed all of these
+-- frames.
 uncut : (course : Course) (maps : Maps) (xs : List (List ℕ)) → is_cut (course_after_all course maps xs) ≡ false → carried_out course xs ≡ xs
 uncut course maps [] going = carried_out-none course
 uncut (Playing tricks number later) maps (x ∷ xs) going =
@@ -63,8 +64,8 @@ uncut (Playing tricks number later) maps (x ∷ xs) going =
 uncut CutOff maps (x ∷ xs) going =
     absurd (both_ways _ (ap is_cut (course_after-cut (answers maps (x ∷ xs)))) going)
 
--- True if the server executed all frames of the list on a connection that remained open, with the
--- resulting connection state and register map.
+-- True if the simulated device executed all frames of the list on a connection that remained open,
+-- with the resulting connection state and register map.
 pub record Dealt (course : Course) (maps : Maps) (xs : List (List ℕ)) (mid : Course) (after : Maps) : Type 0 where
   pub stands : mid ≡ course_after_all course maps xs
   pub going : is_cut mid ≡ false
@@ -97,11 +98,12 @@ carried_then course mid maps after xs ys dealt =
     ∙ ap (λ c. carried_out course xs ++ carried_out c ys) (sym dealt.stands)
     ∙ ap (λ fs. fs ++ carried_out mid ys) dealt.carried
 
--- If a server answered all frames of a list, it also answered all frames of an equal list.
+-- If a simulated device answered all frames of a list, it also answered all frames of an equal
+-- list.
 pub AllAnswered-same : (course : Course) (xs ys : List (List ℕ)) (a b : Around) → ys ≡ xs → AllAnswered course xs a b → AllAnswered course ys a b
 AllAnswered-same course xs ys a b same h = subst (λ fs. AllAnswered course fs a b) (sym same) h
 
--- If nothing was written, the link's output is unchanged.
+-- If nothing was written, the output of the connection is unchanged.
 Appends-none : (a b : Option (List ℕ)) → Keeps a b → Appends a b []
 Appends-none None b h = tt
 Appends-none (Some x) None h = absurd h
@@ -152,8 +154,8 @@ all_then_broken course mid xs ys a b c first dealt next =
           ∙ sym (maps_after_all-append a.maps xs upto) ∙ ap (maps_after_all a.maps) (sym all);
     }
 
--- If a server answered all frames of a list, the result of answering later frames is also the
--- result for both lists together.
+-- If a simulated device answered all frames of a list, then the result of answering later frames is
+-- also the result for both lists together.
 pub Answered-then : {X : Type 0} (result : Result X ServeFault) (course mid : Course) (xs ys : List (List ℕ)) (a b c : Around) → AllAnswered course xs a b → Dealt course a.maps xs mid b.maps → Answered result mid ys b c → Answered result course (xs ++ ys) a c
 Answered-then (Ok x) course mid xs ys a b c first dealt next = all_then_all course mid xs ys a b c first dealt next
 Answered-then (Err fault.Read) course mid xs ys a b c first dealt next = all_then_all course mid xs ys a b c first dealt next
@@ -161,7 +163,8 @@ Answered-then (Err fault.Write) course mid xs ys a b c first dealt next = all_th
 Answered-then (Err fault.Garbled) course mid xs ys a b c first dealt next = all_then_all course mid xs ys a b c first dealt next
 Answered-then (Err fault.TurnsUsed) course mid xs ys a b c first dealt next = all_then_all course mid xs ys a b c first dealt next
 
--- If the response to a frame was sent incompletely, that remains true if more frames follow.
+-- If the response to a frame was sent incompletely, then it is still incomplete when more frames
+-- follow.
 pub BrokenOff-before : (course : Course) (xs ys : List (List ℕ)) (a b : Around) → BrokenOff course xs a b → BrokenOff course (xs ++ ys) a b
 BrokenOff-before course xs ys a b h =
     record {
@@ -177,8 +180,8 @@ BrokenOff-before course xs ys a b h =
       maps = h.maps;
     }
 
--- The number of frames executed in a byte list is the sum of those executed now and those executed
--- later.
+-- The number of executed frames in a byte sequence is the number executed now plus the number
+-- executed later.
 pub counts_then : (course mid : Course) (maps after : Maps) (xs : List (List ℕ)) (bytes left : List ℕ) (count : ℕ) → Dealt course maps xs mid after → own_frames bytes ≡ xs ++ own_frames left → rest bytes ≡ rest left → Counts count (stretch mid after left) → Counts (length xs + count) (stretch course maps bytes)
 counts_then course mid maps after xs bytes left count dealt frames rests counts =
     let all = ap length (ap (carried_out course) frames ∙ carried_then course mid maps after xs (own_frames left) dealt) ∙ length-append xs _ in
@@ -206,7 +209,7 @@ piece_fault fault.Write course mid maps after xs bytes left buffered new dealt f
 piece_fault fault.Garbled course mid maps after xs bytes left buffered new dealt frames rests reports = garbled_then course mid maps after xs bytes left dealt frames rests reports
 piece_fault fault.TurnsUsed course mid maps after xs bytes left buffered new dealt frames rests reports = reports
 
--- ---- a connection that an injected fault closed
+-- Lemmas on a connection that an injected fault closed.
 
 sent_cut : (course : Course) (maps : Maps) (xs ys : List (List ℕ)) → is_cut (course_after_all course maps xs) ≡ true → sent_to course maps (xs ++ ys) ≡ sent_to course maps xs
 sent_cut course maps xs ys cut =
@@ -242,9 +245,9 @@ cut_reports count course maps xs ys bytes buffered frames cut counted =
     let still : is_cut (course_after_all course maps (own_frames bytes)) ≡ true = ap is_cut same ∙ cut in
     (record { counted = counted ∙ sym (ap length all); is_open = λ going. absurd (both_ways _ still going) }, λ going. absurd (both_ways _ still going))
 
--- ---- the complete frame in a reader
+-- Lemmas on the complete frame that the reader of frames has buffered.
 
--- The borrowed frame has the fields of the frame in the reader.
+-- The parsed fields are those of the frame that the reader has buffered.
 lent_frame : (shown : Option Frame) (buffered : Option (List ℕ)) (frame : Frame) → option_map spelled shown ≡ option_map fields_of buffered → shown ≡ Some frame
     → (f : List ℕ) × (buffered ≡ Some f) × (spelled frame ≡ fields_of f)
 lent_frame shown None frame same is = absurd cc
@@ -293,16 +296,16 @@ buffered_course course new shown buffered frame maps same is next =
     let lent = lent_frame shown buffered frame same is in
     next ∙ ap (course_next course) (answer_is maps frame lent.0 lent.2) ∙ ap (λ h. course_after_all course maps (buffered_frames h)) (sym lent.1)
 
--- If sending the response to the frame in the reader fails, that response is incomplete.
+-- If sending the response to the buffered frame fails, then that response was sent incompletely.
 pub buffered_fault : (e : ServeFault) (course : Course) (frame : Option (List ℕ)) (xs ys : List (List ℕ)) (a b : Around) → BufferedReports (Err e) frame → Answered {X = ℕ} (Err e) course xs a b → Answered {X = ℕ} (Err e) course (xs ++ ys) a b
 buffered_fault fault.Read course frame xs ys a b reports h = absurd reports
 buffered_fault fault.Write course frame xs ys a b reports h = BrokenOff-before course xs ys a b h
 buffered_fault fault.Garbled course frame xs ys a b reports h = absurd reports
 buffered_fault fault.TurnsUsed course frame xs ys a b reports h = absurd reports
 
--- ---- one turn
+-- Lemmas on one turn: one read, and the responses to the frames that the read completed.
 
--- If nothing was read, the link's input is unchanged.
+-- If nothing was read, the input of the connection is unchanged.
 pub Consumes-none : (a b : Option (List ℕ)) → Keeps a b → Consumes a b []
 Consumes-none None b h = tt
 Consumes-none (Some x) None h = absurd h
@@ -358,15 +361,15 @@ turn_failed buffered course old new is_open left given maps =
       reports = refl;
     }
 
--- If only the link's input changed between the states `old` and `mid`, answering a list of frames
--- has the same effects from both states.
+-- If only the connection's input changed between the states `old` and `mid`, answering a list of
+-- frames has the same effects from both states.
 answered_from : {X : Type 0} (result : Result X ServeFault) (course : Course) (frames : List (List ℕ)) (old mid new : Around) → Keeps old.given mid.given → mid.maps ≡ old.maps → is_cut course ≡ false → Answered result course frames mid new → Answered result course frames old new
 answered_from result course frames old mid new given maps going answered =
     let none = AllAnswered-none course [] old mid refl given maps in
     Answered-then result course course [] frames old mid new none (dealt_with course course [] old mid none refl going) answered
 
--- A fault while a server answers frames has the same effects, whatever type the successful result
--- has. A turn can therefore return the fault of the functions that it calls.
+-- A fault while a device answers frames has the same effects, whatever type the successful result
+-- has. A function can therefore return the fault of a function that it calls.
 pub answered_fault : (X Y : Type 0) (e : ServeFault) (course : Course) (fs : List (List ℕ)) (a b : Around) → Answered {X = X} (Err e) course fs a b → Answered {X = Y} (Err e) course fs a b
 answered_fault X Y fault.Read course fs a b h = h
 answered_fault X Y fault.Write course fs a b h = h

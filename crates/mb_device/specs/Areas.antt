@@ -59,7 +59,7 @@ AllBeginAs areas maps =
     (kind : Kind) (address : ℕ) → address < ADDRESSES
     → value_at maps kind address ≡ first_value areas kind address
 
--- The number of each fault: its position in the order of the checks.
+-- The number of each reason to reject a range of addresses, in the order of the checks.
 abbrev pub bank_fault_number : BankFault → ℕ
 bank_fault_number AreasOverlap = 1
 bank_fault_number OutOfRange = 2
@@ -78,8 +78,9 @@ is_any_there table start count = list_any (λ value. is_some value) (values_at t
 abbrev pub is_past_end : List (Option ℕ) → ℕ → ℕ → Bool
 is_past_end table start count = count == 0 || nat_lt (length table) (start + count)
 
--- The effect of adding an area: success if its addresses are in range and the device has none of
--- them. Otherwise the first fault, with the table unchanged. The result `Memory` never occurs.
+-- The effect of adding an area (a range of addresses): success if its addresses are in range and
+-- the device has none of them. Otherwise the first fault, with the table unchanged. The result
+-- `Memory` never occurs.
 abbrev pub Adds : List (Option ℕ) → (start count : ℕ) → Result (Unit {0}) BankFault
     → List (Option ℕ) → Type 0
 Adds old start count (Ok done) new =

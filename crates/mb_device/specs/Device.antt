@@ -119,7 +119,7 @@ abbrev pub maps_for : Maps → Result Query RequestFault → Maps
 maps_for maps (Err fault) = maps
 maps_for maps (Ok query) = if has_all maps query then carried_out maps query else maps
 
--- The response PDU of the device to a request PDU.
+-- The response PDU of the device to a request PDU of a client.
 abbrev pub answer_to : Maps → List ℕ → List ℕ
 answer_to maps pdu = reply_for maps (function_in pdu) (query_in pdu)
 

@@ -9,16 +9,16 @@ use Rattle.mb_device.specs.Tricks.{Course, carried_out, is_cut}
 use Rattle.mb_device.specs.Server.{Around, Holds, Serves, Standing, Turns, course_after_all, maps_after_all, own_frames, sent_to, standing_on}
 use Rattle.mb_device.specs.declared.server.Turned.{Turned}
 
--- The bytes that a server read, and the bytes that it wrote.
+-- An exchange: the bytes that a device read, and the bytes that it wrote.
 pub record Exchange : Type 0 where
   pub taken : List ℕ
   pub given : List ℕ
 
--- Two consecutive exchanges, joined to one exchange.
+-- Joins two consecutive exchanges (bytes read and bytes written) to one exchange.
 abbrev pub joined : Exchange → Exchange → Exchange
 joined first next = record { taken = first.taken ++ next.taken; given = first.given ++ next.given }
 
--- A list of consecutive exchanges, joined to one exchange.
+-- Joins a list of consecutive exchanges (bytes read and bytes written) to one exchange.
 abbrev pub in_all : List Exchange → Exchange
 in_all exchanges =
     record {
@@ -27,7 +27,7 @@ in_all exchanges =
     }
 
 -- True if the bytes written are the responses to all Modbus frames that the bytes read complete.
--- The new register map and the server's state are those after these frames.
+-- The new register map and connection state are those after these frames.
 pub record Exchanges (buffered : List ℕ) (course : Course) (exchange : Exchange) (old new : Maps)
     (standing : Standing) : Type 0 where
   pub given : exchange.given ≡ sent_to course old (own_frames (buffered ++ exchange.taken))
@@ -38,8 +38,8 @@ pub record Exchanges (buffered : List ℕ) (course : Course) (exchange : Exchang
   pub is_open : is_cut (course_after_all course old (own_frames (buffered ++ exchange.taken))) ≡ false
       → IsOpen (rest (buffered ++ exchange.taken))
 
--- True if a server read the bytes of an exchange from the link's input, and wrote the responses to
--- the link's output.
+-- True if a device read the bytes of an exchange from its connection, and wrote the responses to
+-- the connection.
 pub record ExchangesOver (buffered : List ℕ) (course : Course) (old new : Around)
     (standing : Standing) : Type 0 where
   pub exchange : Exchange
@@ -47,8 +47,8 @@ pub record ExchangesOver (buffered : List ℕ) (course : Course) (old new : Arou
   pub given : Appends old.given new.given exchange.given
   pub exchanges : Exchanges buffered course exchange old.maps new.maps standing
 
--- True if each exchange begins with the register map and server state that the previous exchange
--- left. The link's bytes may change between exchanges.
+-- True if each exchange (bytes read and written) begins with the register map and connection state
+-- that the previous exchange left. The bytes waiting on the connection may change in between.
 abbrev pub InOrder : List ℕ → Course → List Exchange → Maps → Maps → Standing → Type 0
 InOrder buffered course [] old new standing =
     (new ≡ old) × (standing ≡ standing_on buffered course) × IsOpen buffered
@@ -57,16 +57,16 @@ InOrder buffered course (first ∷ later) old new standing =
     × Exchanges buffered course first old mid (Holds left next)
     × InOrder left next later mid new standing
 
--- The statement that each successful turn of a server writes exactly the responses to the frames
--- that it read. A turn reads from the link once.
+-- The statement that each successful turn (one read and its responses) writes exactly the responses
+-- to the frames that the device read.
 abbrev pub TurnExchanges : Type 0
 TurnExchanges =
     (buffered : List ℕ) (course : Course) (turned : Turned) (old new : Around)
     (standing : Standing) → Turns buffered course (Ok turned) old new standing →
     ExchangesOver buffered course old new standing
 
--- The statement that each successful call of `serve`, which repeats turns until the input ends,
--- writes exactly the responses to the frames that it read.
+-- The statement that each successful call of `serve` writes exactly the responses to the frames
+-- that the device read. The function `serve` repeats reads until the input ends.
 abbrev pub ServingExchanges : Type 0
 ServingExchanges =
     (buffered : List ℕ) (course : Course) (count : ℕ) (old new : Around)

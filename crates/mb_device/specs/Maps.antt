@@ -14,7 +14,7 @@ pub record Maps : Type 0 where
   pub holdings : List (Option ℕ)
   pub inputs : List (Option ℕ)
 
--- The table of one kind of values in a register map.
+-- The table of a register map for one kind of values, such as coils.
 abbrev pub table_of : Maps → Kind → List (Option ℕ)
 table_of maps Coil = maps.coils
 table_of maps Discrete = maps.discretes

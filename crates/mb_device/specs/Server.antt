@@ -55,31 +55,32 @@ sent_to course maps frames = sent course (answers maps frames)
 abbrev pub course_after_all : Course → Maps → List (List ℕ) → Course
 course_after_all course maps frames = course_after course (answers maps frames)
 
--- The state of a server. `Holds`: it serves a connection and has buffered an incomplete frame.
--- `Over`: an injected fault closed the connection. `Faulted`: a call returned a fault.
+-- The state of a simulated device on a connection. `Holds`: the connection is open, and an
+-- incomplete frame is buffered. `Over`: an injected fault closed the connection. `Faulted`: a call
+-- returned a fault.
 pub data Standing : Type 0 where
   Holds : List ℕ → Course → Standing
   Over : Standing
   Faulted : Standing
 
--- The state of a server with these buffered bytes: `Over` if an injected fault closed the
+-- The state of a simulated device with these buffered bytes: `Over` if an injected fault closed the
 -- connection, otherwise `Holds`.
 abbrev pub standing_on : List ℕ → Course → Standing
 standing_on bytes (Playing tricks number later) = Holds bytes (Playing tricks number later)
 standing_on bytes CutOff = Over
 
--- The environment of a server: the bytes that the peer will send, the bytes sent to the peer, and
--- the register map. Bytes are `None` if the link does not know them.
+-- The bytes that the client will send, the bytes sent to the client, and the register map of a
+-- simulated device. Bytes are `None` if they are unknown.
 pub record Around : Type 0 where
   pub remaining : Option (List ℕ)
   pub given : Option (List ℕ)
   pub maps : Maps
 
--- The environment of a server with these bytes and this register map.
+-- Combines the bytes to receive, the bytes sent, and the register map of a simulated device.
 abbrev pub around : Option (List ℕ) → Option (List ℕ) → Maps → Around
 around remaining given maps = record { remaining = remaining; given = given; maps = maps }
 
--- True if the server executed all frames until the connection was closed, and sent a complete
+-- True if a device executed all frames until its connection was closed, and sent a complete
 -- response to each, as injected faults changed it.
 pub record AllAnswered (course : Course) (frames : List (List ℕ)) (old new : Around) : Type 0 where
   pub given : Appends old.given new.given (sent_to course old.maps frames)
@@ -100,7 +101,7 @@ pub record BrokenOff (course : Course) (frames : List (List ℕ)) (old new : Aro
   pub given : Appends old.given new.given (sent_to course old.maps earlier ++ part)
   pub maps : new.maps ≡ maps_after_all old.maps (earlier ++ frame ∷ [])
 
--- The frames executed and the bytes sent, by the result of a call. Only a failed write leaves the
+-- The frames executed and the bytes sent, by the result of a call. Only after a failed write is the
 -- response to a frame incomplete.
 abbrev pub Answered : {X : Type 0} → Result X ServeFault → Course → List (List ℕ) → Around → Around
     → Type 0
@@ -110,25 +111,25 @@ Answered (Err Write) course frames old new = BrokenOff course frames old new
 Answered (Err Garbled) course frames old new = AllAnswered course frames old new
 Answered (Err TurnsUsed) course frames old new = AllAnswered course frames old new
 
--- The state of a server after a call with this result. `bytes` are all bytes that the server has
--- read on the connection.
+-- The state of a simulated device after a call with this result. `bytes` are all bytes that the
+-- device has read on the connection.
 abbrev pub standing_after : {X : Type 0} → Result X ServeFault → List ℕ → Course → Standing
 standing_after (Ok x) bytes course = standing_on (rest bytes) course
 standing_after (Err fault) bytes course = Faulted
 
--- A part of a connection: its bytes, including those buffered when it began, and the connection's
--- state before and after it.
+-- A part of a connection: its bytes, including those buffered before, and the connection's state
+-- before and after them.
 pub record Stretch : Type 0 where
   pub bytes : List ℕ
   pub before : Course
   pub left : Course
 
--- The part of a connection that consists of these bytes.
+-- Combines bytes of a connection with the connection's state before and after them.
 abbrev pub stretch : Course → Maps → List ℕ → Stretch
 stretch course maps bytes =
     record { bytes = bytes; before = course; left = course_after_all course maps (own_frames bytes) }
 
--- True if the server executed `count` frames of this part of a connection. The part has no invalid
+-- True if a device executed `count` frames in this part of a connection. The part has no invalid
 -- length field, unless an injected fault closed the connection.
 pub record Counts (count : ℕ) (stretch : Stretch) : Type 0 where
   pub counted : count ≡ length (carried_out stretch.before (own_frames stretch.bytes))
@@ -145,16 +146,16 @@ pub record IsGarbled (stretch : Stretch) : Type 0 where
   pub going : is_cut stretch.left ≡ false
   pub bad : IsBad (rest stretch.bytes)
 
--- Defines when a turn reports the end of the connection. If an injected fault closed the
--- connection, the turn reports the end. Otherwise a turn reports the end only if it read nothing
--- and no input is left.
+-- Defines when a turn (one read and its responses) reports the end of the connection. If an
+-- injected fault closed the connection, the turn reports the end. Otherwise the turn reports the
+-- end only if it read nothing and no input is left.
 pub record EndReports (ended : Bool) (left : Course) (taken : List ℕ) (remaining : Option (List ℕ)) :
     Type 0 where
   pub cut : is_cut left ≡ true → ended ≡ true
   pub end : is_cut left ≡ false → ended ≡ true → (taken ≡ []) × IsAtEnd remaining
 
--- States for each result of a turn how many frames the server executed, and whether the input ended
--- or has an invalid length field.
+-- States what each result of a turn (one read and its responses) implies: the number of executed
+-- frames, and whether the input ended or has an invalid length field.
 abbrev pub TurnReports : Result Turned ServeFault → Stretch → List ℕ → Option (List ℕ) → Type 0
 TurnReports (Ok turned) stretch taken remaining =
     Counts turned.answered stretch × EndReports turned.ended stretch.left taken remaining
@@ -163,8 +164,8 @@ TurnReports (Err Write) stretch taken remaining = Unit {0}
 TurnReports (Err Garbled) stretch taken remaining = IsGarbled stretch
 TurnReports (Err TurnsUsed) stretch taken remaining = ⊥
 
--- States for each result of `serve` how many frames the server executed, and whether the input
--- ended or has an invalid length field.
+-- States, for each result of `serve`, how many frames the device executed, and whether the input
+-- ended or has an invalid length field. The function `serve` repeats reads until the input ends.
 abbrev pub ServeReports : Result ℕ ServeFault → Stretch → Option (List ℕ) → Type 0
 ServeReports (Ok count) stretch remaining =
     Counts count stretch × (is_cut stretch.left ≡ false → IsAtEnd remaining)
@@ -179,19 +180,19 @@ is_over (Holds buffered course) = false
 is_over Over = true
 is_over Faulted = false
 
--- True if the turn found the end of the link's input, and did not end because an injected fault
+-- True if the turn (one read and its responses) found the end of the input, and no injected fault
 -- closed the connection.
 abbrev pub came_to_end : Result Turned ServeFault → Standing → Bool
 came_to_end (Ok turned) standing = turned.ended && not (is_over standing)
 came_to_end (Err fault) standing = false
 
--- True if `serve` found the end of the link's input, and did not end because an injected fault
--- closed the connection.
+-- True if the function `serve` found the end of the input, and did not end because an injected
+-- fault closed the connection.
 abbrev pub served_to_end : Result ℕ ServeFault → Standing → Bool
 served_to_end (Ok count) standing = not (is_over standing)
 served_to_end (Err fault) standing = false
 
--- True if the result is a failed read from the link.
+-- True if the result is a failed read from the connection.
 abbrev pub is_read_fault : {X : Type 0} → Result X ServeFault → Bool
 is_read_fault (Ok x) = false
 is_read_fault (Err Read) = true
@@ -199,16 +200,16 @@ is_read_fault (Err Write) = false
 is_read_fault (Err Garbled) = false
 is_read_fault (Err TurnsUsed) = false
 
--- True if the last read of the link had a buffer of 260 bytes. The read found the end exactly if
--- `ended` is true, and failed exactly if `failed` is true.
+-- True if the last read from the connection had a buffer of 260 bytes. The read found the end
+-- exactly if `ended` is true, and failed exactly if `failed` is true.
 pub record ReportsTake (ended failed : Bool) (last : Option LastTake) : Type 0 where
   pub answer : Result Took LinkFailed
   pub taken : last ≡ Some (record { room = MAX_ADU; answer = answer })
   pub end : ended ≡ is_end answer
   pub failure : failed ≡ is_err answer
 
--- The effects of one turn, which is one read and the responses to the frames that it completed. The
--- server has buffered the bytes `buffered` of an incomplete frame.
+-- The effects of one turn of a device, which is one read and the responses to the frames that it
+-- completed. The device had buffered the bytes `buffered` of an incomplete frame.
 pub record Turns (buffered : List ℕ) (course : Course) (result : Result Turned ServeFault)
     (old new : Around) (standing : Standing) : Type 0 where
   pub taken : List ℕ
@@ -220,7 +221,7 @@ pub record Turns (buffered : List ℕ) (course : Course) (result : Result Turned
       (course_after_all course old.maps (own_frames (buffered ++ taken)))
   pub reports : TurnReports result (stretch course old.maps (buffered ++ taken)) taken new.remaining
 
--- True if the server executed all `count` frames read until now and sent the complete responses to
+-- True if a device executed all `count` frames read until now and sent the complete responses to
 -- them, as injected faults changed them.
 pub record Served (buffered : List ℕ) (course : Course) (count : ℕ) (old new : Around)
     (standing : Standing) : Type 0 where
@@ -232,8 +233,8 @@ pub record Served (buffered : List ℕ) (course : Course) (count : ℕ) (old new
       (course_after_all course old.maps (own_frames (buffered ++ taken)))
   pub counts : Counts count (stretch course old.maps (buffered ++ taken))
 
--- The effects of `serve`, which repeats turns until the input ends. The server has buffered the
--- bytes `buffered` of an incomplete frame.
+-- The effects of `serve`, which repeats reads and responses until the input ends. The device had
+-- buffered the bytes `buffered` of an incomplete frame.
 pub record Serves (buffered : List ℕ) (course : Course) (result : Result ℕ ServeFault)
     (old new : Around) (standing : Standing) : Type 0 where
   pub taken : List ℕ
@@ -244,26 +245,27 @@ pub record Serves (buffered : List ℕ) (course : Course) (result : Result ℕ S
       (course_after_all course old.maps (own_frames (buffered ++ taken)))
   pub reports : ServeReports result (stretch course old.maps (buffered ++ taken)) new.remaining
 
--- The effects of `serve` by a server whose state before the call is `held`: those of `Serves`, if
--- the server is serving a connection.
+-- The effects of `serve` by a device whose state before the call is `held`. If its connection is
+-- open, they are the effects that `Serves` defines.
 abbrev pub ServesFrom : (held : Standing) → Result ℕ ServeFault → (old new : Around)
     → (standing : Standing) → Type 0
 ServesFrom held result old new standing =
     (buffered : List ℕ) (course : Course) → held ≡ Holds buffered course →
     Serves buffered course result old new standing
 
--- The complete frame in the reader, as a list of one frame, or the empty list.
+-- The complete frame that the reader has buffered, as a list of one frame; otherwise the empty
+-- list.
 abbrev pub buffered_frames : Option (List ℕ) → List (List ℕ)
 buffered_frames None = []
 buffered_frames (Some frame) = frame ∷ []
 
--- True if the reader has no frame, or its frame is complete.
+-- True if the reader has buffered no frame, or the buffered frame is complete.
 abbrev pub HoldsFrame : Option (List ℕ) → Type 0
 HoldsFrame None = Unit {0}
 HoldsFrame (Some frame) = IsFrame frame
 
--- States what each result implies when the server responds to the frame in its reader: success
--- counts that frame, and only a write can fail.
+-- States what each result implies when a device responds to its buffered frame. Success counts that
+-- frame, and only a write can fail.
 abbrev pub BufferedReports : Result ℕ ServeFault → Option (List ℕ) → Type 0
 BufferedReports (Ok count) frame = count ≡ length (buffered_frames frame)
 BufferedReports (Err Read) frame = ⊥
@@ -271,7 +273,7 @@ BufferedReports (Err Write) frame = Unit {0}
 BufferedReports (Err Garbled) frame = ⊥
 BufferedReports (Err TurnsUsed) frame = ⊥
 
--- States what each result implies when the server responds to the frames of a received chunk: how
+-- States what each result implies when a device responds to the frames of a received chunk: how
 -- many frames it executed, which bytes stay buffered, and whether a length field is invalid.
 abbrev pub PieceReports : Result ℕ ServeFault → Stretch → List ℕ → Type 0
 PieceReports (Ok count) stretch buffered =
@@ -281,30 +283,32 @@ PieceReports (Err Write) stretch buffered = Unit {0}
 PieceReports (Err Garbled) stretch buffered = IsGarbled stretch
 PieceReports (Err TurnsUsed) stretch buffered = ⊥
 
--- The state of a server after a turn with this result, by the reader and the connection after the
--- turn.
+-- The state of a device after a turn (one read and its responses) with this result.
 abbrev pub standing_in : {X : Type 0} → Result X ServeFault → Buffered → Course → Standing
 standing_in (Ok x) reader course = standing_on reader.rest course
 standing_in (Err fault) reader course = Faulted
 
--- The reader, the connection and the environment of a server, before or after a turn.
+-- All state of a device before or after a turn: the buffered bytes, the connection, the bytes to
+-- receive and sent, and the register map.
 pub record Scene : Type 0 where
   pub reader : Buffered
   pub course : Course
   pub around : Around
 
--- The scene of a turn: reader, connection, bytes of the link and register map.
+-- Combines the state of a device before or after a turn: buffered bytes, connection, bytes to
+-- receive and sent, and register map.
 abbrev pub scene : Buffered → Course → (remaining given : Option (List ℕ)) → Maps → Scene
 scene reader course remaining given maps =
     record { reader = reader; course = course; around = around remaining given maps }
 
--- True if a turn from the scene `old` to the scene `new` has the effects that `Turns` defines.
+-- True if a turn (one read and its responses) from the state `old` to the state `new` has the
+-- effects that `Turns` defines.
 abbrev pub TakesTurn : Result Turned ServeFault → (old new : Scene) → Type 0
 TakesTurn result old new =
     Turns old.reader.rest old.course result old.around new.around
     (standing_in result new.reader new.course)
 
--- True if the result is a failed read from the link or a failed write to it.
+-- True if the result is a failed read from the connection or a failed write to it.
 abbrev pub is_link_fault : {X : Type 0} → Result X ServeFault → Bool
 is_link_fault (Ok x) = false
 is_link_fault (Err Read) = true
@@ -312,19 +316,20 @@ is_link_fault (Err Write) = true
 is_link_fault (Err Garbled) = false
 is_link_fault (Err TurnsUsed) = false
 
--- True if a call of the server has returned a fault.
+-- True if a call for this connection of a simulated device has returned a fault.
 abbrev pub has_faulted : Standing → Bool
 has_faulted (Holds buffered course) = false
 has_faulted Over = false
 has_faulted Faulted = true
 
--- True if no call of the server has returned a fault and no injected fault closed its connection.
+-- True if no call has returned a fault and no injected fault closed the connection of the simulated
+-- device.
 abbrev pub is_serving : Standing → Bool
 is_serving (Holds buffered course) = true
 is_serving Over = false
 is_serving Faulted = false
 
--- The number of each fault, counted from 1.
+-- The number of each fault that stops a simulated device, counted from 1.
 abbrev pub serve_fault_number : ServeFault → ℕ
 serve_fault_number Read = 1
 serve_fault_number Write = 2

@@ -22,7 +22,7 @@ abbrev pub first_trick : List (ℕ × Trick) → ℕ → Option Trick
 first_trick tricks number =
     option_map (λ (t : ℕ × Trick). t.1) (find (λ (t : ℕ × Trick). t.0 == number) tricks)
 
--- The fault injected at this frame number, or `None`. Frames from number 2^64 - 1 have none.
+-- The fault injected at this frame number, or `None`. There is no fault from frame 2^64 - 1 on.
 unfoldable pub trick_at : List (ℕ × Trick) → ℕ → Option Trick
 trick_at tricks number = if nat_lt number (2 ^ 64 - 1) then first_trick tricks number else None
 
@@ -62,8 +62,8 @@ pub data Course : Type 0 where
 abbrev pub begun : List (ℕ × Trick) → Course
 begun tricks = Playing tricks 1 []
 
--- The state of a connection, by the fields of its sender. The `Bool` is true if an injected fault
--- closed the connection.
+-- The state of a connection, built from the fields of its sender. The `Bool` is true if an injected
+-- fault closed the connection.
 abbrev pub course_in : Bool → List (ℕ × Trick) → ℕ → List ℕ → Course
 course_in true tricks number later = CutOff
 course_in false tricks number later = Playing tricks number later

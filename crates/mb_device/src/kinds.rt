@@ -39,7 +39,7 @@ pub enum BankFault {
 }
 
 impl BankFault {
-    /// Returns the fault's number, counted from 1. Faults are checked in the order of their
+    /// Returns the number of the fault, counted from 1. Faults are checked in the order of their
     /// numbers, and the first fault that applies is reported.
     pub fn number(self) -> u8
         ensures { result ≡ bank_fault_number self }

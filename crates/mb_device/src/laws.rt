@@ -1,4 +1,4 @@
-//! Theorems about the bytes that a simulated device reads and writes over several turns.
+//! Theorems about the bytes that a simulated device reads and writes on a connection.
 ghost use Rattle.std.specs.Prelude.{◌≡◌, ◌-◌, ◌^◌, ℕ, List, [], false};
 ghost use Rattle.std.specs.List.{flat_map};
 ghost use Rattle.mb_wire.specs.Reader.{Fields};
@@ -6,9 +6,9 @@ ghost use Rattle.mb_device.specs.Exchanges.{AllAreOne, ServingExchanges, TurnExc
 ghost use Rattle.mb_device.specs.Tricks.{Playing, carried_out, course_after, frame_of, is_cut, sent};
 ghost use Rattle.mb_device.specs.declared.trick.Trick.{Trick};
 
-/// Theorem: each turn or `serve` that returns `Ok` writes exactly the responses to the frames that
-/// it read (an exchange). Consecutive exchanges form one exchange, even if the link gained or lost
-/// bytes between them.
+/// Theorem: each successful call writes exactly the responses to the frames that the device read
+/// (an exchange). A call is one read with its responses, or `serve`. Consecutive exchanges form one
+/// exchange, even if the connection gained or lost bytes in between.
 pub fn turns_compose()
     ensures turn { TurnExchanges }
     ensures serving { ServingExchanges }
@@ -16,8 +16,9 @@ pub fn turns_compose()
     ensures all { AllAreOne }
 {}
 
-/// Theorem: a server without injected faults executes every frame, sends the true responses in
-/// order, and never closes the connection. From frame 2^64 - 1 no fault is injected.
+/// Theorem: a simulated device without injected faults executes every frame, sends the true
+/// responses in order, and never closes the connection. From frame 2^64 - 1 on, no fault is
+/// injected.
 pub fn no_trick_is_true()
     ensures sent { (number : ℕ) (answers : List Fields) →
         sent (Playing [] number []) answers ≡ flat_map frame_of answers }

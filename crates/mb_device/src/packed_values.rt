@@ -39,7 +39,7 @@ pub(crate) fn pack_coils(values: &[Option<u16>], out: &mut [u8; MAX_BYTES]) -> u
     count
 }
 
-// Writes the value into `out` as register `i`, two bytes, high byte first.
+// Writes the value into `out` as register `i`: two bytes, the high byte first.
 fn write_word(out: &mut [u8; MAX_BYTES], i: usize, value: u16)
     requires { i < MAX_READ_REGISTERS }
     ensures { take (2 * i + 2) out.new ≡ take (2 * i) out.old ++ word value }

@@ -91,8 +91,8 @@ fn find_first(tricks: &[(u64, Trick)], number: u64) -> Option<Trick>
         .map(|trick| trick.1)
 }
 
-// Returns the fault injected at this frame number, or `None`. Frames from number 2^64 - 1 have
-// none.
+// Returns the fault injected at this frame number, or `None`. There is no fault from frame 2^64 - 1
+// on.
 #[tactic(auto, unfolding(crate::specs::Tricks::trick_at))]
 fn find_trick(tricks: &[(u64, Trick)], number: u64) -> Option<Trick>
     ensures { result ≡ trick_at tricks.now number }

@@ -1,4 +1,4 @@
-//! The server of a simulated device: it reads frames from a link and writes responses.
+//! The server of a simulated device: it reads frames from a connection and writes responses.
 ghost use Rattle.std.specs.Prelude.{◌≡◌, ◌≤◌, ◌<◌, ◌+◌, ◌^◌, ◌++◌, ℕ, List, [], length, not, true};
 ghost use Rattle.std.specs.Prelude.{false, is_err, IfOk, Ok, Err};
 ghost use Rattle.std.specs.Io.KnownBytes.{Keeps};
@@ -19,16 +19,16 @@ use crate::trick::Trick;
 use mb_wire::{Frame, FrameReader, Framing, Link, LinkFailed, MAX_ADU, MAX_PDU, Took};
 use std::marker::Model;
 
-/// The reason why a server stopped.
+/// The reason why the server of a simulated device stopped.
 #[derive(Clone, Copy, Debug, PartialEq, Eq)]
 pub enum ServeFault {
-    /// A read from the link failed.
+    /// A read from the connection failed.
     Read,
-    /// A write to the link failed, or accepted no bytes.
+    /// A write to the connection failed, or accepted no bytes.
     Write,
     /// The stream has an invalid length field, or an earlier call returned a fault.
     Garbled,
-    /// The input of the link did not end within the allowed number of turns (reads).
+    /// The input of the connection did not end within the allowed number of reads.
     TurnsUsed,
 }
 
@@ -46,7 +46,8 @@ impl ServeFault {
     }
 }
 
-/// The result of a successful turn of a server.
+/// The result of a successful turn: one read, and the responses to the frames that the read
+/// completed.
 #[derive(Clone, Copy, PartialEq, Eq)]
 pub struct Turned {
     /// The number of frames executed, including frames whose response an injected fault dropped,
@@ -56,7 +57,8 @@ pub struct Turned {
     pub ended: bool,
 }
 
-// The result of every turn after an injected fault closed the connection.
+// The result of every read after an injected fault closed the connection: no frames, and the end of
+// the input.
 const OVER: Turned = Turned {
     answered: 0,
     ended: true,
@@ -142,8 +144,8 @@ fn answer_buffered<L: Link>(
     }
 }
 
-// Responds to the Modbus frames that end in `piece`, until an injected fault closes the connection.
-// Returns the number of frames executed.
+// Responds to the Modbus frames that `piece` completes, until an injected fault closes the
+// connection. Returns the number of frames executed.
 fn answer_piece<L: Link>(
     reader: &mut FrameReader,
     sender: &mut Sender<'_>,
@@ -181,7 +183,7 @@ fn answer_piece<L: Link>(
     }
 }
 
-// Reads from the link once, and responds to the frames that the read completed.
+// Reads from the connection once, and responds to the frames that the read completed.
 fn take_turn<L: Link>(
     reader: &mut FrameReader,
     sender: &mut Sender<'_>,
@@ -246,7 +248,7 @@ impl<'t> Server<'t> {
         }
     }
 
-    // Returns whether an earlier call returned a fault.
+    // Returns whether an earlier call of the server returned a fault.
     fn has_failed(&self) -> bool
         ensures failed { result ≡ has_faulted self.now }
         ensures buffered { (buffered : List ℕ) (course : Course) → self.now ≡ Holds buffered course
@@ -268,12 +270,12 @@ impl<'t> Server<'t> {
         self.failed = true;
     }
 
-    /// Reads at most 260 bytes, and responds to each frame that ends in them. A response repeats
-    /// the frame's transaction and unit identifiers, unless an injected fault changes them.
+    /// Reads at most 260 bytes, and responds to each frame that these bytes complete. A response
+    /// repeats the frame's transaction and unit identifiers, unless an injected fault changes them.
     ///
     /// Requests executed before a fault keep their effect. After a fault, each call returns
-    /// `Garbled` without a read or a write. If an injected fault closes the connection, this turn
-    /// and all later turns report the end of the input, and later turns do nothing.
+    /// `Garbled` without a read or a write. If an injected fault closes the connection, this call
+    /// and all later calls report the end of the input, and later calls do nothing.
     pub fn turn<L: Link>(&mut self, link: &mut L, bank: &mut Bank) -> Result<Turned, ServeFault>
         ensures serving { (buffered : List ℕ) (course : Course) → self.old ≡ Holds buffered course →
             Turns buffered course result (around (L.remaining link.old) (L.given link.old) bank.old)
@@ -302,8 +304,9 @@ impl<'t> Server<'t> {
         turned
     }
 
-    /// Processes turns until the input ends, at most `max_turns`. Returns the number of frames
-    /// executed, including frames whose response an injected fault dropped, delayed or cut off.
+    /// Reads and responds until the input ends, with at most `max_turns` reads. Returns the number
+    /// of frames executed, including frames whose response an injected fault dropped, delayed or
+    /// cut off.
     ///
     /// Requests executed before a fault keep their effect. After a fault, each call returns
     /// `Garbled` without a read or a write. After an injected fault closed the connection, each

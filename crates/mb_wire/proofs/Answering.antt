@@ -1,4 +1,4 @@
--- Lemmas about decoding and encoding responses, over the definitions of `specs/` only.
+-- Lemmas about decoding and encoding Modbus responses.
 use Rattle.std.proofs.Common.{◌≡◌, ℕ, suc, ◌+◌, ◌-◌, ◌*◌, ◌≤◌, ◌==◌, nat_lt, inl, inr, true, false, not, ◌&&◌, ◌||◌, List, [], ◌∷◌, ◌++◌, length, drop, slice_index, None, Ok, refl, sym, ap, subst, ◌∙◌, arith, length-drop}
 use Rattle.std.proofs.lemmas.Bool.{cases_Bool, or_cases, or_from, or_parts, or_left, or_right, and_cases, and_left, and_right, and_from, and_parts, not-false, not_from_true, not_from_false, eqb-true, eq-eqb, ne_eqb, le-ltb, ltb-false, cond-true, cond-false, both_ways}
 use Rattle.mb_wire.specs.Bytes.{AreBytes, number_at, words_of, word_bytes}
@@ -142,7 +142,8 @@ five_only (a ∷ b ∷ c ∷ d ∷ []) h = refl
 five_only (a ∷ b ∷ c ∷ d ∷ e ∷ []) h = refl
 five_only (a ∷ b ∷ c ∷ d ∷ e ∷ f ∷ others) h = absurd (omega arith)
 
--- A PDU that passes the function check and is no exception begins with the request's function code.
+-- If a PDU has the request's function code, without the exception bit, then the PDU begins with
+-- this function code.
 begins : (query : Query) (pdu : List ℕ) → 1 ≤ length pdu → is_wrong_function query pdu ≡ false → is_exception query pdu ≡ false → slice_index pdu 0 ≡ function_of query
 begins query pdu some h plain =
     elim (and_cases _ _ h) [
@@ -235,7 +236,7 @@ reads_spells query pdu answer bytes e =
 pub faultless_spells : (query : Query) (pdu : List ℕ) → AreBytes pdu → reply_fault query pdu ≡ None → SpellsReply query pdu (answer_from query pdu)
 faultless_spells query pdu bytes e = sound_spells query pdu bytes (sound query pdu e)
 
--- If a response answers a request, the PDU that `answer_bytes` builds encodes that response.
+-- If a response answers a request, the PDU that the encoder builds encodes that response.
 pub spells_own : (query : Query) (answer : Answer) → AnswersQuery query answer → SpellsReply query (answer_bytes query answer) answer
 spells_own query (Bits bits) h =
     let count : length (packed bits) ≡ bytes_for (length bits) = length-packed_in (bytes_for (length bits)) bits in
@@ -246,7 +247,8 @@ spells_own query (Words words) h =
 spells_own query Echo h = (h, refl)
 spells_own query (Exception code) h = refl
 
--- Clearing spare bits in a successful response leaves its function code and byte count unchanged.
+-- Clearing the spare bits in the PDU of a successful response leaves its function code and byte
+-- count unchanged.
 plain_cleared : (query : Query) (wanted : Wanted) (others : List ℕ) → wanted_by query ≡ wanted → reply_cleared query (function_of query ∷ others) ≡ cleared_reply wanted (function_of query ∷ others)
 plain_cleared query wanted others e =
     cond-false _ _ _ (no_exception query others) ∙ ap (λ w. cleared_reply w (function_of query ∷ others)) e

@@ -1,4 +1,4 @@
--- Lemmas about decoding and encoding requests, over the definitions of `specs/` only.
+-- Lemmas about decoding and encoding Modbus requests.
 use Rattle.std.proofs.Common.{◌≡◌, ℕ, suc, ◌+◌, ◌-◌, ◌*◌, ◌/◌, ◌%◌, ◌<◌, ◌≤◌, ◌==◌, nat_lt, inl, inr, Bool, true, false, not, ◌&&◌, ◌||◌, if◌then◌else◌, List, [], ◌∷◌, ◌++◌, length, drop, slice_index, Option, Some, None, Ok, refl, sym, ap, subst, ◌∙◌, arith, length-drop, drop-cons}
 use Rattle.std.proofs.lemmas.Bool.{cases_eq, or_cases, or_from, or_parts, and_cases, and_left, and_right, not-false, not_from_true, eqb-true, eq-eqb, le-ltb, ltb-false, cond-true, cond-false, both_ways, leb-true, and_parts}
 use Rattle.std.proofs.lemmas.List.{drop_all}
@@ -193,8 +193,8 @@ within function pdu most many greatest h =
           (low, omega arith)
     ]
 
--- The statement that a PDU with this function code encodes the request that the decoder returns, if
--- the PDU passes all further checks.
+-- States that a PDU with this function code, if it passes all further checks, encodes the request
+-- that the decoder returns.
 abbrev Spelled : (List ℕ → Query) → List ℕ → ℕ → Type 0
 Spelled read others function =
     AreBytes (function ∷ others)
@@ -297,7 +297,7 @@ reads_spells pdu query h e =
     let both = ok_unless (request_fault pdu) (query_from pdu) query e in
     subst (SpellsRequest pdu) both.1 (faultless_spells pdu h (faultless pdu both.0))
 
--- If a request is valid, the PDU that `query_bytes` builds encodes that request.
+-- If a request is valid, the PDU that the encoder builds encodes that request.
 pub spells_own : (query : Query) → IsLawfulQuery query → address_of query < 65536 → field_of query < 65536 → SpellsRequest (query_bytes query) query
 spells_own (ReadCoils address quantity) lawful small fits = (lawful, small, refl)
 spells_own (ReadDiscrete address quantity) lawful small fits = (lawful, small, refl)
@@ -343,7 +343,8 @@ spells_cleared pdu (WriteRegisters address values) h s =
     ∙ ap (λ xs. shape ++ length bytes ∷ xs) (word_bytes-words_of n bytes bytes_are s.2.2)
     ∙ sym (ap request_cleared s.2.1)
 
--- A register write without a fault has as many data registers as its quantity field requires.
+-- A PDU that writes registers and has no fault has as many data registers as its quantity field
+-- requires.
 pub registers_lawful : (pdu : List ℕ) → AreBytes pdu → function_in pdu ≡ 16 → Faultless pdu → IsWithin (length (words_of (drop 6 pdu))) 123 × (length (drop 6 pdu) ≡ 2 * length (words_of (drop 6 pdu)))
 registers_lawful [] h e faults = absurd (omega arith)
 registers_lawful (function ∷ others) h e faults =

@@ -10,8 +10,8 @@ use Rattle.mb_wire.specs.Spans.{IsSpan}
 use Rattle.mb_wire.specs.declared.limits.TheConstants.{ADDRESSES, MAX_ADU, MAX_PDU, MBAP_HEADER}
 use Rattle.mb_wire.specs.declared.requests.RequestFault.TheVariants.{WrongQuantity}
 
--- ---- Quantities: the least and the greatest quantity of each function, and the first invalid
--- ones. Each request consists of the function code, address 0, the quantity, and data for a write.
+-- The least and the greatest quantity of each function, and the first invalid quantities. Each
+-- request consists of the function code, address 0, the quantity, and data for a write.
 
 reads_0_coils : request_fault (1 ∷ 0 ∷ 0 ∷ 0 ∷ 0 ∷ []) ≡ Some WrongQuantity
 reads_0_coils = refl
@@ -85,7 +85,7 @@ writes_123_registers = refl
 writes_124_registers : request_fault (16 ∷ 0 ∷ 0 ∷ 0 ∷ 124 ∷ 248 ∷ replicate 248 0) ≡ Some WrongQuantity
 writes_124_registers = refl
 
--- ---- sizes: a frame is a header of 7 bytes and a PDU of at most 253
+-- The sizes of a frame: a header of 7 bytes and a PDU of at most 253 bytes.
 
 longest_pdu : MAX_PDU ≡ 253
 longest_pdu = refl
@@ -99,7 +99,8 @@ a_header = refl
 addresses : ADDRESSES ≡ 65536
 addresses = refl
 
--- The length fields 1 and 2, 254 and 255, at both ends of the valid range.
+-- Length fields at both ends of the valid range: 1 (invalid) and 2 (valid), 254 (valid) and 255
+-- (invalid).
 length_1 : is_bad (0 ∷ 0 ∷ 0 ∷ 0 ∷ 0 ∷ 1 ∷ []) ≡ true
 length_1 = refl
 
@@ -138,7 +139,7 @@ too_long_is_garbled : is_garbled too_long ≡ true
 unfolding is_garbled rest rest_in
 too_long_is_garbled = refl
 
--- ---- Ranges that one request can read: 1 to 125 registers within the 65536 addresses
+-- The register ranges that one request can read: 1 to 125 registers within the 65536 addresses.
 
 span_of_125 : IsSpan 3 65411 125
 span_of_125 = record { low = omega arith; high = omega arith; some = omega arith; few = omega arith; inside = omega arith }
@@ -149,8 +150,8 @@ span_of_126 span = omega (arith, span.few)
 span_past_the_last : IsSpan 4 65412 125 → ⊥
 span_past_the_last span = omega (arith, span.inside)
 
--- ---- The examples in the Modbus standard (Modbus Application Protocol V1.1b3, section 6): each
--- request and response, decoded and encoded
+-- The examples in the Modbus standard (Modbus Application Protocol V1.1b3, section 6). Each request
+-- and response is decoded and encoded.
 
 read_coils_is_read : query_in (1 ∷ 0 ∷ 19 ∷ 0 ∷ 19 ∷ []) ≡ Ok (ReadCoils 19 19)
 unfolding coils_in bits_in packed_in

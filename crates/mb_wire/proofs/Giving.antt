@@ -1,4 +1,4 @@
--- Lemmas about bytes that a link sends in several writes.
+-- Lemmas about bytes that are sent over a link (a byte connection) in several writes.
 use Rattle.std.proofs.Common.{◌≡◌, ℕ, ◌-◌, List, ◌++◌, length, take, drop, Option, Result, Ok, Err, sym, ap, ◌∙◌, subst, arith, append_assoc, length-append}
 use Rattle.std.specs.Io.KnownBytes.{Appends}
 use Rattle.std.proofs.KnownBytes.{Appends-trans}
@@ -12,8 +12,8 @@ from n bytes = take (length bytes - n) (drop n bytes)
 pub whole_again : (n : ℕ) (bytes : List ℕ) → take n bytes ++ from n bytes ≡ bytes
 whole_again n bytes = ap (λ t. take n bytes ++ t) (take_rest bytes n) ∙ take-append-drop n bytes
 
--- If a link accepted all of `first` and then `next` was written, the result and the link's output
--- are those of one write of their concatenation.
+-- If a link (a byte connection) accepted all of `first` and then `next` was written, the result and
+-- the link's output are those of one write of both.
 pub Gives-both : {X E : Type 0} (result : Result X E) (a b c : Option (List ℕ)) (first next : List ℕ) → Appends a b first → Gives result b c next → Gives result a c (first ++ next)
 Gives-both (Ok x) a b c first next given gives = Appends-trans a b c _ _ given gives
 Gives-both (Err e) a b c first next given gives =
@@ -31,8 +31,8 @@ pub Gives-then : {X E : Type 0} (result : Result X E) (a b c : Option (List ℕ)
 Gives-then result a b c bytes n first next =
     subst (Gives result a c) (whole_again n bytes) (Gives-both result a b c (take n bytes) (from n bytes) first next)
 
--- An incomplete write of some bytes is also an incomplete write of a longer list that begins with
--- them.
+-- If a write of some bytes is incomplete, then it is also an incomplete write of a longer list that
+-- begins with these bytes.
 pub GivesPart-before : (a b : Option (List ℕ)) (first next : List ℕ) → GivesPart a b first → GivesPart a b (first ++ next)
 GivesPart-before a b first next gives =
     record {

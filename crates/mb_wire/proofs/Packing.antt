@@ -13,7 +13,7 @@ unfolding bits_in
 length-bits_in zero n = refl
 length-bits_in (suc k) n = ap suc (length-bits_in k (n / 2))
 
--- The first `j` of the `k` lowest bits of a number are its `j` lowest bits.
+-- The first `j` of the `k` lowest bits of a number are its `j` lowest bits, if `j` is at most `k`.
 pub take-bits_in : (j k n : ℕ) → j ≤ k → take j (bits_in k n) ≡ bits_in j n
 unfolding bits_in
 take-bits_in zero k n h = refl
@@ -67,7 +67,7 @@ length-coils_in (byte ∷ bytes) =
 pub length-coils_of : (quantity : ℕ) (bytes : List ℕ) → length (coils_of quantity bytes) ≡ min quantity (8 * length bytes)
 length-coils_of quantity bytes = length-take quantity (coils_in bytes) ∙ ap (min quantity) (length-coils_in bytes)
 
--- If a byte list has as many bytes as `quantity` coils need, it encodes all `quantity` coils.
+-- If a byte list has as many bytes as `quantity` coils need, then it encodes `quantity` coils.
 pub length-coils_of-whole : (quantity : ℕ) (bytes : List ℕ) → length bytes ≡ bytes_for quantity → length (coils_of quantity bytes) ≡ quantity
 length-coils_of-whole quantity bytes h =
     let few : quantity ≤ 8 * length bytes = omega arith in
@@ -112,7 +112,7 @@ other_coils quantity byte bytes =
           ∙ ap (take (quantity - 8)) back
     ]
 
--- Packing the first `quantity` coils of a byte list sets all other bits to 0.
+-- Unpacking `quantity` coils from a byte list and packing them again sets all other bits to 0.
 pub packed_in-coils_of : (bytes : List ℕ) (quantity : ℕ) → packed_in (length bytes) (coils_of quantity bytes) ≡ cleared_after quantity bytes
 unfolding packed_in cleared_after
 packed_in-coils_of [] quantity = refl

@@ -1,5 +1,5 @@
 -- Proves that each byte list splits in exactly one way into complete frames and the bytes after
--- them, and how a call of `feed` extends this split.
+-- them. Also proves how each chunk that the frame reader consumes extends this split.
 use Rattle.std.proofs.Common.{◌≡◌, ℕ, zero, suc, ◌+◌, ◌-◌, ◌<◌, ◌≤◌, ◌⊎◌, inl, inr, true, false, List, [], ◌∷◌, ◌++◌, length, take, drop, refl, sym, ap, ◌∙◌, subst, arith, append_assoc, length-append, length-drop, length-take-le, lit<}
 use Rattle.std.specs.List.{flat_map, AllByRecursion}
 use Rattle.std.proofs.lemmas.List.{get_or_append_left, take_at, drop_at, take-append-drop, append-nil}
@@ -84,7 +84,7 @@ Reads-only bytes fs r h =
     let P : List ℕ → Type 0 = λ ys. (frames ys ≡ fs) × (rest ys ≡ r) in
     subst P (sym h.joined) (only_in (length (concat fs ++ r)) fs r h.each h.ends (omega arith))
 
--- A byte list that begins with a complete frame has that frame as its first bytes.
+-- A byte list that begins with a complete frame has exactly this frame as its first frame.
 pub frame_in_front : (bytes : List ℕ) → begins_with_frame bytes ≡ true → IsFrame (take (6 + span_of bytes) bytes)
 frame_in_front bytes e =
     let outer = and_parts _ _ e in
@@ -147,8 +147,8 @@ pub AllByRecursion-append : {X : Type 0} (P : X → Type 0) (xs ys : List X) →
 AllByRecursion-append P [] ys h g = g
 AllByRecursion-append P (x ∷ xs) ys h g = (h.0, AllByRecursion-append P xs ys h.1 g)
 
--- If the bytes after a stream's complete frames and the new bytes `p` form one frame, the stream
--- then has that frame after its earlier frames, and no further bytes.
+-- Suppose that the bytes after a stream's complete frames and the new bytes `p` form one frame.
+-- Then the stream has that frame after its earlier frames, and no further bytes.
 more_frame : (bytes r p : List ℕ) (fs : List (List ℕ)) → Reads bytes fs r → IsFrame (r ++ p) → Reads (bytes ++ p) (fs ++ (r ++ p) ∷ []) []
 more_frame bytes r p fs h f =
     record {
@@ -162,16 +162,16 @@ more_frame bytes r p fs h f =
       ends = inl (inl (lit< tt));
     }
 
--- If the bytes after a stream's complete frames and the new bytes `p` form no complete frame, the
--- stream has the same complete frames as before.
+-- Suppose that the bytes after a stream's complete frames and the new bytes `p` form no complete
+-- frame. Then the stream has the same complete frames as before.
 more_rest : (bytes r p : List ℕ) (fs : List (List ℕ)) → Reads bytes fs r → IsOpen (r ++ p) ⊎ IsBad (r ++ p) → Reads (bytes ++ p) (fs ++ []) (r ++ p)
 more_rest bytes r p fs h ends =
     let P : List (List ℕ) → Type 0 = λ y. Reads (bytes ++ p) y (r ++ p) in
     subst P (sym (append-nil fs))
     record { joined = ap (λ y. y ++ p) h.joined ∙ append_assoc (concat fs) r p; each = h.each; ends = ends }
 
--- After a call of `feed`, the stream has all earlier frames and the frame that the call ended. If
--- the call ended none, its bytes follow the last complete frame.
+-- After a call of the frame reader, the stream has all earlier frames and the frame that the call
+-- ended. If the call ended no frame, its bytes follow the last complete frame.
 pub Reads-fed : (what : Framing) (bytes r p : List ℕ) (fs : List (List ℕ)) → Reads bytes fs r → ReportsFraming what (r ++ p) → Reads (bytes ++ p) (fs ++ ended what (r ++ p)) ((buffered_after what (r ++ p)).rest)
 Reads-fed Need bytes r p fs h t = more_rest bytes r p fs h (inl t)
 Reads-fed Whole bytes r p fs h t = more_frame bytes r p fs h t.0

@@ -8,7 +8,7 @@ use Rattle.mb_wire.specs.declared.link.LinkFailed.{LinkFailed}
 use Rattle.mb_wire.specs.declared.link.Took.{Took}
 use Rattle.mb_wire.specs.declared.link.Took.TheVariants.{Bytes, End, Idle}
 
--- Bounds a read: it returns at most as many bytes as its buffer has, and at least one byte if the
+-- True if a read returns at most as many bytes as its buffer has, and at least one byte if the
 -- buffer is not empty.
 abbrev pub TakesAtMost : Result Took LinkFailed → List ℕ → Type 0
 TakesAtMost (Ok (Bytes n)) piece = (n ≤ length piece) × (0 < length piece → 0 < n)
@@ -34,8 +34,8 @@ abbrev pub is_failed_give : Result ℕ LinkFailed → List ℕ → Bool
 is_failed_give (Ok n) bytes = n == 0 && nat_lt 0 (length bytes)
 is_failed_give (Err failed) bytes = true
 
--- True if a test has set the link to fail at call number `call`. The first argument is the number
--- of the failing call, or `None` if no call fails.
+-- True if call number `call` is the call that a test has set to fail. The first argument is the
+-- number of the failing call, or `None` if no call fails.
 abbrev pub is_call : Option ℕ → ℕ → Bool
 is_call None call = false
 is_call (Some fails) call = fails == call
@@ -55,8 +55,8 @@ pub record GivesPart (old new : Option (List ℕ)) (bytes : List ℕ) : Type 0 w
   pub whole : bytes ≡ part ++ unsent
   pub given : Appends old new part
 
--- True if the peer accepted all bytes of a successful call, or only a first part of them if the
--- call failed.
+-- True if the peer accepted all bytes of a successful write. If the write failed, the peer accepted
+-- only a first part of the bytes.
 abbrev pub Gives : {X E : Type 0} → Result X E → Option (List ℕ) → Option (List ℕ) → List ℕ → Type 0
 Gives (Ok x) old new bytes = Appends old new bytes
 Gives (Err failed) old new bytes = GivesPart old new bytes

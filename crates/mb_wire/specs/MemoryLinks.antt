@@ -1,5 +1,4 @@
--- The model of a `MemoryLink`, a connection in memory for tests, and the effects of its reads and
--- writes.
+-- The model of a connection in memory for tests, and the effects of its reads and writes.
 use Rattle.std.specs.Prelude.{ℕ, ◌-◌, ◌≡◌, ◌==◌, ◌||◌, min, Bool, true, is_err, if◌then◌else◌, List, [], ◌++◌, length, take, drop, Ok, Err, Some, None}
 use Rattle.std.specs.declared.result.Result.{Result}
 use Rattle.std.specs.declared.option.Option.{Option}
@@ -9,8 +8,8 @@ use Rattle.mb_wire.specs.declared.link.LinkFailed.{LinkFailed}
 use Rattle.mb_wire.specs.declared.link.Took.{Took}
 use Rattle.mb_wire.specs.declared.link.Took.TheVariants.{Bytes, End, Idle}
 
--- The state of a `MemoryLink`. `input` is the unread input and `room` the size of the output
--- buffer. One call moves at most `piece` bytes, and the call with number `fails` fails.
+-- The state of a connection in memory for tests. `input` is the unread input and `room` the size of
+-- the output buffer. One call moves at most `piece` bytes, and the call with number `fails` fails.
 pub record Memory : Type 0 where
   pub input : List ℕ
   pub output : List ℕ
@@ -23,7 +22,7 @@ pub record Memory : Type 0 where
   pub ends : ℕ
   pub last : Option LastTake
 
--- True if no call was made over the link and nothing was written to it.
+-- True if no call was made over the test connection and nothing was written to it.
 pub record IsFresh (link : Memory) : Type 0 where
   pub output : link.output ≡ []
   pub calls : link.calls ≡ 0
@@ -64,7 +63,7 @@ handed_out (Err failed) input = []
 abbrev pub filled : List ℕ → List ℕ → List ℕ
 filled bytes piece = bytes ++ drop (length bytes) piece
 
--- The state of a `MemoryLink` after a read with this result.
+-- The state of a test connection after a read with this result.
 pub record LeavesTake (old new : Memory) (room : ℕ) (answer : Result Took LinkFailed) : Type 0 where
   pub call : CallsOnce old new
   pub input : old.input ≡ handed_out answer old.input ++ new.input
@@ -84,8 +83,7 @@ give_answer link count =
     if output_free link == 0 || fails_next link then Err (record {})
     else Ok (min (min link.piece count) (output_free link))
 
--- The state of a `MemoryLink` after a write with this result. The contract of `give` defines the
--- output.
+-- The state of a test connection after a write with this result, except the bytes of its output.
 pub record LeavesGive (old new : Memory) (answer : Result ℕ LinkFailed) (bytes : List ℕ) : Type 0
   where
     pub call : CallsOnce old new

@@ -1,4 +1,5 @@
--- The model of a `FrameReader`, and the effect of `feed` on that model.
+-- The model of the reader that splits a byte stream into Modbus frames, and the effect of new bytes
+-- on this model.
 use Rattle.std.specs.Prelude.{◌≡◌, ℕ, ◌+◌, List, [], ◌∷◌, ◌++◌, length, Some, None}
 use Rattle.std.specs.declared.option.Option.{Option}
 use Rattle.mb_wire.specs.Bytes.{AreBytes, word}
@@ -9,8 +10,8 @@ use Rattle.mb_wire.specs.declared.frames.Framing.TheVariants.{Need, Whole, Forei
 use Rattle.mb_wire.specs.declared.frames.State.{State}
 use Rattle.mb_wire.specs.declared.frames.State.TheVariants.{Reading, Ended, Stuck}
 
--- The state of a `FrameReader`: the bytes since the last frame ended, and the Modbus frame that the
--- last feed ended, if any.
+-- The state of a frame reader: the bytes since the last frame ended, and the Modbus frame that the
+-- last call ended, if any.
 pub record Buffered : Type 0 where
   pub rest : List ℕ
   pub frame : Option (List ℕ)
@@ -27,22 +28,23 @@ FitsState Reading bytes = IsOpen bytes
 FitsState Ended bytes = IsFrame bytes × IsOwn bytes
 FitsState Stuck bytes = IsBad bytes × (length bytes ≡ 6)
 
--- States for each result of `feed` what the bytes since the last frame are: an incomplete frame, a
--- Modbus frame, a frame of another protocol, or a header with an invalid length field.
+-- States for each result of a frame reader's call what the bytes since the last frame are. They are
+-- an incomplete frame, a Modbus frame, a frame of another protocol, or a header with an invalid
+-- length field.
 abbrev pub ReportsFraming : Framing → List ℕ → Type 0
 ReportsFraming Need bytes = IsOpen bytes
 ReportsFraming Whole bytes = IsFrame bytes × IsOwn bytes
 ReportsFraming Foreign bytes = IsFrame bytes × (IsOwn bytes → ⊥)
 ReportsFraming Garbled bytes = IsBad bytes × (length bytes ≡ 6)
 
--- True if the call of `feed` with this result ended a frame, of Modbus or of another protocol.
+-- True if a frame reader's call with this result ended a frame, of Modbus or of another protocol.
 abbrev pub IsEnd : Framing → Type 0
 IsEnd Need = ⊥
 IsEnd Whole = Unit {0}
 IsEnd Foreign = Unit {0}
 IsEnd Garbled = ⊥
 
--- The model of a frame reader after a feed with this result. `bytes` are the bytes since the last
+-- The model of a frame reader after a call with this result. `bytes` are the bytes since the last
 -- frame ended.
 abbrev pub buffered_after : Framing → List ℕ → Buffered
 buffered_after Need bytes = record { rest = bytes; frame = None }
@@ -50,15 +52,15 @@ buffered_after Whole bytes = record { rest = []; frame = Some bytes }
 buffered_after Foreign bytes = record { rest = []; frame = None }
 buffered_after Garbled bytes = record { rest = bytes; frame = None }
 
--- The frame that a call of `feed` ended, as a list of one frame, or the empty list if it ended
--- none.
+-- The frame that a frame reader's call ended, as a list of one frame, or the empty list if no frame
+-- ended.
 abbrev pub ended : Framing → List ℕ → List (List ℕ)
 ended Need bytes = []
 ended Whole bytes = bytes ∷ []
 ended Foreign bytes = bytes ∷ []
 ended Garbled bytes = []
 
--- True if a call of `feed` splits the stream correctly, whatever bytes came before the call. A
+-- True if a frame reader's call splits the stream correctly, whatever bytes came before the call. A
 -- frame that the call ends is appended to the earlier frames, and the bytes after it are buffered.
 abbrev pub ReadsOn : (old new : Buffered) → (taken : List ℕ) → Framing → Type 0
 ReadsOn old new taken what =

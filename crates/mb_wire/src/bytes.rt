@@ -1,4 +1,4 @@
-//! Reads big-endian 16-bit numbers from a Modbus PDU, and appends coils and registers to one.
+//! Reads big-endian 16-bit numbers from a Modbus PDU, and appends coils and registers to a PDU.
 ghost use Rattle.std.specs.Prelude.{◌≡◌, ◌+◌, ◌*◌, ◌/◌, ◌%◌, ◌^◌, ◌≤◌, ◌<◌, ◌++◌};
 ghost use Rattle.std.specs.Prelude.{length, take};
 ghost use Rattle.mb_wire.specs.Bytes.{number_at, word_bytes, words_of};

@@ -34,7 +34,7 @@ pub struct Fed {
     pub what: Framing,
 }
 
-/// A frame borrowed from the reader: its transaction identifier, unit identifier and PDU.
+/// A Modbus frame in the reader's buffer: its transaction identifier, unit identifier and PDU.
 #[derive(Clone, Copy)]
 pub struct Frame<'a> {
     pub tid: u16,
@@ -140,7 +140,7 @@ fn what_is(buf: &[u8; MAX_ADU], len: usize, span: usize) -> Framing
 }
 
 // Copies bytes of `piece` after the incomplete frame in the first `len` bytes of `buf`, up to the
-// end of that frame.
+// end of the frame.
 fn take_in(buf: &mut [u8; MAX_ADU], len: usize, piece: &[u8]) -> Step
     requires fits { len ≤ MAX_ADU }
     requires before { IsOpen (take len buf.old) }
@@ -196,8 +196,8 @@ impl FrameReader {
         }
     }
 
-    /// Consumes bytes of `piece`, up to the end of the next frame. Call `feed` again with the
-    /// remaining bytes of `piece`.
+    /// Consumes bytes of `piece`, up to the end of the next frame. The caller calls `feed` again
+    /// with the remaining bytes of `piece`.
     pub fn feed(&mut self, piece: &[u8]) -> Fed
         ensures taken { result.taken ≤ length piece.now }
         ensures need { result.what ≡ Framing.Need → result.taken ≡ length piece.now }
@@ -252,7 +252,7 @@ impl FrameReader {
         step.fed
     }
 
-    /// Returns the Modbus frame that the last call of `feed` ended, or `None` if it ended none.
+    /// Returns the Modbus frame that the last call of `feed` ended, or `None` if no frame ended.
     pub fn frame(&self) -> Option<Frame<'_>>
         ensures { option_map spelled result ≡ option_map fields_of self.now.frame }
     {
@@ -300,8 +300,8 @@ pub fn one_reading()
         Reads bytes others left → (frames bytes ≡ others) × (rest bytes ≡ left) }
 {}
 
-/// Theorem: `write_frame` writes a frame that decodes to its transaction identifier, unit and PDU.
-/// No other bytes decode to these fields.
+/// Theorem: the bytes that `write_frame` writes decode to the given transaction identifier, unit
+/// and PDU. No other bytes decode to these fields.
 pub fn one_spelling()
     ensures frame { (tid unit : ℕ) (pdu : List ℕ) → tid < 65536 →
         1 ≤ length pdu → length pdu ≤ MAX_PDU → SpellsFrame tid unit pdu }

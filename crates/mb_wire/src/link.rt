@@ -6,10 +6,10 @@ ghost use Rattle.mb_wire.specs.Links.{is_end, is_failed_give, risen};
 ghost use Rattle.std.specs.declared.option.Option.{Option};
 ghost use Rattle.mb_wire.specs.declared.link.LastTake.{LastTake};
 
-/// The result of a successful read from a link.
+/// The result of a successful read from a link (a byte connection).
 #[derive(Clone, Copy, PartialEq, Eq)]
 pub enum Took {
-    /// The number of bytes that arrived. They are at the front of the read buffer.
+    /// The number of bytes that a read returned. They are at the front of the read buffer.
     Bytes(usize),
     /// The peer closed its sending side: no further bytes will arrive.
     End,
@@ -21,7 +21,7 @@ pub enum Took {
 #[derive(Clone, Copy, Debug, PartialEq, Eq)]
 pub struct LinkFailed;
 
-/// The buffer size in bytes and the result of the last read from a link.
+/// The last read from a link: the size of the read buffer in bytes, and the result.
 #[derive(Clone, Copy, PartialEq, Eq)]
 pub struct LastTake {
     pub room: usize,
@@ -30,8 +30,8 @@ pub struct LastTake {
 
 /// A connection to a peer. All of its counts saturate at 2^64 - 1.
 pub trait Link {
-    // The bytes that later reads will return, and the bytes written until now. `None` if the link
-    // cannot know them.
+    // The input bytes that later reads will return, and the output bytes written until now. `None`
+    // if the link cannot know them.
     ghost remaining: { Self → Option (List ℕ) } = { λ _. None };
 
     ghost given: { Self → Option (List ℕ) } = { λ _. None };

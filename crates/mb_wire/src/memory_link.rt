@@ -1,4 +1,4 @@
-//! A `Link` over slices in memory, for tests. One of its calls can be set to fail.
+//! A connection over slices in memory, for tests. One of its calls can be set to fail.
 ghost use Rattle.std.specs.Prelude.{◌≡◌, ◌≤◌, ◌+◌, ◌-◌, ◌==◌, length, take};
 ghost use Rattle.std.specs.Prelude.{is_err, Some, None, IfOk};
 ghost use Rattle.mb_wire.specs.Links.{TakeConsumes, TakesAtMost, is_call, is_end};
@@ -7,7 +7,8 @@ ghost use Rattle.mb_wire.specs.Links.{risen};
 use crate::link::{LastTake, Link, LinkFailed, Took};
 use std::marker::Model;
 
-/// A link with its input and output in memory. The field `calls` counts reads and writes together.
+/// A connection for tests, with its input and output in memory. The field `calls` counts reads and
+/// writes together.
 #[derive(Drop)]
 pub struct MemoryLink<'a> {
     input: &'a [u8],
@@ -47,8 +48,8 @@ impl<'a> Model for MemoryLink<'a> {
 impl<'a> MemoryLink<'a> {
     ghost use Rattle.mb_wire.specs.MemoryLinks.{IsFresh};
 
-    /// Creates a link over `input` and `output` that moves at most `piece` bytes in each call. Call
-    /// number `fails`, counted from 1, fails.
+    /// Creates a test connection over `input` and `output` that moves at most `piece` bytes in each
+    /// call. Call number `fails`, counted from 1, fails.
     pub fn new(
         input: &'a [u8],
         output: &'a mut [u8],
@@ -76,7 +77,7 @@ impl<'a> MemoryLink<'a> {
         }
     }
 
-    /// Returns all bytes written to the link.
+    /// Returns all bytes written to the connection.
     pub fn given(&self) -> &[u8]
         ensures { result.now ≡ self.now.output }
     {
@@ -84,7 +85,7 @@ impl<'a> MemoryLink<'a> {
     }
 }
 
-// Returns whether a test has set the link to fail at call number `call`.
+// Returns whether call number `call` is the call that a test has set to fail.
 fn fails_at(fails: Option<u64>, call: u64) -> bool
     ensures { result ≡ is_call fails call }
 {

@@ -64,26 +64,26 @@ pub enum Request<'a> {
 /// number is reported.
 #[derive(Clone, Copy, Debug)]
 pub enum RequestFault {
-    /// The first byte is none of the eight function codes.
+    /// The PDU's first byte is none of the eight function codes that this crate decodes.
     UnknownFunction,
     /// The PDU is empty, or its length does not match its function and byte count.
     WrongLength,
     /// The standard does not allow this quantity for the function code.
     WrongQuantity,
-    /// The byte count does not match the quantity.
+    /// The byte count of a write request does not match its quantity.
     WrongByteCount,
     /// The 16-bit value of a coil is not 0x0000 or 0xFF00.
     WrongCoilValue,
 }
 
-// The kind of content after the function code of a successful response.
+// The kind of content after the function code in the PDU of a successful response.
 #[derive(Clone, Copy)]
 pub(crate) enum Wanted {
-    // A byte count and this number of coils.
+    // The response contains a byte count and this number of coils.
     Coils(u16),
-    // A byte count and this number of registers.
+    // The response contains a byte count and this number of registers.
     Registers(u16),
-    // The address and value of the request, repeated.
+    // The response repeats the address and value of the request.
     Head,
 }
 

@@ -1,4 +1,4 @@
-//! Links over sockets, links with a deadline, and the clocks that deadlines need.
+//! Connections over sockets, connections with a deadline, and the clocks that deadlines need.
 
 mod clock;
 mod counts;

@@ -38,8 +38,9 @@ listed_still old new known same tables figures listed = record {
   figures = figures;
 }
 
--- If a store agreed with one of the lists `left` before a call, then it agrees with one of them
--- after the call. The premise is that the call preserves agreement with each list of records.
+-- If a store in memory agreed with one of the lists of records `left` before a call, then it agrees
+-- with one of them after the call. The premise is that the call ends no agreement with a list of
+-- records.
 pub one_still : (old new : ListBooks) → ((known : List Fact) → AreListed old known → AreListed new known) → (left : List (List Fact)) → HasOne old left → HasOne new left
 one_still old new still [] may = may
 one_still old new still (known ∷ left) (inl listed) = inl (still known listed)
@@ -50,14 +51,13 @@ one_among books [] more may = absurd may
 one_among books (known ∷ left) more (inl listed) = inl listed
 one_among books (known ∷ left) more (inr may) = inr (one_among books left more may)
 
--- If no records are added, then the store's figures (its number of meters and its latest timestamp)
--- still agree with the records.
+-- If no records are added to a store, then its number of meters and its latest timestamp still
+-- agree with the records.
 figures_after_none : (old new : ListBooks) (facts known : List Fact) → facts ≡ [] → FiguresFollow facts old new → AreListed old known → AreFigures new.figures known
 figures_after_none old new facts known none figures listed =
     subst (λ (fs : List Fact). AreFigures new.figures (with_facts fs known)) none (figures known listed.facts listed.figures)
 
--- If the store's list got the new records, then the result `Ok` satisfies the guarantees of the
--- call `book`.
+-- If a store's list of records got the new records, then `Ok` is the correct result of the write.
 pub added : (old mid new : ListBooks) (facts : List Fact) → mid.facts.items ≡ old.facts.items ++ facts → mid.zone ≡ old.zone → mid.tables ≡ old.tables
     → FiguresFollow facts old mid → KeepsFacts (ledger_of mid) (ledger_of new) → new.zone ≡ mid.zone → new.last_failure ≡ old.last_failure
     → Books (ledger_of old) (ledger_of new) facts (Ok tt)
@@ -74,8 +74,8 @@ added old mid new facts is zone tables figures keeps still_zone none_failed = re
   goes = record { clean = λ c. c; faults = ap failures_in none_failed; zone = still_zone ∙ zone };
 }
 
--- If memory runs out before the store's list gets the new records, then the failure satisfies the
--- guarantees of the call `book`. The store is unchanged.
+-- If memory runs out before a store's list gets the new records, then the write correctly reports
+-- the failure, and the store is unchanged.
 pub not_added : (old new : ListBooks) (facts : List Fact) (lacks : AllocError) (result : Result (Unit {0}) BooksFault) → result ≡ reported (Err lacks)
     → new.facts.items ≡ old.facts.items → new.zone ≡ old.zone → new.tables ≡ old.tables → new.figures ≡ old.figures
     → failures_in new.last_failure ≡ faults_after result (failures_in old.last_failure) → (facts ≡ [] → false ≡ true)

@@ -36,7 +36,8 @@ beneath old new n facts (Err fault) books = record {
   goes = record { clean = books.goes.clean; faults = refl; zone = books.goes.zone };
 }
 
--- If a write is passed on to the store below, its result satisfies the guarantees of a write.
+-- If the test store passes a write on to the store that it wraps, then the result satisfies the
+-- guarantees of a write.
 pub passed : (old between new : ListBooks) (n k m : Failures) (facts : List Fact) (done result : Result (Unit {0}) BooksFault)
     → between ≡ old → k ≡ n → result ≡ done → m ≡ faults_after done k → Books (ledger_of between) (ledger_of new) facts done
     → Books (refusing (ledger_of old) n) (refusing (ledger_of new) m) facts result
@@ -47,7 +48,8 @@ passed old between new n k m facts done result same stays is noted books =
     let M : Failures → Type 0 = λ f. Books (refusing (ledger_of between) k) (refusing (ledger_of new) f) facts done in
     subst B same (subst N stays (subst R (sym is) (subst M (sym noted) (beneath (ledger_of between) (ledger_of new) k facts done books))))
 
--- A write that fails before it reaches the store below satisfies the guarantees of a failed write.
+-- If the test store fails a write before the store that it wraps receives it, then the result
+-- satisfies the guarantees of a failed write.
 refused_at : (ledger : Ledger) (n : Failures) (facts : List Fact) (fault : BooksFault) → (facts ≡ [] → ⊥)
     → Books (refusing ledger n) (refusing ledger (faults_after {T = Unit {0}} (Err fault) n)) facts (Err fault)
 refused_at ledger n facts fault some = record {

@@ -18,7 +18,8 @@ beneath old new n result reads = record {
   keeps = keeps old new n (faults_after result n) reads.keeps;
 }
 
--- If a lookup is passed on to the store below, its result satisfies the guarantees of a lookup.
+-- If the test store passes a lookup on to the store that it wraps, then the result satisfies the
+-- guarantees of a lookup.
 pub read_on : {T : Type 0} → (old between new : ListBooks) (n k m : Failures) (found result : Result T BooksFault)
     → between ≡ old → k ≡ n → result ≡ found → m ≡ faults_after found k → OnlyReads (ledger_of between) (ledger_of new) found
     → OnlyReads (refusing (ledger_of old) n) (refusing (ledger_of new) m) result
@@ -29,8 +30,8 @@ read_on {T} old between new n k m found result same stays is noted reads =
     let M : Failures → Type 0 = λ f. OnlyReads (refusing (ledger_of between) k) (refusing (ledger_of new) f) found in
     subst B same (subst N stays (subst R (sym is) (subst M (sym noted) (beneath (ledger_of between) (ledger_of new) k found reads))))
 
--- A lookup that reaches the store below and fails afterwards satisfies the guarantees of a failed
--- lookup.
+-- If the test store passes a lookup on to the store that it wraps and fails afterwards, then the
+-- result satisfies the guarantees of a failed lookup.
 pub read_first : (old between new : ListBooks) (n k m : Failures) (x : Unit {0}) (handed result : Result (Unit {0}) BooksFault)
     → Ok x ≡ handed → k ≡ faults_after handed n → new ≡ between → m ≡ faults_after result k
     → OnlyReads (ledger_of old) (ledger_of between) handed → OnlyReads (refusing (ledger_of old) n) (refusing (ledger_of new) m) result
@@ -42,7 +43,8 @@ read_first old between new n k m x handed result whole stays same noted reads =
       keeps = keeps (ledger_of old) (ledger_of between) n m reads.keeps;
     })
 
--- If a lookup is passed on to the store below, it returns the result of the store below.
+-- If the test store passes a lookup on to the store that it wraps, then both return the same
+-- result.
 pub as_found : {T : Type 0} (So : T → Type 0) (found result : Result T BooksFault) → result ≡ found → IfOk found So → IfOk result So
 as_found {T} So found result is so = let P : Result T BooksFault → Type 0 = λ r. IfOk r So in subst P (sym is) so
 

@@ -1,4 +1,5 @@
--- Lemmas about lookups that first update the tables, and store a failure if memory runs out.
+-- Lemmas about lookups in memory that first add new records to their tables, and store a failure if
+-- memory runs out.
 use Rattle.std.proofs.Common.{◌≡◌, List, reverse, refl, sym, ap, subst, ◌∙◌, Option, Result, Ok}
 use Rattle.std.proofs.lemmas.List.{reverse-reverse}
 use Rattle.office_events.specs.declared.facts.Fact.{Fact}
@@ -15,11 +16,13 @@ use Rattle.memory_books.specs.Listed.{AreListed, ledger_of}
 use Rattle.memory_books.specs.Looking.{failures_in}
 use Rattle.memory_books.proofs.Adding.{one_still}
 
--- If a store agrees with records, then its list in reverse order equals these records.
+-- If a store in memory agrees with a list of records, then the store's list in reverse order equals
+-- this list.
 pub in_turn : (books : ListBooks) (facts known : List Fact) → facts ≡ books.facts.items → AreListed books known → reverse facts ≡ known
 in_turn books facts known is listed = ap reverse (is ∙ listed.facts) ∙ reverse-reverse known
 
--- If a call changes only the tables of a store, then the store still agrees with the same records.
+-- If a call changes only a store's lookup tables, then the store still agrees with the same
+-- records.
 pub keeps_facts : (old new : ListBooks) (facts : List Fact) → new.facts.items ≡ old.facts.items → new.figures ≡ old.figures → facts ≡ old.facts.items
     → (AreLawful (reverse facts) → HaveCome old.tables facts → HaveCome new.tables facts) → KeepsFacts (ledger_of old) (ledger_of new)
 keeps_facts old new facts same figures is further = record { facts = still; left = one_still old new still }
@@ -33,7 +36,8 @@ keeps_facts old new facts same figures is further = record { facts = still; left
       figures = subst (λ (f : Figures). AreFigures f known) (sym figures) listed.figures;
     }
 
--- After the tables are updated, each table agrees with all records of the store.
+-- After new records are added to a store's lookup tables, each table agrees with all records of the
+-- store.
 pub all_said : (old : ListBooks) (So : List Fact → Type 0) (facts known : List Fact) → facts ≡ old.facts.items
     → (AreLawful (reverse facts) → HaveCome old.tables facts → So (reverse facts)) → AreListed old known → So known
 all_said old So facts known is whole listed =
@@ -57,8 +61,8 @@ only_noted books last answer noted = record {
   keeps = noting books last;
 }
 
--- If a lookup first updates the tables and then stores its failure, if any, then it satisfies the
--- guarantees of a lookup.
+-- Suppose that a lookup first updates the store's tables, and then stores its failure, if any. Then
+-- it satisfies the guarantees of a lookup.
 pub ready : {T : Type 0} (old mid : ListBooks) (last : Option BooksFault) (answer : Result T BooksFault) → KeepsFacts (ledger_of old) (ledger_of mid)
     → mid.zone ≡ old.zone → mid.last_failure ≡ old.last_failure → failures_in last ≡ faults_after answer (failures_in mid.last_failure)
     → OnlyReads (ledger_of old) (ledger_of (record mid { last_failure = last })) answer

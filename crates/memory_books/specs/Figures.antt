@@ -16,8 +16,9 @@ pub record AreFigures (figures : Figures) (known : List Fact) : Type 0 where
 abbrev pub most_facts : ℕ
 most_facts = 18446744073709551615
 
--- The relation between the figures before and after the records `facts` are added. If the old
--- figures agree with the old records, then the new figures agree with all records.
+-- True if the figures (number of meters, latest timestamp) changed correctly with the new records
+-- `facts`. If the old figures agree with the old records, then the new figures agree with all
+-- records.
 abbrev pub CountOn : (facts : List Fact) → (old new : Figures) → Type 0
 CountOn facts old new =
     (known : List Fact) → AreFigures old known → length known + length facts ≤ most_facts

@@ -1,4 +1,5 @@
--- Definition of when a store in memory agrees with a list of records, and the model of this store.
+-- Definition of when a store in memory agrees with a list of records, and the store's model (the
+-- abstract state that contracts refer to).
 use Rattle.std.specs.Prelude.{◌≡◌, ◌⊎◌, List, [], ◌∷◌, reverse}
 use Rattle.memory_books.specs.Tables.Whole.{HaveCome}
 use Rattle.office_books.specs.Ledgers.{Ledger, with_facts}
@@ -8,9 +9,9 @@ use Rattle.memory_books.specs.Looking.{failures_in}
 use Rattle.memory_books.specs.declared.list_books.ListBooks.{ListBooks}
 use Rattle.office_books.specs.Lawful.{AreLawful}
 
--- True if the store has exactly these records, and the rules accept each record after the earlier
--- records. The figures agree with all records, and each table agrees with the records that were
--- added to the table.
+-- True if the store in memory has exactly these records, and the rules accept each record after the
+-- earlier records. The number of meters and the latest timestamp agree with all records. Each
+-- lookup table agrees with the records that were added to the table.
 pub record AreListed (books : ListBooks) (known : List Fact) : Type 0 where
   pub lawful : AreLawful known
   pub facts : books.facts.items ≡ reverse known
@@ -24,7 +25,7 @@ FiguresFollow facts old new = (known : List Fact) → old.facts.items ≡ revers
     → AreFigures old.figures known
     → AreFigures new.figures (with_facts facts known)
 
--- True if the store agrees with one of these lists of records.
+-- True if the store in memory agrees with one of these lists of records.
 abbrev pub HasOne : ListBooks → List (List Fact) → Type 0
 HasOne books [] = ⊥
 HasOne books (known ∷ left) = AreListed books known ⊎ HasOne books left

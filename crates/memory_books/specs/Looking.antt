@@ -1,4 +1,5 @@
--- Definitions for a store in memory: the order of records in lists, and the failures of calls.
+-- Definitions for a store in memory: the order of its records in lists, and the failures of its
+-- calls.
 use Rattle.std.specs.Prelude.{List, reverse, Option, Result, Ok, Err}
 use Rattle.std.specs.declared.alloc.AllocError.{AllocError}
 use Rattle.office_events.specs.declared.facts.Fact.{Fact}
@@ -6,7 +7,7 @@ use Rattle.office_books.specs.declared.failures.Failures.{Failures}
 use Rattle.office_books.specs.declared.faults.BooksFault.{BooksFault}
 use Rattle.office_books.specs.declared.faults.BooksFault.TheVariants.{Memory}
 
--- The records of a list, given earliest first, in the order latest first.
+-- The list of records with the latest first, from a list with the earliest first.
 abbrev pub latest_first : List Fact → List Fact
 latest_first facts = reverse facts
 

@@ -1,12 +1,12 @@
--- The model of a store for tests, which fails a chosen call and passes all other calls to a store
--- below.
+-- The model (abstract state) of a store for tests, which fails a chosen call and passes all other
+-- calls to another store.
 use Rattle.std.specs.Prelude.{List, Contains}
 use Rattle.office_events.specs.declared.facts.Fact.{Fact}
 use Rattle.office_books.specs.declared.failures.Failures.{Failures}
 use Rattle.office_books.specs.Ledgers.{Ledger}
 
--- The model of a store with the records of the store below (`beneath`), and with its own failure
--- counter.
+-- The model of a test store that has the records of the wrapped store (`beneath`), and its own
+-- failure counter.
 abbrev pub refusing : Ledger → Failures → Ledger
 refusing beneath failures = record {
   holds = beneath.holds;

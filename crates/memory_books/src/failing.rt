@@ -21,7 +21,8 @@ pub struct FailingBooks {
     pub(crate) calls: u64,
     pub(crate) failing: u64,
     pub(crate) failures: Failures,
-    /// True if a failing query that passes rows to a sink passes all rows before it fails.
+    /// True if a failing query that passes rows to a sink first passes all of its rows. Otherwise
+    /// the query fails at once.
     pub(crate) fails_after_rows: bool,
 }
 
@@ -47,7 +48,7 @@ impl FailingBooks {
         }
     }
 
-    /// Counts a call, and fails it if its number is the chosen number.
+    /// Counts a call of the store, and fails the call that a test has chosen by its number.
     fn called(&mut self) -> Result<(), BooksFault>
         ensures books { self.new.books ≡ self.old.books }
         ensures holds { (known : List Fact) → (ledger_of self.old.books).holds known

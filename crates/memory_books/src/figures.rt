@@ -1,5 +1,5 @@
-//! Figures that the store updates with each record, so that a query for a figure need not read all
-//! records.
+//! Two figures that the store updates with each record: the number of meters and the latest
+//! timestamp. A query for a figure need not read all records.
 ghost use Rattle.std.specs.Prelude.{◌<◌, ◌∷◌, List, [], length};
 ghost use Rattle.office_events.specs.declared.facts.Fact.{Fact};
 ghost use Rattle.memory_books.specs.Figures.{AreFigures, CountOn, most_facts};
@@ -15,7 +15,7 @@ pub(crate) struct Figures {
 }
 
 impl Figures {
-    /// Creates the figures of a store without records: 0 meters and the timestamp 0.
+    /// Creates the figures of a store without records: 0 meters, and 0 as the greatest timestamp.
     pub(crate) fn new() -> Figures
         ensures { AreFigures result [] }
     {

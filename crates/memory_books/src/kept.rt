@@ -1,4 +1,4 @@
-//! A store with a cache of lookup results over any other store.
+//! A store that caches the lookup results of another store.
 
 mod answers;
 mod kept;

@@ -1,4 +1,4 @@
-//! Selects records by kind.
+//! Selects records by kind, and finds the timestamp of a record.
 ghost use Rattle.std.specs.Prelude.{◌≡◌, ◌∷◌, [], length};
 ghost use Rattle.office_books.specs.Facts.{as_device, as_hold, openings_in, moment_in};
 

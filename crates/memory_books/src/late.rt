@@ -1,4 +1,4 @@
-//! A store for tests whose failing query first passes all of its rows to the sink.
+//! A store for tests, in which a failing query first passes all of its rows to the sink.
 ghost use Rattle.std.specs.Prelude.{◌≡◌};
 ghost use Rattle.office_books.specs.Faults.{no_failures};
 

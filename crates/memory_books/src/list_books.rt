@@ -1,4 +1,4 @@
-//! Implements the trait `Books` in memory.
+//! Implements the store in memory: a list of records with tables for lookups.
 ghost use Rattle.std.specs.Prelude.{◌≡◌, List, [], ◌++◌, OnOk, OnErr, IsOk};
 ghost use Rattle.office_books.specs.Faults.{faults_after};
 ghost use Rattle.office_events.specs.declared.facts.Fact.{Fact};
@@ -19,15 +19,15 @@ use office_events::{
 use std::alloc::{AllocError, Global};
 
 /// A store in memory, which is a list of records in the order in which they were added, with tables
-/// for lookups. A call fails only if memory runs out. A failed call changes no record, and notes
-/// the failure.
+/// for lookups. A call fails only if memory runs out. A failed call changes no record, and the
+/// store remembers the failure.
 #[derive(Drop)]
 pub struct ListBooks {
     facts: Vec<Fact>,
     zone: Zone,
     tables: Tables,
     figures: Figures,
-    /// The last failure, if any, which is that memory ran out.
+    /// The store's last failure, if any, which is that memory ran out.
     last_failure: Option<BooksFault>,
 }
 
@@ -51,7 +51,7 @@ impl ListBooks {
         }
     }
 
-    /// Adds the missing records to all tables. If memory runs out, some tables remain incomplete.
+    /// Adds new records to all lookup tables. If memory runs out, some tables remain incomplete.
     fn catch_up(&mut self) -> Result<(), AllocError>
         ensures keeps { KeepsFacts (ledger_of self.old) (ledger_of self.new) }
         ensures whole { (known : List Fact) → AreListed self.old known
@@ -64,7 +64,7 @@ impl ListBooks {
         self.tables.catch_up(&self.facts)
     }
 
-    /// Updates the tables before a lookup, or fails if memory runs out.
+    /// Adds new records to the lookup tables before a lookup, or fails if memory runs out.
     fn ready(&mut self) -> Result<(), BooksFault>
         ensures reads { OnlyReads (ledger_of self.old) (ledger_of self.new) result }
         ensures whole { (known : List Fact) → AreListed self.old known
@@ -95,7 +95,7 @@ impl ListBooks {
     }
 }
 
-/// Returns the result of a call, and notes a lack of memory as the last failure.
+/// Returns the result of a call, and stores a lack of memory as the last failure.
 fn note_failure<T>(
     last_failure: &mut Option<BooksFault>,
     done: Result<T, AllocError>,
@@ -295,8 +295,8 @@ impl Books for ListBooks {
     fn book(&mut self, facts: Vec<Fact>) -> Result<(), BooksFault> {
         match self.add(facts) {
             Ok(()) => {
-                // The records are stored even if this update of the tables fails. The next lookup
-                // adds the missing records to the tables.
+                // The records are stored even if the tables cannot be updated. The next lookup adds
+                // the missing records to the tables.
                 let _ = self.catch_up();
                 Ok(())
             }

@@ -1,5 +1,5 @@
--- Adding the shares of a new entry, which are its energies by quarter hour, one by one to the
--- interval rows.
+-- Lemmas on adding the energies of a new entry, divided by quarter hour, one by one to the interval
+-- rows: the energies of the quarter hours so far.
 use Rattle.std.proofs.Common.{◌≡◌, ℕ, ◌+◌, ◌*◌, ◌^◌, ◌/◌, ◌<◌, ◌≤◌, ◌==◌, Bool, true, false, cond, List, [], ◌∷◌, refl, sym, ap, ◌∙◌, inl, arith}
 use Rattle.std.proofs.lemmas.Bool.{cond-false, eqb-true}
 use Rattle.std.proofs.lemmas.Bool.Decides.{nat_tests}
@@ -21,14 +21,16 @@ use Rattle.meter_journal.proofs.InTime.{in_time}
 use Rattle.meter_journal.proofs.Chains.{Lies, touched_lies}
 use Rattle.meter_journal.proofs.Merging.{Above, Among, Rising, UpTo, above_lower, has_rows, rising_of, upto_all, contains_of, among_of}
 
--- Adding shares that start after the first interval row leaves this row unchanged.
+-- Adding shares (energies of single quarter hours) that start after the first interval row leaves
+-- this row unchanged.
 pub past_row : (row : Share) (rows shares : List Share) → Above row.start shares → with_each shares (row ∷ rows) ≡ row ∷ with_each shares rows
 past_row row rows [] h = refl
 past_row row rows (share ∷ shares) h =
     let off : row.start == share.start ≡ false = let lt : row.start < share.start = h.0 in grind (arith, nat_tests, lt) in
     ap (with_each shares) (cond-false _ _ _ off) ∙ past_row row (with_share share rows) shares h.1
 
--- Adding ordered shares to an empty list of interval rows produces these shares as rows.
+-- Adding shares (energies of single quarter hours), in order, to an empty list of interval rows
+-- produces these shares as rows.
 all_new : (shares : List Share) → Rising shares → with_each shares [] ≡ shares
 all_new [] h = refl
 all_new (share ∷ shares) h = past_row share [] shares h.0 ∙ ap (λ rows. share ∷ rows) (all_new shares h.1)
@@ -48,8 +50,8 @@ one_row row share shares false e rising le =
     past_row row (share ∷ []) shares (above_lower row.start share.start shares (omega (arith, lt)) rising.0)
     ∙ ap (λ rows. row ∷ rows) (past_row share [] shares rising.0 ∙ ap (λ rows. share ∷ rows) (all_new shares rising.1))
 
--- Merging later shares into interval rows produces the same rows as adding each share to the row of
--- its interval.
+-- Merging later shares (energies of single quarter hours) into interval rows produces the same rows
+-- as adding each share to the row of its interval.
 pub added_each : (rows : List Share) (share : Share) (shares : List Share) → Rising rows → Rising (share ∷ shares) → UpTo share.start rows
     → with_shares rows (share ∷ shares) ≡ with_each (share ∷ shares) rows
 added_each [] share shares up rising upto = sym (all_new (share ∷ shares) rising)
@@ -59,8 +61,8 @@ added_each (row ∷ next ∷ rows) share shares up rising upto =
     ap (λ rs. row ∷ rs) (added_each (next ∷ rows) share shares up.1 rising upto.1)
     ∙ sym (past_row row (next ∷ rows) (share ∷ shares) (lt, above_lower row.start share.start shares (omega (arith, lt)) rising.0))
 
--- True if merging shares into interval rows produces the same rows as adding each share to the row
--- of its interval.
+-- True if merging shares (energies of single quarter hours) into interval rows produces the same
+-- rows as adding each share to the row of its interval.
 abbrev IsAddedEach : List Share → List Share → Type 0
 IsAddedEach rows shares = with_shares rows shares ≡ with_each shares rows
 

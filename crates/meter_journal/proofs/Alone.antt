@@ -1,4 +1,5 @@
--- The valid entries of a journal form a journal without voids that obeys the rules.
+-- The valid (not voided) entries of a meter's journal alone form a journal without cancellations
+-- that obeys the rules.
 use Rattle.std.proofs.Common.{◌≡◌, true, false, List, [], ◌∷◌, map, refl, sym, ap, subst, ◌∙◌, inl, inr}
 use Rattle.std.proofs.lemmas.Bool.{cases_Bool, cond-true, cond-false}
 use Rattle.energy_core.specs.declared.entries.Last.{Last}
@@ -14,7 +15,7 @@ use Rattle.meter_journal.specs.Laws.{VoidsLeaveNoTrace}
 use Rattle.meter_journal.proofs.Keeping.{rows_are_sound}
 use Rattle.meter_journal.proofs.AsEntered.{AreRowsOf, rows_are_entered, stands_on}
 
--- The journal that records the entries of a list of rows produces exactly these entries.
+-- The meter's journal that records the entries of a list of rows produces exactly these entries.
 entries_alone : (opening : Last) (rows : List EntryRow) → entries_of opening (entering rows) ≡ map (λ row. row.entry) rows
 entries_alone opening [] = refl
 entries_alone opening (row ∷ rows) = ap (λ (es : List Entry). row.entry ∷ es) (entries_alone opening rows)

@@ -1,4 +1,5 @@
--- The balance between the energy of entries and the counts that the entries record.
+-- Lemmas on the balance between the energy of a meter's entries and the counts that the entries
+-- record.
 use Rattle.std.proofs.Common.{◌≡◌, ℕ, ◌+◌, ◌-◌, ◌*◌, ◌≤◌, List, [], ◌∷◌, arith}
 use Rattle.std.proofs.Math.Nat.{mul-le-mul_right}
 use Rattle.energy_core.specs.declared.entries.Entry.{Entry}

@@ -1,5 +1,5 @@
--- The energy of a true run, which is a list of an honest meter's counts, before the start of an
--- interval.
+-- Lemmas on the energy before the start of an interval in a true run, which lists the true counts
+-- of an honest meter.
 use Rattle.std.proofs.Common.{◌≡◌, ℕ, ℤ, ◌+◌, ◌-◌, ◌*◌, ◌%◌, ◌<◌, ◌≤◌, ◌==◌, nat_lt, nat_le, Bool, true, false, cond, if◌then◌else◌, List, [], ◌∷◌, refl, sym, ap, ◌∙◌, inl, inr, arith}
 use Rattle.std.proofs.Math.Nat.{add-mul}
 use Rattle.std.proofs.lemmas.Bool.{cases_Bool, cond-true, cond-false, eqb-true}
@@ -27,7 +27,8 @@ joined_before bound row share shares true e =
     ])
 joined_before bound row share shares false e = omega arith
 
--- Merging shares into interval rows adds up the energies of both before any time `bound`.
+-- Merging shares (energies of quarter hours) into interval rows adds up the energies of both before
+-- any time `bound`.
 pub merged_before : (bound : ℕ) (rows shares : List Share)
     → energy_before bound (with_shares rows shares) ≡ energy_before bound rows + energy_before bound shares
 merged_before bound [] shares = omega arith
@@ -95,8 +96,8 @@ rows_before bound sf first items = energy_before bound (rows_of_steps (true_step
 none_counted : (u n : ℕ) → (n - n) * u ≡ 0
 none_counted u n = let z : n - n ≡ 0 = omega arith in let m : (n - n) * u ≡ 0 * u = ap (λ k. k * u) z in omega arith
 
--- The energy of a run before the time `bound` never exceeds the energy of the complete run. Both
--- energies are equal if the latest item is at or before `bound`.
+-- The energy of a run (a meter's true counts over time) before the time `bound` never exceeds the
+-- energy of the complete run. Both energies are equal if the latest item is at or before `bound`.
 whole_run : SharesAddUp → (ceiling : ℕ) (sf : ℤ) (first : Item) (items : List Item) (bound : ℕ) → IsTrueRun ceiling sf first items
     → (rows_before bound sf first items ≤ advance sf first (newest first items))
     × ((newest first items).at ≤ bound → rows_before bound sf first items ≡ advance sf first (newest first items))
@@ -113,9 +114,9 @@ whole_run law ceiling sf first (b ∷ items) bound h =
       λ le. let all = whole_before law bound step h.0 le in let before = rest.1 (omega (arith, le, h.0)) in omega (arith, sum, all, before, on),
     )
 
--- The recorded energy before the start of an interval is at least the true energy up to the last
--- item at or before this start. It is at most the true energy up to the first item at or after this
--- start.
+-- The recorded energy before an interval's start is at least the true energy up to the last item
+-- (count of an honest meter) at or before this start. It is at most the true energy up to the first
+-- item at or after this start.
 pub truth_is_spread : SharesAddUp → (ceiling : ℕ) (sf : ℤ) (first : Item) (items : List Item) (bound : ℕ) → IsTrueRun ceiling sf first items
     → bound % 900 ≡ 0
     → (advance_to sf first items bound ≤ rows_before bound sf first items) × (rows_before bound sf first items ≤ advance_past sf first items bound)

@@ -1,5 +1,5 @@
--- Conversion between lists of rows that begin with the oldest row and lists that begin with the
--- latest row.
+-- Lemmas on the conversion between lists of entry rows that begin with the oldest row and lists
+-- that begin with the latest row.
 use Rattle.std.proofs.Common.{◌≡◌, ℕ, zero, suc, ◌+◌, ◌<◌, ◌≤◌, ◌==◌, Bool, true, false, cond, List, [], ◌∷◌, ◌++◌, map, reverse, take, drop, length, get_or, set, refl, sym, ap, subst, ◌∙◌, inl, inr, ◌⊎◌, Option, Some, None, arith, append_assoc, eq-eqb}
 use Rattle.std.specs.List.{find}
 use Rattle.std.specs.Option.{option_map, option_or}
@@ -43,7 +43,6 @@ pub last_all : (opening : Last) (rows : List EntryRow) (i : ℕ) (last : Last) �
     → last ≡ last_of opening (entries_in (latest_first (take i rows))) → last ≡ last_of opening (entries_in (latest_first rows))
 last_all opening rows i last le is = is ∙ ap (λ (rs : List EntryRow). last_of opening (entries_in (latest_first rs))) (take_all i rows le)
 
--- ---- the valid entries of the first rows
 -- If all rows of a list have consecutive sequence numbers, its older rows alone have them too.
 
 pub numbered_below : (newer older : List EntryRow) → AreNumbered (newer ++ older) → AreNumbered older
@@ -74,9 +73,8 @@ numbered_drop n m zero rows is h = let e : n ≡ m = omega (arith, is) in subst 
 numbered_drop n m (suc i) [] is h = tt
 numbered_drop n m (suc i) (row ∷ rows) is h = numbered_drop (suc n) m i rows (omega (arith, is)) h.1
 
--- ---- the rows after a void
-
--- Voiding an entry changes the rows after it only by recomputing the rollovers of valid readings.
+-- Voiding (cancelling) an entry changes the rows after it only by recomputing the rollovers of
+-- valid readings.
 void_onto : (opening : Last) (place n : ℕ) (newer before done : List EntryRow) → place < n → NumberedFrom n newer
     → with_void opening place before ≡ done
     → with_void opening place (reverse newer ++ before) ≡ reverse (rolled_on (last_of opening (entries_in done)) newer) ++ done
@@ -91,7 +89,8 @@ void_onto opening place n (row ∷ newer) before done lt h is =
     ∙ ap (λ (l : Last). reverse (rolled_on l newer) ++ next ∷ done) (last_on opening next done)
     ∙ sym (reverse_onto next (rolled_on (following (last_of opening (entries_in done)) next) newer) done)
 
--- Recomputing the rollovers of one more row preserves the invariant of the loop.
+-- Recomputing the rollovers of one more row preserves the invariant of the loop that recomputes
+-- them.
 pub roll_step : (rows : List EntryRow) (i : ℕ) (last stand : Last) (d next : EntryRow) → i < length rows → next ≡ rolled last (get_or rows i d)
     → stand ≡ following last next
     → take (i + 1) (set rows i next) ++ rolled_on stand (drop (i + 1) (set rows i next)) ≡ take i rows ++ rolled_on last (drop i rows)
@@ -108,8 +107,8 @@ roll_step rows i last stand d next lt next_is stand_is =
 pub roll_end : (rows : List EntryRow) (i : ℕ) (last : Last) → length rows ≤ i → take i rows ++ rolled_on last (drop i rows) ≡ rows
 roll_end rows i last le = ap (λ rs. take i rows ++ rolled_on last rs) (drop_all i rows le) ∙ append-nil (take i rows) ∙ take_all i rows le
 
--- The rows after a void are the unchanged older rows, the marked row, and the newer rows with
--- recomputed rollovers.
+-- The rows after an entry is voided (cancelled) are the unchanged older rows, the marked row, and
+-- the newer rows with recomputed rollovers.
 pub void_at : (opening : Last) (place n : ℕ) (older : List EntryRow) (row : EntryRow) (newer : List EntryRow) → place < n → NumberedFrom n newer
     → row.place == place ≡ true
     → with_void opening place (latest_first (older ++ row ∷ newer))
@@ -124,7 +123,6 @@ void_at opening place n older row newer lt h at =
     ∙ sym (turn (struck row) (rolled_on (last_of opening (entries_in (latest_first older))) newer))
     ∙ ap reverse (sym (append_assoc older (struck row ∷ []) (rolled_on (last_of opening (entries_in (latest_first older))) newer)))
 
--- ---- the search for a row by its sequence number
 -- Choosing the first of three options that has a value gives one result, however they are grouped.
 
 or_assoc : {X : Type 0} (a b c : Option X) → option_or (option_or a b) c ≡ option_or a (option_or b c)
@@ -176,7 +174,6 @@ pub none_there : (place : ℕ) (rows : List EntryRow) → AreNumbered (latest_fi
 none_there place rows h out =
     none_at place (latest_first rows) h (elim out [ inl low ↦ inl low | inr high ↦ inr (omega (arith, high, length-reverse rows)) ])
 
--- ---- the row at an index
 -- A list consists of the rows before an index, the row at the index, and the rows after it.
 
 split_at : (rows : List EntryRow) (i : ℕ) (d : EntryRow) → i < length rows → rows ≡ take i rows ++ get_or rows i d ∷ drop (i + 1) rows

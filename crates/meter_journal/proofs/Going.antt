@@ -1,4 +1,4 @@
--- The state of a meter after each row of a list.
+-- Lemmas on the state of a meter after each row of a list.
 use Rattle.std.proofs.Common.{◌≡◌, ℕ, ◌+◌, ◌*◌, ◌^◌, ◌<◌, ◌≤◌, true, false, List, [], ◌∷◌, ◌++◌, reverse, take, drop, length, get_or, refl, sym, ap, subst, ◌∙◌, inl, inr, arith, Some, None}
 use Rattle.std.proofs.lemmas.Bool.{cases_Bool, cond-true, cond-false}
 use Rattle.std.proofs.lemmas.Option.{same_Some}
@@ -79,7 +79,8 @@ may_go_on meter rows i d last total well h lt on last_is total_is =
     } in
     subst (λ (l : Last). MayGoOn meter l total e) (sym last_is) (subst (λ n. MayGoOn meter (last_after meter es) n e) (sym total_is) may)
 
--- The counter's state after one more row is the state after all valid entries up to that row.
+-- The state of a meter's counter after one more row is the state after all valid entries up to that
+-- row.
 pub last_next : (meter : Installed) (rows : List EntryRow) (i : ℕ) (d : EntryRow) (last next : Last) → i < length rows
     → last ≡ last_after meter (earlier rows i) → next ≡ following last (get_or rows i d) → next ≡ last_after meter (earlier rows (i + 1))
 last_next meter rows i d last next lt last_is next_is =
@@ -105,7 +106,8 @@ total_next meter rows i d last total next h lt last_is total_is next_is =
           more ∙ ap (total_after meter) (sym (earlier_struck rows i d lt off))
     ]
 
--- A row that produces a step is valid, and a row without a step is voided.
+-- A row that produces a step (an energy since the last valid entry) is valid, and a row without a
+-- step is voided (cancelled).
 pub step_is : (range : ℕ) (rows : List EntryRow) (i : ℕ) (d : EntryRow) (last : Last) (step : Step) → Some step ≡ step_past range last (get_or rows i d)
     → ((get_or rows i d).stands ≡ true) × (step ≡ step_to range last (get_or rows i d).entry)
 step_is range rows i d last step is =
@@ -122,7 +124,8 @@ no_step range rows i d last is =
       | inr off ↦ off
     ]
 
--- The interval rows after one more valid row are those of all valid entries up to that row.
+-- The interval rows (energies by quarter hour) after one more valid row are those of all valid
+-- entries up to that row.
 pub shares_next : (meter : Installed) (rows : List EntryRow) (i : ℕ) (d : EntryRow) (last : Last) (shares next : List Share) (step : Step)
     → i < length rows → (get_or rows i d).stands ≡ true → last ≡ last_after meter (earlier rows i)
     → shares ≡ rows_of_steps (steps_after meter (earlier rows i)) → step ≡ step_to meter.range last (get_or rows i d).entry
@@ -134,7 +137,8 @@ shares_next meter rows i d last shares next step lt on last_is shares_is step_is
     ∙ ap (λ (s : Step). with_shares (rows_of_steps (steps_after meter es)) (shares_of s)) (step_is ∙ ap (λ (l : Last). step_to meter.range l e) last_is)
     ∙ ap (λ (xs : List Entry). rows_of_steps (steps_after meter xs)) (sym (earlier_standing rows i d lt on))
 
--- The energy of the interval rows and the next step together is at most the limit of 4 * 10^18 mWh.
+-- The energy of a meter's interval rows and the energy of the next step together are at most the
+-- limit of 4 * 10^18 mWh.
 pub shares_within : SharesAddUp → (meter : Installed) (rows : List EntryRow) (i : ℕ) (d : EntryRow) (last : Last) (total : ℕ) (shares : List Share) (step : Step)
     → IsWellInstalled meter → HasAccount meter (entries_in (latest_first rows)) → i < length rows → (get_or rows i d).stands ≡ true
     → last ≡ last_after meter (earlier rows i) → total ≡ total_after meter (earlier rows i)

@@ -1,4 +1,4 @@
--- Merging shares, which are energies in single quarter hours, into interval rows one by one.
+-- Lemmas on merging shares (energies of single quarter hours) into interval rows one by one.
 use Rattle.std.proofs.Common.{◌≡◌, ℕ, zero, suc, ◌+◌, ◌<◌, ◌≤◌, ◌==◌, Bool, true, false, cond, List, [], ◌∷◌, ◌++◌, length, get_or, set, refl, sym, ap, ◌∙◌, arith, eq-eqb}
 use Rattle.std.proofs.lemmas.Bool.{cond-true, cond-false, eqb-true}
 use Rattle.std.proofs.lemmas.Bool.Decides.{nat_tests}
@@ -17,7 +17,7 @@ use Rattle.meter_journal.proofs.Merging.{Above, Rising}
 different : (a b : ℕ) → a < b → a == b ≡ false
 different a b lt = grind (arith, nat_tests, lt)
 
--- A share in the interval of the last row is merged into that row.
+-- A share (the energy of a quarter hour) in the interval of the last row is merged into that row.
 pub joined_same : (rows : List Share) (n : ℕ) (row share : Share) → length rows ≡ suc n → get_or rows n row ≡ row → row.start ≡ share.start
     → set rows n (record { start = row.start; mwh = row.mwh + share.mwh }) ≡ with_shares rows (share ∷ [])
 joined_same [] n row share long is at = absurd (omega (arith, long))
@@ -29,7 +29,7 @@ joined_same (first ∷ next ∷ rows) zero row share long is at = absurd (omega 
 joined_same (first ∷ next ∷ rows) (suc n) row share long is at =
     ap (λ rs. first ∷ rs) (joined_same (next ∷ rows) n row share (omega (arith, long)) is at)
 
--- A share in an interval after the last row becomes a new row.
+-- A share (the energy of a quarter hour) in an interval after the last row becomes a new row.
 pub joined_other : (rows : List Share) (n : ℕ) (row share : Share) → length rows ≡ suc n → get_or rows n row ≡ row → row.start == share.start ≡ false
     → rows ++ share ∷ [] ≡ with_shares rows (share ∷ [])
 joined_other [] n row share long is at = absurd (omega (arith, long))
@@ -43,8 +43,8 @@ pub joined_none : (rows : List Share) (share : Share) → length rows ≤ 0 → 
 joined_none [] share le = refl
 joined_none (row ∷ rows) share le = absurd (omega (arith, le))
 
--- ---- merging all shares of a step
--- The interval rows after the shares of a list are merged one by one, from the first to the last.
+-- The interval rows after the shares (energies of quarter hours) of a list are merged into them one
+-- by one.
 
 abbrev pub joined_all : List Share → List Share → List Share
 joined_all rows [] = rows
@@ -55,7 +55,8 @@ no_shares [] = refl
 no_shares (row ∷ []) = refl
 no_shares (row ∷ next ∷ rows) = ap (λ rs. row ∷ rs) (no_shares (next ∷ rows))
 
--- Shares that start after an interval row are appended to it unchanged.
+-- Shares (energies of quarter hours) that start after an interval row are appended to this row
+-- unchanged.
 after_row : (row : Share) (shares : List Share) → Above row.start shares → joined row shares ≡ row ∷ shares
 after_row row [] h = refl
 after_row row (share ∷ shares) h = cond-false _ _ _ (different row.start share.start h.0)
@@ -98,8 +99,8 @@ all_joined rows [] rising = sym (no_shares rows)
 all_joined rows (share ∷ shares) rising =
     all_joined (with_shares rows (share ∷ [])) shares rising.1 ∙ one_by_one rows share shares rising
 
--- ---- the energy of the merged rows
--- The energy of a row and a list of shares is the same, whether the first share is merged or not.
+-- The energy of a row and a list of shares (energies of quarter hours) is the same, whether the
+-- first share is merged or not.
 
 joined_sum : (row share : Share) (shares : List Share) (b : Bool)
     → energy_of (cond b (record { start = row.start; mwh = row.mwh + share.mwh } ∷ shares) (row ∷ share ∷ shares)) ≡ energy_of (row ∷ []) + energy_of (share ∷ shares)
@@ -124,7 +125,8 @@ one_more rows share =
 pub first_and_rest : (share : Share) (shares : List Share) → energy_of (share ∷ shares) ≡ share.mwh + energy_of shares
 first_and_rest share shares = let mwh : Share → ℕ = λ r. r.mwh in sum_by-cons mwh share shares
 
--- The interval rows of the steps between entries add up to the total energy of the entries.
+-- The interval rows (energies by quarter hour) of the steps between entries add up to the total
+-- energy of the entries.
 pub energy_is_total : SharesAddUp → (meter : Installed) (es : List Entry) → AllFollow meter.range meter.opening es
     → energy_of (rows_of_steps (steps_after meter es)) ≡ total_after meter es
 energy_is_total law meter [] h = omega arith

@@ -1,5 +1,5 @@
--- Subtracting shares, which are energies in single quarter hours, from interval rows, and adding
--- shares to the rows.
+-- Lemmas on subtracting shares (energies of single quarter hours) from interval rows, and on adding
+-- them.
 use Rattle.std.proofs.Common.{◌≡◌, ℕ, ◌+◌, ◌-◌, ◌%◌, ◌<◌, ◌≤◌, ◌==◌, true, false, cond, List, [], ◌∷◌, ◌++◌, refl, sym, ap, subst, ◌∙◌, inl, inr, arith, nat_lt, eq-eqb}
 use Rattle.std.specs.Prelude.{All, Contains}
 use Rattle.std.specs.List.{filter}
@@ -23,8 +23,7 @@ use Rattle.meter_journal.proofs.InTime.{in_time}
 use Rattle.meter_journal.proofs.Merging.{Among, Above, Rising, EachIs, HasRows, above_among, each_with, total_at, has_rows, rising_of, each_of, among_of, contains_of, ascending}
 use Rattle.meter_journal.proofs.Striking.{weigh, AllBetween, AreMoved}
 
--- ---- the sum of the shares in one interval
--- The energy of a share in the interval that starts at `s`, otherwise 0.
+-- The energy of a share (an energy in one quarter hour) if it starts at `s`, otherwise 0.
 
 abbrev one_at : Share → ℕ → ℕ
 one_at share s = cond (s == share.start) share.mwh 0
@@ -66,7 +65,8 @@ amount_append : (xs ys : List Share) (s : ℕ) → amount_at (xs ++ ys) s ≡ am
 amount_append [] ys s = omega arith
 amount_append (x ∷ xs) ys s = omega (arith, amount_append xs ys s)
 
--- The shares of a step in a quarter hour add up to the step's energy in this quarter hour.
+-- The shares (energies by quarter hour) of a step in one quarter hour add up to the step's energy
+-- in this quarter hour.
 amount_of_step : SharesAddUp → (step : Step) (s : ℕ) → step.from < step.till → s % 900 ≡ 0 → amount_at (shares_of step) s ≡ share_at step s
 amount_of_step law step s lt whole =
     let spread = law step lt in
@@ -101,8 +101,8 @@ total_is : (steps : List Step) (s : ℕ) → total_at steps s ≡ weigh (at_star
 total_is [] s = refl
 total_is (step ∷ steps) s = omega (arith, total_is steps s)
 
--- ---- lists of rows with the same starts
--- If two lists of rows have the same starts, each start in one list is also in the other list.
+-- If two lists of interval rows (energies by quarter hour) have the same starts, each start in one
+-- list is also in the other list.
 
 among_same : (s : ℕ) (rows rows' : List Share) → starts_of rows ≡ starts_of rows' → Among s rows → Among s rows'
 among_same s rows rows' is there = among_of s rows' (subst (λ (ns : List ℕ). Contains ns s) is (contains_of s rows there))
@@ -115,8 +115,8 @@ each_same f g [] is h = tt
 each_same f g (row ∷ rows) is h =
     (h.0 ∙ is row.start (inl refl), each_same f g rows (λ s there. is s (inr there)) h.1)
 
--- ---- subtracting shares
--- Subtracting a share from a row leaves the start of the row unchanged.
+-- Subtracting a share (the energy of a quarter hour) from a row leaves the start of the row
+-- unchanged.
 
 less_start : (share row : Share) → (less share row).start ≡ row.start
 less_start share row =
@@ -179,8 +179,8 @@ therein f (share ∷ shares) rows h enough = (
       (λ s there. omega (arith, enough s (among_same s (without_share share rows) rows (starts_less share rows) there))),
 )
 
--- ---- adding shares
--- Adding a share whose interval already has a row leaves the starts of the rows unchanged.
+-- Adding a share (the energy of a quarter hour) whose interval already has a row leaves the starts
+-- of the rows unchanged.
 
 starts_with : (share : Share) (rows : List Share) → Among share.start rows → starts_of (with_share share rows) ≡ starts_of rows
 starts_with share [] there = absurd there
@@ -218,7 +218,8 @@ each_more f share (row ∷ rows) rising h there =
           )
     ]
 
--- The interval of each share has a row in the list.
+-- The quarter hour of each share (an energy in one quarter hour) has a row in the list of interval
+-- rows.
 abbrev HaveRows : List Share → List Share → Type 0
 HaveRows [] rows = Unit {0}
 HaveRows (share ∷ shares) rows = Among share.start rows × HaveRows shares rows
@@ -252,8 +253,8 @@ each_with_each f (share ∷ shares) rows rising h have =
     (each_with_each (λ s. one_at share s + f s) shares more (rising_same rows more same rising) (each_more f share rows rising h have.0)
     (have_same shares rows more same have.1))
 
--- ---- equal lists of rows
--- In a list of rows in order, the first row has the earliest start.
+-- In a list of interval rows (energies by quarter hour) in order of time, the first row has the
+-- earliest start.
 
 least : (row : Share) (rows : List Share) (s : ℕ) → Rising (row ∷ rows) → Among s (row ∷ rows) → row.start ≤ s
 least row rows s rising (inl is) = omega (arith, is)
@@ -284,8 +285,7 @@ same_rows f (x ∷ xs) (y ∷ ys) up up' each each' to from =
     (λ s there. let lt = above_among y.start s ys up'.0 there in later x xs s (omega (arith, lt, start)) (from s (inr there))) in
     ap (λ r. r ∷ xs) first ∙ ap (λ rs. y ∷ rs) rest
 
--- ---- the rows before a time
--- The interval rows that begin before the time `last`.
+-- The interval rows (energies by quarter hour) that begin before the time `last`.
 
 abbrev before_it : (last : ℕ) → List Share → List Share
 before_it last rows = filter (λ row. nat_lt row.start last) rows
@@ -343,8 +343,8 @@ among_kept last s (row ∷ rows) there lt =
           ])
     ]
 
--- ---- the energy of the rows
--- Adding a share increases the energy of the rows by the energy of the share.
+-- Adding a share (the energy of a quarter hour) to interval rows increases their energy by the
+-- energy of the share.
 
 with_energy : (share : Share) (rows : List Share) → energy_of (with_share share rows) ≡ energy_of rows + share.mwh
 with_energy share [] = let mwh : Share → ℕ = λ row. row.mwh in omega (arith, sum_by-cons mwh share [])
@@ -386,9 +386,8 @@ all_taken (share ∷ shares) rows = omega (arith, all_taken shares (without_shar
 pub shares_move_energy : SharesMoveEnergy
 shares_move_energy shares rows = record { added = all_added shares rows; taken = all_taken shares rows }
 
--- ---- the rows after a void
--- If each interval between the times `opened` and `last` has a row, each share of the steps between
--- these times has a row.
+-- If each quarter hour between `opened` and `last` has an interval row, each share (an energy in
+-- one quarter hour) in this time has a row.
 
 write_have : SharesAddUp → (opened last : ℕ) (steps : List Step) (rows : List Share) → AllBetween opened last steps
     → ((s : ℕ) → Lies opened last s → Among s rows) → HaveRows (all_shares steps) rows
@@ -413,7 +412,8 @@ none_there (row ∷ rows) h = absurd (h row.start (inl refl))
 due_then : (steps steps' out put : ℕ) → steps + put ≡ steps' + out → out ≤ steps → put + (steps - out) ≡ steps'
 due_then steps steps' out put is le = omega (arith, is, le)
 
--- The interval rows after a void are the updated rows that begin before the last valid entry.
+-- The interval rows (energies by quarter hour) after an entry was voided (cancelled) are the
+-- updated rows that begin before the last valid entry.
 pub until_last : (f : ℕ → ℕ) (opened last last' : ℕ) (rows target : List Share) → opened ≤ last' → last' ≤ last
     → Rising rows → EachIs f rows → ((s : ℕ) → Among s rows → Lies opened last s) → ((s : ℕ) → Lies opened last s → Among s rows)
     → Rising target → EachIs f target → ((s : ℕ) → Among s target → Lies opened last' s) → ((s : ℕ) → Lies opened last' s → Among s target)
@@ -441,8 +441,8 @@ until_last f opened last last' rows target begun le up each lie back up' each' l
           ∙ sym (cond-false _ _ _ e)
     ]
 
--- The interval rows after a void: the shares of removed steps are subtracted, and the shares of
--- added steps are added.
+-- The interval rows after an entry was voided (cancelled): the shares (energies by quarter hour) of
+-- removed steps are subtracted, and those of added steps are added.
 pub record AreExchanged (meter : Installed) (es es' : List Entry) (out put : List Step) : Type 0 where
   pub therein : AreTherein (all_shares out) (rows_of_steps (steps_after meter es))
   pub intervals : rows_of_steps (steps_after meter es')

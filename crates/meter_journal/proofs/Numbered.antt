@@ -1,4 +1,4 @@
--- Rows whose sequence numbers match their indices.
+-- Lemmas on entry rows whose sequence numbers match their indices.
 use Rattle.std.proofs.Common.{◌≡◌, ℕ, zero, suc, ◌+◌, ◌<◌, List, [], ◌∷◌, ◌++◌, reverse, take, drop, length, get_or, refl, sym, ap, subst, ◌∙◌, arith}
 use Rattle.std.proofs.lemmas.List.{reverse-append, length-reverse, length-take-le, take-append-drop, take_more}
 use Rattle.meter_journal.specs.declared.lines.EntryRow.{EntryRow}

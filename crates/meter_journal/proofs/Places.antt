@@ -1,4 +1,4 @@
--- The entries of a meter before each of its entries obey the rules.
+-- The entries before each entry of a meter obey the rules.
 use Rattle.std.proofs.Common.{◌≡◌, ℕ, ◌==◌, List, [], ◌∷◌, sym, subst, ◌∙◌, inl, inr, Some, None}
 use Rattle.std.proofs.lemmas.Bool.{cases_Bool, cond-true, cond-false}
 use Rattle.std.proofs.lemmas.Option.{same_Some}

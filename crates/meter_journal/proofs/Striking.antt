@@ -1,5 +1,5 @@
--- A void changes the row of the voided entry, the row of the next valid entry, and the steps to and
--- from the voided entry.
+-- Voiding (cancelling) an entry changes its row, the row of the next valid entry, and the steps
+-- (energies) to and from the entry.
 use Rattle.std.proofs.Common.{◌≡◌, ℕ, ◌+◌, ◌<◌, ◌≤◌, ◌==◌, Bool, true, false, cond, ◌&&◌, List, [], ◌∷◌, map, length, refl, sym, ap, subst, ◌∙◌, inl, inr, ◌⊎◌, Option, Some, None, arith, eq-eqb, nat_lt, if◌then◌else◌}
 use Rattle.std.specs.Option.{option_or}
 use Rattle.std.proofs.lemmas.Bool.{cases_Bool, cond-true, cond-false, eqb-true}
@@ -26,8 +26,6 @@ use Rattle.meter_journal.proofs.Forward.{last_on}
 use Rattle.meter_journal.proofs.Keeping.{IsGap, entries_standing, entries_struck, follow_rest, above, here, unrolled, mapped_some}
 use Rattle.meter_journal.proofs.StillFitting.{StandFits}
 
--- ---- the rows after a void
-
 -- Recomputing the rollovers of a row that the rules accept leaves the row unchanged.
 rolled_alike : (meter : Installed) (es : List Entry) (n : ℕ) (k : EntryKind) (e : Entry) (stands : Bool)
     → StandFits meter es (row_with n k e stands) → rolled (last_after meter es) (row_with n k e stands) ≡ row_with n k e stands
@@ -38,7 +36,7 @@ rolled_alike meter es n k e true fits =
 pub rolled_same : (meter : Installed) (es : List Entry) (row : EntryRow) → StandFits meter es row → rolled (last_after meter es) row ≡ row
 rolled_same meter es row fits = rolled_alike meter es row.place row.kind row.entry row.stands fits
 
--- A row that is neither the voided row nor the next valid row is unchanged.
+-- A row that is neither the voided (cancelled) row nor the next valid row is unchanged.
 unchanged : (place : ℕ) (next : Option EntryRow) (l : Last) (row : EntryRow) → row.place == place ≡ false → is_next next row ≡ false
     → changed_by place next l row ≡ row
 unchanged place next l row off other = cond-false _ _ _ off ∙ cond-false _ _ _ other
@@ -51,8 +49,8 @@ all_unchanged place l (row ∷ rows) h le =
     ap (λ r. r ∷ map (changed_by place None l) rows) (unchanged place None l row off refl)
     ∙ ap (λ rs. row ∷ rs) (all_unchanged place l rows h.1 (omega (arith, le)))
 
--- If all rows of a list have sequence numbers below that of `next`, a void changes the list as if
--- no valid row followed the list.
+-- If all rows of a list have sequence numbers below that of `next`, voiding (cancelling) an entry
+-- changes them as if no valid row followed.
 next_above : (place : ℕ) (next : EntryRow) (l : Last) (rows : List EntryRow) → AreNumbered rows → length rows + 2 ≤ next.place
     → map (changed_by place (Some next) l) rows ≡ map (changed_by place None l) rows
 next_above place next l [] h le = refl
@@ -63,14 +61,14 @@ next_above place next l (row ∷ rows) h le =
     ap (λ r. r ∷ map (changed_by place (Some next) l) rows) same
     ∙ ap (λ rs. changed_by place None l row ∷ rs) (next_above place next l rows h.1 (omega (arith, le)))
 
--- ---- sums over steps with a weight function
--- The sum of the weights `w step` of all steps of a list.
+-- The sum of the weights `w step` of all steps (energies between entries) of a list.
 
 abbrev pub weigh : (Step → ℕ) → List Step → ℕ
 weigh w [] = 0
 weigh w (step ∷ steps) = w step + weigh w steps
 
--- The weight of the step to a row's entry, or 0 if the row is voided.
+-- The weight of the step (the energy since the last valid entry) to a row's entry, or 0 if the row
+-- is voided (cancelled).
 abbrev weigh_to : (Step → ℕ) → Installed → Last → EntryRow → ℕ
 weigh_to w meter last row = cond row.stands (w (step_to meter.range last row.entry)) 0
 
@@ -91,9 +89,8 @@ weigh_row w meter row rows =
           omega (arith, here, all)
     ]
 
--- ---- the steps that a void removes and adds
-
--- Each step of the list ends after it begins, and lies between the times `opened` and `last`.
+-- Each step (the energy between two entries) of the list ends after it begins, and lies between the
+-- times `opened` and `last`.
 abbrev pub AllBetween : (opened last : ℕ) → List Step → Type 0
 AllBetween opened last [] = Unit {0}
 AllBetween opened last (step ∷ steps) = (opened ≤ step.from) × (step.from < step.till) × (step.till ≤ last) × AllBetween opened last steps
@@ -102,13 +99,13 @@ between_later : (opened m n : ℕ) (steps : List Step) → m ≤ n → AllBetwee
 between_later opened m n [] le h = tt
 between_later opened m n (step ∷ steps) le h = (h.0, h.1, omega (arith, h.2, le), between_later opened m n steps le h.3)
 
--- The step is an element of the list.
+-- The step (the energy between two entries) is an element of the list.
 abbrev pub IsOneOf : Step → List Step → Type 0
 IsOneOf step [] = ⊥
 IsOneOf step (first ∷ steps) = (first ≡ step) ⊎ IsOneOf step steps
 
--- The steps between the entries `es'` are those between `es`, without the steps `out` and with the
--- steps `put`.
+-- The steps (energies between entries) of the list `es'` are those of `es`, without the steps `out`
+-- and with the steps `put`.
 pub record AreMoved (meter : Installed) (es es' : List Entry) (out put : List Step) : Type 0 where
   pub moves : (w : Step → ℕ) → weigh w (steps_after meter es) + weigh w put ≡ weigh w (steps_after meter es') + weigh w out
   pub within : (w : Step → ℕ) → weigh w out ≤ weigh w (steps_after meter es)
@@ -117,19 +114,21 @@ pub record AreMoved (meter : Installed) (es es' : List Entry) (out put : List St
   pub out_between : AllBetween meter.opening.at (last_after meter es).at out
   pub write_between : AllBetween meter.opening.at (last_after meter es).at put
 
--- The steps that a void removes if `next` is the next valid row.
+-- The steps (energies between entries) that are removed when an entry is voided (cancelled), if
+-- `next` is the next valid row.
 abbrev pub out_to : Installed → Around → Option EntryRow → List Step
 out_to meter x next = steps_out meter (record { before = x.before; row = x.row; next = next })
 
 abbrev pub write_to : Installed → Around → Option EntryRow → List Step
 write_to meter x next = steps_put meter (record { before = x.before; row = x.row; next = next })
 
--- The voided entry was the last valid entry of the meter.
+-- The voided (cancelled) entry was the last valid entry of the meter.
 pub record IsLast (meter : Installed) (place : ℕ) (rows : List EntryRow) (x : Around) : Type 0 where
   pub gap : IsGap meter.opening place rows x
   pub rows_are : with_void meter.opening place rows ≡ map (changed_by place None (last_before meter.opening x)) rows
 
--- The row `next` is the next valid row after the voided row. Its rollovers are recomputed.
+-- The row `next` is the next valid row after the voided (cancelled) row. Its rollovers are
+-- recomputed.
 pub record IsFollowed (meter : Installed) (place : ℕ) (rows : List EntryRow) (x : Around) (next : EntryRow) : Type 0 where
   pub rows_are : with_void meter.opening place rows ≡ map (changed_by place (Some next) (last_before meter.opening x)) rows
   pub last : last_after meter (entries_in (with_void meter.opening place rows)) ≡ last_after meter (entries_in rows)
@@ -157,7 +156,8 @@ last_grows meter row rows h =
       | inr off ↦ omega (arith, ap (λ (es : List Entry). (last_after meter es).at) (entries_struck row rows off))
     ]
 
--- Adding a row to a list retains all steps between the entries of the earlier rows.
+-- Adding a row to a list of entry rows retains all steps (energies between consecutive entries) of
+-- the earlier rows.
 one_below : (meter : Installed) (row : EntryRow) (rows : List EntryRow) (step : Step) → IsOneOf step (steps_after meter (entries_in rows))
     → IsOneOf step (steps_after meter (entries_in (row ∷ rows)))
 one_below meter row rows step there =
@@ -166,8 +166,8 @@ one_below meter row rows step there =
       | inr off ↦ subst (λ (es : List Entry). IsOneOf step (steps_after meter es)) (sym (entries_struck row rows off)) there
     ]
 
--- Adding a row after the next valid row preserves the effect of the void that `IsFollowed`
--- describes.
+-- The effect of voiding (cancelling) an entry, which `IsFollowed` describes, stays the same when a
+-- row is added after the next valid row.
 row_after : (meter : Installed) (place : ℕ) (row : EntryRow) (rows : List EntryRow) (x : Around) (next : EntryRow)
     → row.place == place ≡ false → AreNumbered (row ∷ rows) → StandFits meter (entries_in rows) row
     → AllFollow meter.range meter.opening (entries_in (row ∷ rows))
@@ -209,8 +209,8 @@ row_after meter place row rows x next off numbers fits follow h =
       };
     }
 
--- Adding a row that was voided earlier preserves `IsLast`: the voided entry was the last valid
--- entry.
+-- Adding a row that was voided (cancelled) earlier preserves `IsLast`: the entry to be voided was
+-- the last valid entry.
 struck_after : (meter : Installed) (place : ℕ) (row : EntryRow) (rows : List EntryRow) (x : Around)
     → row.place == place ≡ false → row.stands ≡ false
     → IsLast meter place rows x → IsLast meter place (row ∷ rows) (passed row x)
@@ -228,7 +228,7 @@ struck_after meter place row rows x off struck h =
           ∙ ap (λ r. r ∷ map (changed_by place None l) rows) (sym (unchanged place None l row off refl));
     }
 
--- The row is an accepted reading.
+-- True if the entry row is an accepted meter reading.
 record IsRead (row : EntryRow) : Type 0 where
   reading : is_reading row.kind ≡ true
   at : ℕ
@@ -252,7 +252,8 @@ rolled_stands : (l : Last) (row : EntryRow) → row.stands ≡ true → is_readi
     → rolled l row ≡ record row { entry = with_rolls l row.entry }
 rolled_stands l row on reading = cond-true _ _ _ (ap (λ b. b && is_reading row.kind) on ∙ reading)
 
--- Removing an entry before a reading replaces the two steps around the removed entry by one step.
+-- Removing an entry before a reading replaces the two steps (energies) to and from the removed
+-- entry by one step.
 next_moved : (meter : Installed) (before : List Entry) (e0 : Entry) (at raw rolls rolls' : ℕ)
     → AllFollow meter.range meter.opening (entry.Step at raw rolls ∷ e0 ∷ before)
     → AreMoved meter (entry.Step at raw rolls ∷ e0 ∷ before) (entry.Step at raw rolls' ∷ before)
@@ -275,8 +276,8 @@ next_moved meter before e0 at raw rolls rolls' h =
       write_between = (begun, omega (arith, there, first, second), omega arith, tt);
     }
 
--- If the voided entry was the last valid entry, a valid reading that is added becomes the next
--- valid entry (`IsFollowed`).
+-- If the voided (cancelled) entry was the last valid entry, a valid reading that is added becomes
+-- the next valid entry (`IsFollowed`).
 next_after : (meter : Installed) (place : ℕ) (row : EntryRow) (rows : List EntryRow) (x : Around)
     → row.place == place ≡ false → row.stands ≡ true → is_read row.kind row.entry ≡ true → is_read x.row.kind x.row.entry ≡ true
     → AreNumbered (row ∷ rows) → AllFollow meter.range meter.opening (entries_in (row ∷ rows))

@@ -1,5 +1,5 @@
--- Worked examples of the change of a meter's state by an entry and by a void, computed from the
--- definitions.
+-- Worked examples of the change of a meter's state when an entry is added and when an entry is
+-- voided (cancelled), computed from the definitions.
 use Rattle.std.proofs.Common.{◌≡◌, ℕ, pos, true, false, List, [], ◌∷◌, map, Some, None, refl}
 use Rattle.energy_core.specs.declared.entries.Last.{Last}
 use Rattle.energy_core.specs.declared.entries.Step.{Step}
@@ -29,15 +29,16 @@ row place e = record { place = place; kind = kind.Reading; entry = e; stands = t
 abbrev house : Installed
 house = record { range = 4294967296; ceiling = 100000; opening = record { at = 1000; raw = 5000; sf = pos 0 } }
 
--- A journal of a reading of 5200 counts at 1900 s, and a journal with another reading of 5300
--- counts at 2800 s.
+-- A meter's journal with a reading of 5200 counts at 1900 s, and a journal that adds a reading of
+-- 5300 counts at 2800 s.
 abbrev one : Journal
 one = Entered kind.Reading (entry.Step 1900 5200 0) ∷ []
 
 abbrev two : Journal
 two = Entered kind.Reading (entry.Step 2800 5300 0) ∷ one
 
--- The second reading adds its shares: one to an existing row, and one as a new row.
+-- The second reading adds its energies by quarter hour: one to an existing interval row, and one as
+-- a new row.
 
 second_step : step_on house one (entry.Step 2800 5300 0) ≡ step 1900 2800 100000
 unfolding unit_of
@@ -54,7 +55,7 @@ second_rows : interval_rows house two ≡ share 900 177777 ∷ share 1800 111111
 unfolding unit_of
 second_rows = refl
 
--- Voiding the first of two readings.
+-- Example of voiding (cancelling) the first of two readings of a meter.
 
 abbrev around_first : Around
 around_first = record { before = []; row = row 2 (entry.Step 1900 5200 0); next = Some (row 3 (entry.Step 2800 5300 0)) }
@@ -78,7 +79,8 @@ first_added : rows_until 1000 2800 (with_each (all_shares (step 1000 2800 300000
     ≡ share 900 133333 ∷ share 1800 150000 ∷ share 2700 16667 ∷ []
 first_added = refl
 
--- Voiding the second reading removes the row of the quarter hour that only its step touched.
+-- Voiding (cancelling) the second reading removes the interval row of the quarter hour that only
+-- this reading added energy to.
 
 abbrev around_second : Around
 around_second = record { before = row 2 (entry.Step 1900 5200 0) ∷ []; row = row 3 (entry.Step 2800 5300 0); next = None }
@@ -94,14 +96,15 @@ second_taken : rows_until 1000 1900 (without_each (all_shares (step 1900 2800 10
     ≡ share 900 177777 ∷ share 1800 22223 ∷ []
 second_taken = refl
 
--- Voiding the only reading leaves no interval row, not even for the quarter hour of the opening
--- entry.
+-- Voiding (cancelling) the only reading leaves no interval row, not even for the quarter hour of
+-- the opening (first) entry.
 
 only_taken : rows_until 1000 1000 (without_each (all_shares (step 1000 1900 200000 ∷ [])) (share 900 177777 ∷ share 1800 22223 ∷ []))
     ≡ []
 only_taken = refl
 
--- Voiding a reading directly after a rollover moves the rollover to the next reading's row.
+-- Voiding (cancelling) a reading directly after a rollover moves the rollover to the next reading's
+-- row.
 
 abbrev turning : Last
 turning = record { at = 1000; raw = 4294967200; sf = pos 0 }

@@ -1,4 +1,5 @@
--- The state of a meter after an entry is voided: its last entry, steps and interval rows.
+-- The state of a meter after an entry is voided (cancelled): the last entry, steps and interval
+-- rows (energies by quarter hour).
 use Rattle.std.proofs.Common.{◌≡◌, ℕ, ◌-◌, List, [], ◌∷◌, refl, sym, ap, subst, ◌∙◌, inl, inr, Option, Some, None, arith}
 use Rattle.std.specs.Prelude.{All, sum_by}
 use Rattle.std.proofs.lemmas.Option.{same_Some}
@@ -25,7 +26,7 @@ use Rattle.meter_journal.proofs.Striking.{weigh, IsOneOf, AreMoved, IsLast, Chan
 abbrev with_next : Around → Option EntryRow → Around
 with_next a next = record { before = a.before; row = a.row; next = next }
 
--- Removing the last entry removes only the step to this entry.
+-- Removing the last entry of a meter removes only the step (the energy) to this entry.
 last_gone : (meter : Installed) (e : Entry) (es : List Entry) → AllFollow meter.range meter.opening (e ∷ es)
     → AreMoved meter (e ∷ es) es (step_to meter.range (last_after meter es) e ∷ []) []
 last_gone meter e es h =

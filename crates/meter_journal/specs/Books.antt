@@ -1,4 +1,4 @@
--- The state of a meter after a list of entries, and after a journal.
+-- The state of a meter after a list of entries, and after a journal (its history).
 use Rattle.std.specs.Prelude.{ℕ, ◌<◌, List}
 use Rattle.energy_core.specs.declared.entries.Last.{Last}
 use Rattle.energy_core.specs.declared.entries.Step.{Step}
@@ -12,13 +12,13 @@ use Rattle.meter_journal.specs.declared.lines.Installed.{Installed}
 use Rattle.meter_journal.specs.Journal.{Journal, entries_of}
 use Rattle.meter_journal.specs.Intervals.{rows_of_steps}
 
--- The opening entry of the meter has a count that the counter can show, and a scale factor from -3
--- to 3.
+-- The opening (first) entry of the meter has a count that the counter can show, and a scale factor
+-- from -3 to 3.
 pub record IsWellInstalled (meter : Installed) : Type 0 where
   pub raw : meter.opening.raw < meter.range
   pub scale : IsScale meter.opening.sf
 
--- The counter's state after the opening entry of a meter and a list of entries.
+-- The counter's state after the opening (first) entry of a meter and a list of entries.
 abbrev pub last_after : Installed → List Entry → Last
 last_after meter es = last_of meter.opening es
 
@@ -26,11 +26,11 @@ last_after meter es = last_of meter.opening es
 abbrev pub total_after : Installed → List Entry → ℕ
 total_after meter es = whole_energy meter.range meter.opening es
 
--- The steps between consecutive entries of a meter. The latest step comes first.
+-- The steps (energies) between consecutive entries of a meter. The latest step comes first.
 abbrev pub steps_after : Installed → List Entry → List Step
 steps_after meter es = steps_of meter.range meter.opening es
 
--- The verdict on a reading of a meter after a list of entries.
+-- The verdict of the rules (accepted or rejected) on a reading of a meter after a list of entries.
 abbrev pub verdict_after : Installed → List Entry → Reading → Verdict
 verdict_after meter es reading = verdict_on meter.range meter.ceiling meter.opening es reading
 
@@ -48,7 +48,7 @@ last_in meter lines = last_after meter (entries_of meter.opening lines)
 abbrev pub total_in : Installed → Journal → ℕ
 total_in meter lines = total_after meter (entries_of meter.opening lines)
 
--- The steps between the valid entries of a meter's journal. The latest step comes first.
+-- The steps (energies) between the valid entries of a meter's journal. The latest step comes first.
 abbrev pub steps_in : Installed → Journal → List Step
 steps_in meter lines = steps_after meter (entries_of meter.opening lines)
 

@@ -25,25 +25,26 @@ pub record LiesWithin (opened last : ℕ) (row : Share) : Type 0 where
   pub before : row.start < last
   pub gone_on : opened < last
 
--- Theorem: each interval row of a journal lies between the opening entry and the last valid entry.
+-- Theorem: each interval row (the energy of a quarter hour) of a meter's journal lies between the
+-- opening (first) entry and the last valid entry.
 abbrev pub RowsLieWithin : Type 0
 RowsLieWithin = (meter : Installed) (lines : Journal) → IsWellInstalled meter
     → AreFitting meter lines
     → All (LiesWithin meter.opening.at (last_in meter lines).at) (interval_rows meter lines)
 
--- Theorem: voiding an entry never makes the time of the last valid entry later.
+-- Theorem: voiding (cancelling) an entry never makes the time of the last valid entry later.
 abbrev pub VoidsGoNoFurther : Type 0
 VoidsGoNoFurther = (meter : Installed) (lines : Journal) (place : ℕ) → IsWellInstalled meter
     → AreFitting meter (Voided place ∷ lines)
     → (last_in meter (Voided place ∷ lines)).at ≤ (last_in meter lines).at
 
--- The step from the last valid entry of a journal to a new entry.
+-- The step (the energy) from the last valid entry of a meter's journal to a new entry.
 abbrev pub step_on : Installed → Journal → Entry → Step
 step_on meter lines e = step_to meter.range (last_in meter lines) e
 
--- The state of a meter after a new entry. The new entry is the last valid entry, and the energy has
--- grown by the step to it. The fields `joined` and `added` state two ways to add the step's energy,
--- divided by quarter hour into shares, to the interval rows.
+-- The state of a meter after a new entry was added to its journal. The new entry is the last valid
+-- entry, and the energy has grown by the step to it. The fields `joined` and `added` state two ways
+-- to add the step's energy, divided by quarter hour into shares, to the interval rows.
 pub record ContinuesJournal (meter : Installed) (lines : Journal) (k : EntryKind) (e : Entry) :
     Type 0 where
   pub may : MayGoOn meter (last_in meter lines) (total_in meter lines) e
@@ -64,26 +65,25 @@ EntriesGoOn = (meter : Installed) (lines : Journal) (k : EntryKind) (e : Entry)
     → IsWellInstalled meter
     → AreFitting meter (Entered k e ∷ lines) → ContinuesJournal meter lines k e
 
--- Adding shares, which are energies of single quarter hours, to interval rows increases the energy
--- of the rows by the energy of the shares. Subtracting shares never increases the energy of the
--- rows.
+-- Adding shares (energies of single quarter hours) to interval rows increases the energy of the
+-- rows by that of the shares. Subtracting shares never increases it.
 pub record MoveEnergy (shares rows : List Share) : Type 0 where
   pub added : energy_in_rows (with_each shares rows) ≡ energy_in_rows rows + energy_in_rows shares
   pub taken : energy_in_rows (without_each shares rows) ≤ energy_in_rows rows
 
--- Theorem: adding and subtracting any shares changes the energy of any interval rows as
--- `MoveEnergy` describes.
+-- Theorem: adding and subtracting any shares (energies of quarter hours) changes the energy of any
+-- interval rows as `MoveEnergy` describes.
 abbrev pub SharesMoveEnergy : Type 0
 SharesMoveEnergy = (shares rows : List Share) → MoveEnergy shares rows
 
--- The valid entries before the row `around.row` obey the rules (`HasAccount`). The energies of the
--- steps between these entries add up to their total energy (`IsSound`).
+-- The valid entries before the row `around.row` of a meter's journal obey the rules (`HasAccount`).
+-- The energies of the steps between these entries add up to their total energy (`IsSound`).
 pub record WasKept (meter : Installed) (around : Around) : Type 0 where
   pub account : HasAccount meter (entries_in around.before)
   pub sound : let es = entries_in around.before in
       IsSound meter.range meter.opening es (last_after meter es) (total_after meter es)
 
--- Theorem: the valid entries before any row of a journal obey the rules (`HasAccount`), and the
+-- Theorem: the valid entries before any row of a meter's journal obey the rules (`HasAccount`). The
 -- energies of the steps between them add up to their total energy.
 abbrev pub PlacesWereKept : Type 0
 PlacesWereKept = (meter : Installed) (lines : Journal) (place : ℕ) (around : Around)

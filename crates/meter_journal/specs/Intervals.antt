@@ -1,12 +1,13 @@
--- The energy of a list of steps by quarter hour, as interval rows.
+-- The energy by quarter hour of a list of steps (energies between consecutive entries), as interval
+-- rows.
 use Rattle.std.specs.Prelude.{ℕ, ◌+◌, ◌-◌, ◌==◌, nat_lt, List, [], ◌∷◌, map, if◌then◌else◌}
 use Rattle.std.specs.List.{flat_map}
 use Rattle.energy_core.specs.declared.entries.Step.{Step}
 use Rattle.interval_core.specs.declared.shares.Share.{Share}
 use Rattle.interval_core.specs.Share.{shares_of}
 
--- An interval row, which has the energy of a quarter hour, followed by the shares of a later step.
--- If the first share is in the row's quarter hour, the share is merged into the row.
+-- An interval row (the energy of a quarter hour), followed by the shares of a later step. A first
+-- share in the row's quarter hour is merged into the row.
 abbrev pub joined : Share → List Share → List Share
 joined row [] = row ∷ []
 joined row (share ∷ shares) =
@@ -21,8 +22,8 @@ with_shares [] shares = shares
 with_shares (row ∷ []) shares = joined row shares
 with_shares (row ∷ next ∷ rows) shares = row ∷ with_shares (next ∷ rows) shares
 
--- The interval rows of a list of steps, which begins with the latest step: one row for each
--- interval that a step touches, in order.
+-- The interval rows (energies of quarter hours) of a list of steps, the latest step first. Each
+-- interval that a step touches has one row, in order.
 abbrev pub rows_of_steps : List Step → List Share
 rows_of_steps [] = []
 rows_of_steps (step ∷ steps) = with_shares (rows_of_steps steps) (shares_of step)
@@ -48,7 +49,8 @@ abbrev pub with_each : (shares : List Share) → List Share → List Share
 with_each [] rows = rows
 with_each (share ∷ shares) rows = with_each shares (with_share share rows)
 
--- An interval row less the energy of a share, if the share is in the row's interval.
+-- An interval row less the energy of a share (an energy in one quarter hour), if the share is in
+-- the row's interval.
 abbrev pub less : Share → Share → Share
 less share row =
     if row.start == share.start then record { start = row.start; mwh = row.mwh - share.mwh }

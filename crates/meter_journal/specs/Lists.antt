@@ -15,22 +15,22 @@ abbrev pub latest_first : List EntryRow → List EntryRow
 latest_first rows = reverse rows
 
 -- Each row has the sequence number of its index. The oldest row has number 2, because the opening
--- entry has number 1.
+-- (first) entry has number 1.
 abbrev pub AreNumbered : List EntryRow → Type 0
 AreNumbered [] = Unit {0}
 AreNumbered (row ∷ rows) = (row.place ≡ length rows + 2) × AreNumbered rows
 
--- The counter's state after a row, given the state `last` before the row. A voided row leaves the
--- state unchanged.
+-- The counter's state after a row, given the state `last` before the row. A voided (cancelled) row
+-- leaves the state unchanged.
 abbrev pub following : Last → EntryRow → Last
 following last row = if row.stands then after last row.entry else last
 
--- The step from the counter's state `last` to the entry of a row. A voided row has no step
--- (`None`).
+-- The step (the energy) from the counter's state `last` to the entry of a row. A voided (cancelled)
+-- row has no step (`None`).
 abbrev pub step_past : (range : ℕ) → Last → EntryRow → Option Step
 step_past range last row = if row.stands then Some (step_to range last row.entry) else None
 
--- The energy in mWh of the step from the counter's state `last` to the entry of a row. A voided row
+-- The energy in mWh from the counter's state `last` to the entry of a row. A voided (cancelled) row
 -- has energy 0.
 abbrev pub energy_past : (range : ℕ) → Last → EntryRow → ℕ
 energy_past range last row = if row.stands then energy_of range last row.entry else 0
@@ -41,7 +41,7 @@ abbrev pub rolled_on : Last → List EntryRow → List EntryRow
 rolled_on last [] = []
 rolled_on last (row ∷ rows) = let next = rolled last row in next ∷ rolled_on (following last next) rows
 
--- The entry may follow the counter's state `last`, and the total energy with the entry's step stays
+-- The entry may follow the counter's state `last`, and the total energy including the entry stays
 -- within its limit.
 pub record MayGoOn (meter : Installed) (last : Last) (total : ℕ) (e : Entry) : Type 0 where
   pub booked : total ≤ MAX_TOTAL

@@ -1,4 +1,5 @@
--- The valid entries of a journal, defined without applying the voids one by one.
+-- The valid entries of a meter's journal, defined without applying the voids (cancellations of
+-- entries) one by one.
 use Rattle.std.specs.Prelude.{◌≡◌, ℕ, ◌+◌, ◌==◌, Bool, true, false, ◌||◌, List, [], ◌∷◌, map, if◌then◌else◌}
 use Rattle.energy_core.specs.declared.entries.Last.{Last}
 use Rattle.energy_core.specs.Account.{last_of}
@@ -7,22 +8,23 @@ use Rattle.meter_journal.specs.declared.lines.EntryRow.{EntryRow}
 use Rattle.meter_journal.specs.Journal.{Entered, Held, Voided, Journal, standing, entries_in, rolled, rows_of}
 use Rattle.meter_journal.specs.Fitting.{EntryFits}
 
--- A void in the journal names the sequence number `place`.
+-- True if a void (cancellation) in the meter's journal names the sequence number `place`.
 abbrev pub is_voided : (place : ℕ) → Journal → Bool
 is_voided place [] = false
 is_voided place (Entered k e ∷ lines) = is_voided place lines
 is_voided place (Held reading cause ∷ lines) = is_voided place lines
 is_voided place (Voided named ∷ lines) = (place == named) || is_voided place lines
 
--- The number of entries that a journal records, including voided entries.
+-- The number of entries that a meter's journal records, including voided (cancelled) entries.
 abbrev pub entered_count : Journal → ℕ
 entered_count [] = 0
 entered_count (Entered k e ∷ lines) = entered_count lines + 1
 entered_count (Held reading cause ∷ lines) = entered_count lines
 entered_count (Voided place ∷ lines) = entered_count lines
 
--- The rows of the entries that no void of the complete journal `whole` names, with their sequence
--- numbers. Each reading has the rollovers computed from the valid entry before it.
+-- The rows of a meter's entries that no void (cancellation) in the complete journal `whole` names,
+-- with their sequence numbers. Each reading has the rollovers computed from the valid entry before
+-- it.
 abbrev pub unvoided : (opening : Last) → (whole : Journal) → Journal → List EntryRow
 unvoided opening whole [] = []
 unvoided opening whole (Entered k e ∷ lines) =
@@ -42,10 +44,12 @@ AllStillFit meter (row ∷ rows) =
     (row.stands ≡ true → EntryFits meter (entries_in rows) row.kind row.entry)
     × AllStillFit meter rows
 
--- The journal that only records the entries of a list of rows, without voids.
+-- The journal of a meter that only records the entries of a list of rows, without voids
+-- (cancellations).
 abbrev pub entering : List EntryRow → Journal
 entering rows = map (λ row. Entered row.kind row.entry) rows
 
--- The journal that only records the valid entries of another journal, without voids.
+-- The journal (history) of a meter that only records the valid entries of the full journal, without
+-- voids (cancellations).
 abbrev pub standing_alone : (opening : Last) → Journal → Journal
 standing_alone opening lines = entering (standing (rows_of opening lines))

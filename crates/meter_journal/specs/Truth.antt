@@ -19,8 +19,8 @@ abbrev pub reading_by : ℤ → Entry → Option Reading
 reading_by sf (entry.Step at raw rolls) = Some (record { at = at; raw = raw; sf = sf })
 reading_by sf (entry.Change at before after new) = None
 
--- The readings that were valid directly after the last void, followed by all later readings,
--- including rejected readings. The latest reading comes first.
+-- The readings that were valid directly after the last void (cancellation), followed by all later
+-- readings, also rejected ones. The latest reading comes first.
 abbrev pub latest_readings : (opening : Last) → Journal → List Reading
 latest_readings opening [] = []
 latest_readings opening (Entered k e ∷ lines) =
@@ -29,15 +29,16 @@ latest_readings opening (Held reading cause ∷ lines) = reading ∷ latest_read
 latest_readings opening (Voided place ∷ lines) =
     filter_map (reading_by opening.sf) (entries_of opening (Voided place ∷ lines))
 
--- The readings that were rejected after the last void of a journal.
+-- The readings that were rejected after the last void (cancellation of an entry) in a meter's
+-- journal.
 abbrev pub held_since : Journal → List Reading
 held_since [] = []
 held_since (Entered k e ∷ lines) = held_since lines
 held_since (Held reading cause ∷ lines) = reading ∷ held_since lines
 held_since (Voided place ∷ lines) = []
 
--- Each entry of the journal is an accepted reading. The journal may also contain rejected readings
--- and voids.
+-- Each entry of the meter's journal is an accepted reading. The journal may also contain rejected
+-- readings and voids (cancellations).
 abbrev pub AreReadings : Journal → Type 0
 AreReadings [] = Unit {0}
 AreReadings (Entered k e ∷ lines) = (is_reading k ≡ true) × AreReadings lines
@@ -45,8 +46,8 @@ AreReadings (Held reading cause ∷ lines) = AreReadings lines
 AreReadings (Voided place ∷ lines) = AreReadings lines
 
 -- The readings of the journal are those of an honest meter that is polled often enough (a true
--- run). The opening entry, the readings that were valid directly after the last void, and all later
--- readings are the items of the run.
+-- run). The opening (first) entry, the readings that were valid directly after the last void
+-- (cancellation), and all later readings are the items of the run.
 pub record ShowsTrueRun (meter : Installed) (lines : Journal) (first : Item) (items : List Item) :
     Type 0 where
   pub readings_alone : AreReadings lines
@@ -70,9 +71,9 @@ advance_past sf first (item ∷ items) bound =
     if nat_le bound (newest first items).at then advance_past sf first items bound
     else advance sf first item
 
--- The journal records the true energy of a run. No reading after the last void was rejected, and
--- the steps and the total energy are the true ones. The energy before an interval's start lies
--- between the true energies at the two items around this start.
+-- The meter's journal records the true energy of a run. No reading after the last void
+-- (cancellation) was rejected, and the steps and the total energy are the true ones. The energy
+-- before an interval's start lies between the true energies at the two items around this start.
 pub record IsKeptTruly (meter : Installed) (lines : Journal) (first : Item) (items : List Item) :
     Type 0 where
   pub none_held : held_since lines ≡ []

@@ -1,4 +1,4 @@
--- The change of a meter's state when an entry is voided.
+-- The change of a meter's state when an entry is voided (cancelled).
 use Rattle.std.specs.Prelude.{◌≡◌, ℕ, ◌+◌, ◌==◌, ◌≤◌, nat_lt, Bool, false, List, [], ◌∷◌, ◌++◌, map, filter, sum_by, All, Option, Some, None, is_some, if◌then◌else◌}
 use Rattle.std.specs.Option.{option_map}
 use Rattle.energy_core.specs.declared.entries.Last.{Last}
@@ -17,60 +17,61 @@ use Rattle.meter_journal.specs.Fitting.{AreFitting}
 abbrev pub last_before : (opening : Last) → Around → Last
 last_before opening around = last_of opening (entries_in around.before)
 
--- Whether `row` is the next valid row `next`. The result is false if no next valid row exists.
+-- True if `row` is the next valid row `next`. False if no next valid row exists.
 abbrev pub is_next : (next : Option EntryRow) → EntryRow → Bool
 is_next None row = false
 is_next (Some next) row = row.place == next.place
 
--- A row after the entry with the sequence number `place` is voided. The voided entry's row is
--- marked. The next valid row has the rollovers computed from the state `before`. All other rows are
--- unchanged.
+-- A row after the entry with the sequence number `place` is voided (cancelled). The voided entry's
+-- row is marked. The next valid row has the rollovers computed from the counter's state `before`.
+-- All other rows are unchanged.
 abbrev pub changed_by : (place : ℕ) → (next : Option EntryRow) → (before : Last) → EntryRow
     → EntryRow
 changed_by place next before row =
     if row.place == place then struck row else if is_next next row then rolled before row else row
 
--- The step from the counter's state `last` to the entry of a row, or no step if the row is missing.
+-- The step (the energy) from the counter's state `last` to the entry of a row, or no step if the
+-- row is missing.
 abbrev pub step_if : (range : ℕ) → Last → Option EntryRow → List Step
 step_if range last None = []
 step_if range last (Some row) = step_to range last row.entry ∷ []
 
--- The steps that a void removes: the step to the voided entry, and the step from this entry to the
--- next valid entry.
+-- The steps (energies between entries) that are removed when an entry is voided (cancelled): the
+-- step to this entry, and the step to the next valid entry.
 abbrev pub steps_out : Installed → Around → List Step
 steps_out meter around =
     let before = last_before meter.opening around in
     step_if meter.range (after before around.row.entry) around.next
     ++ step_to meter.range before around.row.entry ∷ []
 
--- The step that a void adds: from the valid entry before the voided entry to the next valid entry,
--- with updated rollovers.
+-- The step (the energy between two entries) that is added when an entry is voided (cancelled). The
+-- step leads from the valid entry before to the next one, with updated rollovers.
 abbrev pub steps_put : Installed → Around → List Step
 steps_put meter around =
     let before = last_before meter.opening around in step_if meter.range before
     (option_map (rolled before) around.next)
 
--- The sum of the energies of a list of steps, in mWh.
+-- The sum of the energies of a list of steps (between consecutive entries), in mWh.
 abbrev pub energy_in : List Step → ℕ
 energy_in steps = sum_by (λ step. step.mwh) steps
 
--- The interval rows that begin before the time `last` of the last entry. No row remains if the last
--- entry is the opening entry.
+-- The interval rows (energies by quarter hour) that begin before `last`, the time of the last valid
+-- entry. No row remains if the last entry is the opening (first) entry.
 abbrev pub rows_until : (opened last : ℕ) → List Share → List Share
 rows_until opened last rows =
     if last == opened then [] else filter (λ row. nat_lt row.start last) rows
 
--- Each share can be subtracted from the interval rows in turn: the row of the share's interval has
--- at least the energy of the share.
+-- The shares (energies of quarter hours) can be subtracted from the interval rows in turn: each row
+-- has at least the energy that is subtracted.
 abbrev pub AreTherein : (shares : List Share) → List Share → Type 0
 AreTherein [] rows = Unit {0}
 AreTherein (share ∷ shares) rows =
     All (λ row. row.start ≡ share.start → share.mwh ≤ row.mwh) rows
     × AreTherein shares (without_share share rows)
 
--- The energy before a void is that of the unchanged steps and the removed steps. The energy after
--- the void is that of the unchanged steps and the added step. Each removed or added step can be
--- divided among its intervals.
+-- When an entry is voided (cancelled), the energies of the steps to and from it are removed, and
+-- that of the step across it is added. All other steps are unchanged. Each of these steps can be
+-- divided among its quarter hours.
 pub record ExchangesSteps (meter : Installed) (lines : Journal) (place : ℕ) (around : Around) : Type
     0 where
   pub staying : ℕ
@@ -79,8 +80,9 @@ pub record ExchangesSteps (meter : Installed) (lines : Journal) (place : ℕ) (a
   pub out : All IsShareable (steps_out meter around)
   pub put : All IsShareable (steps_put meter around)
 
--- A void subtracts the removed steps' shares, which are energies by quarter hour, from the interval
--- rows. It then adds the shares of the added step. Rows that no step touches any more are removed.
+-- When an entry is voided (cancelled), the energies by quarter hour of the removed steps are
+-- subtracted from the interval rows. Those of the added step are added. Rows that no step touches
+-- any more are removed.
 pub record ExchangesShares (meter : Installed) (lines : Journal) (place : ℕ) (around : Around) :
     Type 0 where
   pub therein : AreTherein (all_shares (steps_out meter around)) (interval_rows meter lines)
@@ -90,9 +92,9 @@ pub record ExchangesShares (meter : Installed) (lines : Journal) (place : ℕ) (
       ≡ rows_until meter.opening.at (last_in meter (Voided place ∷ lines)).at
       (with_each (all_shares (steps_put meter around)) rest)
 
--- The entry with the sequence number `place` is voided. Only its row and the row of the next valid
--- entry change. The last valid entry stays the same unless it is the voided entry. In that case,
--- the valid entry before the voided entry becomes the last.
+-- The entry with the sequence number `place` is voided (cancelled). Only its row and the row of the
+-- next valid entry change. The last valid entry stays the same unless it is the voided entry. In
+-- that case, the valid entry before the voided entry becomes the last.
 pub record IsVoided (meter : Installed) (lines : Journal) (place : ℕ) (around : Around) : Type 0
   where
     pub rows : rows_of meter.opening (Voided place ∷ lines)
@@ -103,7 +105,8 @@ pub record IsVoided (meter : Installed) (lines : Journal) (place : ℕ) (around 
     pub steps : ExchangesSteps meter lines place around
     pub shares : ExchangesShares meter lines place around
 
--- Theorem: each void that may follow a journal changes the meter's state as `IsVoided` describes.
+-- Theorem: each void (cancellation of an entry) that may follow a journal changes the meter's state
+-- as `IsVoided` describes.
 abbrev pub VoidsChangeTwoRows : Type 0
 VoidsChangeTwoRows = (meter : Installed) (lines : Journal) (place : ℕ) (around : Around)
     → IsWellInstalled meter

@@ -22,8 +22,8 @@ pub struct Tally {
     pub total: u64,
 }
 
-/// Advances the tally (the counter's state and the energy) by one entry. Returns the step from the
-/// previous entry to this entry.
+/// Advances the tally (the counter's state and the energy) by one entry. Returns the step (the
+/// energy) from the previous entry to this entry.
 fn advance_entry(meter: &Installed, tally: &mut Tally, entry: &Entry) -> Step
     requires range_low { MIN_RANGE ≤ meter.now.range }
     requires range_high { meter.now.range ≤ MAX_RANGE }
@@ -49,8 +49,8 @@ fn advance_entry(meter: &Installed, tally: &mut Tally, entry: &Entry) -> Step
     }
 }
 
-/// Advances the tally by the entry of a row, and returns the step to this entry. A voided row
-/// leaves the tally unchanged and returns `None`.
+/// Advances the tally (the counter's state and the energy) by the entry of a row, and returns the
+/// step to this entry. A voided (cancelled) row changes nothing and returns `None`.
 fn go_past(meter: &Installed, tally: &mut Tally, row: &EntryRow) -> Option<Step>
     requires range_low { MIN_RANGE ≤ meter.now.range }
     requires range_high { meter.now.range ≤ MAX_RANGE }
@@ -89,8 +89,8 @@ pub fn tally_after(meter: &Installed, rows: &[EntryRow]) -> Tally
     tally
 }
 
-/// Returns the tally of a meter after the valid entries of a list of rows. Returns `None` if a
-/// valid entry may not follow the valid entries before it.
+/// Returns the tally (the counter's state and the energy) of a meter after the valid entries of a
+/// list of rows. Returns `None` if a valid entry may not follow the valid entries before it.
 pub fn checked_tally(meter: &Installed, rows: &[EntryRow]) -> Option<Tally>
     requires range_low { MIN_RANGE ≤ meter.now.range }
     requires range_high { meter.now.range ≤ MAX_RANGE }

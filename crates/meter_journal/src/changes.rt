@@ -7,44 +7,44 @@ ghost use Rattle.meter_journal.specs.Voids.{VoidsChangeTwoRows};
 
 use interval_core::shares_add_up;
 
-/// Theorem: each interval row begins before the last valid entry, and its quarter hour ends after
-/// the opening entry.
+/// Theorem: each interval row of a meter begins before the last valid entry, and its quarter hour
+/// ends after the opening (first) entry.
 pub fn rows_lie_within()
     ensures { RowsLieWithin }
 {
     shares_add_up();
 }
 
-/// Theorem: voiding an entry never makes the time of the last valid entry later.
+/// Theorem: voiding (cancelling) an entry never makes the time of the last valid entry later.
 pub fn voids_go_no_further()
     ensures { VoidsGoNoFurther }
 {}
 
 /// Theorem: a new entry follows the last valid entry. The counter, the energy and the interval rows
-/// advance by the step to the new entry.
+/// (energies by quarter hour) advance by the energy up to the new entry.
 pub fn entries_go_on()
     ensures { EntriesGoOn }
 {
     shares_add_up();
 }
 
-/// Theorem: a void changes only the row of the voided entry and the row of the next valid entry.
-/// The energies of the steps to and from the voided entry are subtracted from the interval rows.
-/// The energy of the step between its neighbors is added.
+/// Theorem: voiding (cancelling) an entry changes only its row and the row of the next valid entry.
+/// The energies to and from the voided entry are subtracted from the interval rows (energies by
+/// quarter hour). The energy between its neighbors is added.
 pub fn voids_change_two_rows()
     ensures { VoidsChangeTwoRows }
 {
     shares_add_up();
 }
 
-/// Theorem: adding shares to interval rows increases the energy of the rows by the energy of the
-/// shares. Subtracting shares never increases the energy of the rows.
+/// Theorem: adding shares (energies of quarter hours) to interval rows increases the energy of the
+/// rows by the energy of the shares. Subtracting shares never increases the energy of the rows.
 pub fn shares_move_energy()
     ensures { SharesMoveEnergy }
 {}
 
-/// Theorem: the valid entries before any entry of a journal obey the rules, and the energies of the
-/// steps between them add up to their total energy.
+/// Theorem: the valid entries before any entry of a meter's journal obey the rules. The energies of
+/// the steps between these entries add up to their total energy.
 pub fn places_were_kept()
     ensures { PlacesWereKept }
 {}

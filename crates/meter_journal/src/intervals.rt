@@ -1,5 +1,5 @@
-//! Merges the shares of consecutive steps. A share is the part of a step's energy that falls in one
-//! quarter hour.
+//! Merges the shares of consecutive steps (energies between meter entries). A share is the part of
+//! a step's energy that falls in one quarter hour.
 ghost use Rattle.std.specs.Prelude.{◌≡◌, ◌+◌, ◌^◌, ◌≤◌, ◌<◌, ◌++◌, ◌∷◌, [], IsSome};
 ghost use Rattle.std.specs.Prelude.{OnOk, OnErr};
 ghost use Rattle.std.specs.Option.{ForSome, option_to_list};
@@ -12,9 +12,9 @@ use energy_core::{MAX_INTERVALS, MAX_TOTAL, Step};
 use interval_core::{Share, Shares, shares_add_up};
 use std::alloc::AllocError;
 
-/// Merges the next share (an energy in one quarter hour) into the pending interval row. If the
-/// share is in another interval, the share becomes the pending row and the function returns the
-/// completed row.
+/// Merges the next share (an energy in one quarter hour) into the pending interval row, the energy
+/// of the latest quarter hour. If the share is in another interval, the share becomes the pending
+/// row and the function returns the completed row.
 pub fn join(pending: &mut Option<Share>, share: Share) -> Option<Share>
     requires { ForSome pending.old (λ row. row.mwh + share.mwh < 2 ^ 64) }
     ensures rows { let so_far = option_to_list pending.old in
@@ -37,8 +37,8 @@ pub fn join(pending: &mut Option<Share>, share: Share) -> Option<Share>
     }
 }
 
-/// Adds the next share to a list of interval rows. A share in the interval of the last row is
-/// merged into that row, and any other share becomes a new row.
+/// Adds the next share (an energy in one quarter hour) to a list of interval rows. A share in the
+/// interval of the last row is merged into that row, and any other share becomes a new row.
 fn join_last(rows: &mut Vec<Share>, share: Share) -> Result<(), AllocError>
     requires { energy_of rows.old.items + share.mwh < 2 ^ 64 }
     ensures ok { OnOk result (rows.new.items ≡ with_shares rows.old.items (share ∷ [])) }
@@ -60,7 +60,8 @@ fn join_last(rows: &mut Vec<Share>, share: Share) -> Result<(), AllocError>
     Ok(())
 }
 
-/// Adds the shares of a later step to a list of interval rows. The only error is out of memory.
+/// Adds the energies by quarter hour of a later step (the energy between two entries) to a list of
+/// interval rows. The only error is out of memory.
 pub fn append_shares(rows: &mut Vec<Share>, step: &Step) -> Result<(), AllocError>
     requires forward { step.now.from < step.now.till }
     requires intervals { intervals_touched step.now.from step.now.till ≤ MAX_INTERVALS }

@@ -6,28 +6,30 @@ ghost use Rattle.meter_journal.specs.Laws.{RowsStand, StandingEntriesFit, VoidsL
 
 use interval_core::{accounts_add_up, shares_add_up};
 
-/// Theorem: the energy of the valid entries is the last value less the opening value, plus one full
-/// range for each recorded rollover. Each reset or rescale adds the value before it less the value
-/// after it.
+/// Theorem: the energy of a meter's valid entries is the last value less the first value, plus one
+/// full range for each recorded rollover. Each reset or rescale adds the value before it less the
+/// value after it.
 pub fn journals_balance()
     ensures { JournalsBalance }
 {}
 
-/// Theorem: the valid entries of a journal obey the rules, whatever voids the journal contains. The
-/// energies of the steps between these entries add up to their total energy.
+/// Theorem: the valid entries of a meter's journal obey the rules, whatever voids (cancellations)
+/// the journal contains. The energies of the steps between these entries add up to their total
+/// energy.
 pub fn journals_are_kept()
     ensures { JournalsAreKept }
 {}
 
-/// Theorem: the interval rows are the energies of the steps between valid entries, added up by
-/// quarter hour. One row exists for each interval that a step touches, in order.
+/// Theorem: a meter's interval rows are the energies of the steps between valid entries, added up
+/// by quarter hour. One row exists for each interval that a step touches, in order.
 pub fn interval_rows_are_accounts()
     ensures { IntervalRowsAreAccounts }
 {
     shares_add_up();
 }
 
-/// Theorem: the interval rows of a journal add up to the energy of its valid entries.
+/// Theorem: the interval rows (energies by quarter hour) of a meter's journal add up to the energy
+/// of its valid entries.
 pub fn interval_rows_add_up()
     ensures { IntervalRowsAddUp }
 {
@@ -35,17 +37,18 @@ pub fn interval_rows_add_up()
     accounts_add_up();
 }
 
-/// Theorem: suppose that the readings that were valid after the last void and all later readings
-/// come from an honest meter that is polled often enough. Then no later reading was rejected, and
-/// the energy is the true energy. The energy before the start of any interval is also true, except
-/// for the step in progress at that start.
+/// Theorem: suppose that the readings that were valid after the last void (cancellation) and all
+/// later readings come from an honest meter that is polled often enough. Then no later reading was
+/// rejected, and the energy is the true energy. The energy before the start of any interval is also
+/// true, except for the step in progress at that start.
 pub fn truth_is_kept()
     ensures { TruthIsKept }
 {
     shares_add_up();
 }
 
-/// Theorem: the valid entries of a journal are the entries that no void in the journal names.
+/// Theorem: the valid entries of a meter's journal are the entries that no void (cancellation) in
+/// the journal names.
 pub fn rows_are_kept()
     ensures { RowsStand }
 {}
@@ -55,8 +58,8 @@ pub fn standing_entries_fit()
     ensures { StandingEntriesFit }
 {}
 
-/// Theorem: the valid entries of a journal lead to the same state as a journal that contains only
-/// these entries.
+/// Theorem: the valid entries of a meter's journal lead to the same state as a journal that
+/// contains only these entries.
 pub fn voids_leave_no_trace()
     ensures { VoidsLeaveNoTrace }
 {}

@@ -54,8 +54,8 @@ fn is_read(row: &EntryRow) -> bool
     }
 }
 
-/// Returns whether an entry may be voided, given its row and the next valid row. The entry must be
-/// a valid reading, and the next valid entry, if any, must be a reading.
+/// Returns whether an entry may be voided (cancelled), given its row and the next valid row. The
+/// entry must be a valid reading, and the next valid entry, if any, must be a reading.
 pub fn is_voidable(row: &EntryRow, next: &Option<EntryRow>) -> bool
     ensures { result ≡ fitting.is_voidable row.now next.now }
 {
@@ -66,8 +66,8 @@ pub fn is_voidable(row: &EntryRow, next: &Option<EntryRow>) -> bool
     row.stands && is_read(row) && is_free
 }
 
-/// Returns the counter's state after a row, given the state `last` before the row. A voided row
-/// leaves the state unchanged.
+/// Returns the counter's state after a row, given the state `last` before the row. A voided
+/// (cancelled) row leaves the state unchanged.
 fn following(last: &Last, row: &EntryRow) -> Last
     ensures { result ≡ lists.following last.now row.now }
 {
@@ -84,7 +84,7 @@ fn following(last: &Last, row: &EntryRow) -> Last
     }
 }
 
-/// Returns the counter's state after the opening entry and the valid rows of a list.
+/// Returns the counter's state after a meter's opening (first) entry and the valid rows of a list.
 pub fn last_of_rows(opening: &Last, rows: &[EntryRow]) -> Last
     ensures { let es = journal.entries_in (lists.latest_first rows.now) in
         result ≡ last_of opening.now es }
@@ -96,8 +96,8 @@ pub fn last_of_rows(opening: &Last, rows: &[EntryRow]) -> Last
     last
 }
 
-/// Returns an entry with its rollovers computed from `last`. A `Step` has one rollover if it shows
-/// less than `last`, otherwise none. A `Change` is returned unchanged.
+/// Returns an entry with its rollovers computed from the counter's state `last`. A `Step` has one
+/// rollover if it shows less than this state, otherwise none. A `Change` is returned unchanged.
 fn with_rolls(last: &Last, entry: &Entry) -> Entry
     ensures { result ≡ journal.with_rolls last.now entry.now }
 {
@@ -137,8 +137,8 @@ fn roll_on(last: &Last, rows: &mut [EntryRow], from: usize)
     }
 }
 
-/// Voids the entry with the sequence number `place`. Marks the entry's row as voided, and updates
-/// the rollovers of all later readings.
+/// Voids (cancels) the entry with the sequence number `place`. Marks the entry's row as voided, and
+/// updates the rollovers of all later readings.
 pub fn strike(opening: &Last, rows: &mut [EntryRow], place: u64)
     requires numbered { lists.AreNumbered (lists.latest_first rows.old) }
     requires after_the_opening { 2 ≤ place }

@@ -48,8 +48,8 @@ each_listed : {X : Type 0} (P : Fact → Type 0) (f : X → Fact) → ((x : X) �
 each_listed P f h [] = tt
 each_listed P f h (x ∷ xs) = (h x, each_listed P f h xs)
 
--- True if the property `P` holds for each record that a command may add, except a device record.
--- For records with a timestamp, `P` may require that `T` holds for the timestamp.
+-- True if the property `P` holds for each record that a command may add, except a device record. A
+-- record with a timestamp needs `P` only if `T` holds for the timestamp.
 pub record Allows (P : Fact → Type 0) (T : ℕ → Type 0) : Type 0 where
   pub list : (l : DeviceList) → P (fact.List l)
   pub register : (r : Register) → P (fact.Register r)

@@ -1,6 +1,6 @@
--- Lemmas that no two slots of the office have devices with the same name. A slot is a device with
--- its sessions, one for each connection. Therefore the start of a poll concerns one session, and a
--- new connection concerns a device without a session.
+-- Lemmas that no two slots have devices with the same name. A slot is a device with its sessions,
+-- one for each connection. Therefore the start of a poll concerns one session, and a new connection
+-- concerns a device without a session.
 use Rattle.std.proofs.Common.{◌≡◌, ℕ, Bool, true, false, cond, List, [], ◌∷◌, ◌++◌, map, refl, sym, ap, subst, ◌∙◌, Option, Some, None, is_some, inl, inr, if◌then◌else◌}
 use Rattle.std.specs.List.{flat_map, find}
 use Rattle.std.specs.Option.{option_and_then}
@@ -29,7 +29,7 @@ same_back a b h = false_from_ne_true _ (λ t.
     let here : same a b ≡ true = ap (same a) e ∙ same_refl a in
     both_ways _ h here)
 
--- True if no slot in the list has a device with the given name.
+-- True if no slot (a device with its sessions) in the list has a device with the given name.
 abbrev pub NoneNamed : List ℕ → List Slot → Type 0
 NoneNamed name [] = Unit {0}
 NoneNamed name (slot ∷ slots) = (same name slot.device.name ≡ false) × NoneNamed name slots
@@ -57,7 +57,7 @@ device_if : (number at : ℕ) (spans : List ReadSpan) (e : Event) (slot : Slot) 
 device_if number at spans e slot true = refl
 device_if number at spans e slot false = device_reached number at spans e slot slot.present
 
--- An event leaves the device of a slot unchanged.
+-- An event leaves the device of a slot (a device with its sessions) unchanged.
 pub device-after : (number at : ℕ) (spans : List ReadSpan) (e : Event) (slot : Slot) → (slot_after number at spans e slot).device ≡ slot.device
 device-after number at spans e slot = device_if number at spans e slot (connects e slot.device)
 

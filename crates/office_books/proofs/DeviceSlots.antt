@@ -1,5 +1,4 @@
--- Lemmas that the slots of the office (devices with their Modbus sessions) have the same devices as
--- the records.
+-- Lemmas that the slots (devices with their Modbus sessions) have the same devices as the records.
 use Rattle.std.proofs.Common.{◌≡◌, ℕ, Bool, true, false, cond, List, [], ◌∷◌, ◌++◌, ◌||◌, map, reverse, refl, sym, ap, ◌∙◌, Option, Some, None}
 use Rattle.std.specs.Option.{is_some, option_map, option_to_list}
 use Rattle.std.specs.List.{find, list_any}
@@ -117,7 +116,8 @@ found_is_known slots facts given slot h found =
     ∙ list_any-map its (λ (l : Slot). l.device) slots
     ∙ any_found (λ (l : Slot). is_named given l.device.name) (λ (l : Slot). its l.device) slots slot (same_refl slot.device.name) found
 
--- A slot with a given device name exists if and only if a device record has this name.
+-- A slot (a device with its sessions) with a given device name exists if and only if a device
+-- record has this name.
 pub same_names : (slots : List Slot) (facts : List Fact) → HaveSameDevices slots facts → (name : List ℕ)
     → is_some (slot_of slots (Some name)) ≡ is_some (device_of facts name)
 same_names slots facts h name =

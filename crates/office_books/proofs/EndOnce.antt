@@ -54,8 +54,8 @@ once_on facts slots h n =
     let l = numbered_once n (polls_in facts) h.numbered in
     omega arith
 
--- If `ys` is `xs` mapped with `f`, then this also holds after both lists get a corresponding
--- element, or neither does.
+-- Suppose that mapping `xs` with `f` yields `ys`. This still holds after an element is added to
+-- `xs` and its image to `ys`.
 filter-map_step : {X Y : Type 0} (f : X → Y) (b : Bool) (x : X) (xs : List X) (ys : List Y) → map f xs ≡ ys → map f (cond b (x ∷ xs) xs) ≡ cond b (f x ∷ ys) ys
 filter-map_step f true x xs ys e = ap (λ zs. f x ∷ zs) e
 filter-map_step f false x xs ys e = e
@@ -130,8 +130,8 @@ agree_same laws number at spans e facts after slots h free adds =
     agree_after laws number at spans e facts after slots [] h free adds refl
     (nothing_over _ (over-after laws number at spans e slots h.over)) (nothing_apart _ (apart-map (slot_after number at spans e) (device-after number at spans e) slots h.apart))
 
--- If an event adds no record and ends no poll, then its effects on the records and on the Modbus
--- sessions agree, as `Adds` requires.
+-- Suppose that an event adds no record and ends no poll. Then the polls and outcomes in the records
+-- change as those on the Modbus sessions do.
 adds_none : (number at : ℕ) (e : Event) (facts : List Fact) (slots : List Slot) → AreNumbered (polls_in facts) → settled_on_all number at e slots ≡ [] → NoneNew number at e slots
     → Adds number at [] e slots facts facts
 adds_none number at e facts slots numbered quiet none = record {
@@ -140,8 +140,8 @@ adds_none number at e facts slots numbered quiet none = record {
   ended = same_is _ _ (ap (λ s. map as_end s ++ recorded facts) (sym quiet));
 }
 
--- Suppose that an event adds only the outcomes and readings of the polls that it ends. Then its
--- effects on the records and on the Modbus sessions agree, as `Adds` requires.
+-- Suppose that an event adds only the outcomes and readings of the polls that it ends. Then the
+-- polls and outcomes in the records change as those on the Modbus sessions do.
 adds_settled : (number at : ℕ) (e : Event) (facts : List Fact) (slots : List Slot) → AreNumbered (polls_in facts) → NoneNew number at e slots → Adds number at [] e slots facts (with_settled number at e slots facts)
 adds_settled number at e facts slots numbered none =
     let P : List Poll → Type 0 = AreNumbered in
@@ -261,7 +261,7 @@ agree_asked laws at slots facts asked h new =
     (agree_commanded laws at slots facts asked.command h new) (quiet_reply at asked)
 
 -- If the recorded polls match the polls on the Modbus sessions, then they still match after the
--- office restarts.
+-- program restarts.
 agree_opened : (at : ℕ) (facts : List Fact) (slots : List Slot) → Agree facts slots → Agree (with_lost at facts) (map slot_restarted slots)
 agree_opened at facts slots h =
     let left = left_in facts in

@@ -26,7 +26,7 @@ use Rattle.office_books.specs.History.{outcome_of, with_words, with_outcome, wit
 use Rattle.office_books.proofs.Permutations.{same_is, exchanged}
 use Rattle.office_books.proofs.EndedPolls.{pick}
 
--- True if a lookup finds neither entries nor rejected readings.
+-- True if a filter of the records finds neither entries of meters nor rejected readings.
 pub record IsBlind {X : Type 0} (look : Fact → Option X) : Type 0 where
   pub entry : (booked : BookedEntry) → look (fact.Entry booked) ≡ None
   pub hold : (held : HeldReading) → look (fact.Hold held) ≡ None
@@ -78,8 +78,8 @@ as_end settled = (settled.0, outcome_of settled.1)
 abbrev pub end_fact : ℕ → ℕ × session.Settlement → EndedPoll
 end_fact at settled = record { poll = settled.0; at = at; outcome = outcome_of settled.1 }
 
--- If a lookup finds neither readings nor outcomes, then it finds nothing in the records that ended
--- polls add.
+-- If a filter of the records finds neither readings nor outcomes of polls, then it finds nothing in
+-- the records that ended polls add.
 unseen-with_outcomes : {X : Type 0} (look : Fact → Option X) → IsBlind look → ((ended : EndedPoll) → look (fact.Outcome ended) ≡ None) → (at : ℕ) (settled : List (ℕ × session.Settlement)) (facts : List Fact)
     → filter_map look (with_outcomes at settled facts) ≡ filter_map look facts
 unseen-with_outcomes look h none at [] facts = refl

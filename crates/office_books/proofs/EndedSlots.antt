@@ -1,4 +1,4 @@
--- The polls of all devices after an event or a restart of the office.
+-- The polls of all devices after an event or a restart of the program.
 use Rattle.std.proofs.Common.{◌≡◌, ℕ, Bool, true, false, List, [], ◌∷◌, ◌++◌, map, refl, sym, ap, ◌∙◌, Option, Some, None, append_assoc, if◌then◌else◌}
 use Rattle.std.specs.List.{filter, filter_map, flat_map}
 use Rattle.std.specs.Option.{is_none}
@@ -30,7 +30,7 @@ Results = List (poll.Poll × Option session.Settlement)
 abbrev pub shown : Bool → Results → List Ended
 shown restarted rs = map (λ result. (result.0.number, end_by restarted result.1)) rs
 
--- The numbers of a Modbus session's polls do not depend on whether a restart of the office ended
+-- The numbers of a Modbus session's polls do not depend on whether a restart of the program ended
 -- the session.
 pub numbers_shown : (b : Bool) (rs : Results) → numbers_in (shown b rs) ≡ numbers_of rs
 numbers_shown b [] = refl

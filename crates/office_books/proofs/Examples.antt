@@ -1,4 +1,5 @@
--- Examples of queries by time span, at an accounting register with two consecutive meters.
+-- Examples of queries by time span, at an accounting register (an energy counter) with two
+-- consecutive meters.
 use Rattle.std.proofs.Common.{◌≡◌, ℕ, pos, List, [], ◌∷◌, true, false, refl}
 use Rattle.energy_core.specs.declared.entries.Last.{Last}
 use Rattle.energy_core.specs.declared.entries.Entry.TheVariants as entry
@@ -30,8 +31,8 @@ first = record { meter = m1; register = main; ceiling = 100000; range = 42949672
 abbrev second : Opening
 second = record { meter = m2; register = main; ceiling = 100000; range = 4294967296; at = 2000; raw = 7; sf = pos 1 }
 
--- The example records: a reading, a manual entry that was voided, the closing of the meter, and the
--- opening of the next meter.
+-- The example records: a reading, a manual entry that was voided (cancelled), the closing of the
+-- meter, and the installation of the next meter.
 abbrev facts : List Fact
 facts =
     fact.Opening second
@@ -70,8 +71,8 @@ of_the_register : rows_within (Between 1800 9000) (rows_of_register facts main) 
 unfolding unit_of
 of_the_register = refl
 
--- The expected list of the meter's entries by sequence number. The list includes the voided entry,
--- marked as void.
+-- The expected list of the meter's entries by sequence number. The list includes the voided
+-- (cancelled) entry, marked as void.
 abbrev opened : Last
 opened = record { at = 1000; raw = 5000; sf = pos 0 }
 

@@ -34,7 +34,8 @@ use Rattle.office_books.proofs.DeviceSlots.{HaveSameDevices, same_devices, found
 use Rattle.office_books.proofs.QuietFacts.{IsQuiet, AreQuiet, books_quiet, added_each, quiet_reply, later_first, later_part_first}
 use Rattle.office_books.proofs.QuietEvents.{IsPassed, passed}
 
--- If a record concerns no poll, then the rules of `PollsFit` accept the record.
+-- If a record concerns no poll, then the rules for the order of polls (`PollsFit`) accept the
+-- record.
 quiet_fits : (f : Fact) (facts : List Fact) → IsQuiet f → PollsFit facts → PollsFit (f ∷ facts)
 quiet_fits (fact.Poll p) facts q h = absurd (let e : Some p ≡ None = q.poll in cc)
 quiet_fits (fact.Outcome e) facts q h = absurd (let n : Some e ≡ None = q.ended in cc)
@@ -52,8 +53,8 @@ all_quiet_fit [] facts q h = h
 all_quiet_fit (f ∷ added) facts q h =
     subst PollsFit (sym (later_first f added facts)) (all_quiet_fit added (f ∷ facts) q.1 (quiet_fits f facts q.0 h))
 
--- True if the poll was started and the records satisfy `PollsFit`. The readings in the poll's
--- response may then be recorded.
+-- True if the poll was started and the records satisfy the rules for the order of polls
+-- (`PollsFit`). The readings in the poll's response may then be recorded.
 record WasStarted (poll : Poll) (facts : List Fact) : Type 0 where
   started : is_some (poll_of facts poll.number) ≡ true
   polls : PollsFit facts
@@ -110,7 +111,7 @@ outcome_fits : IsKeptByOutcomes PollsFit
 outcome_fits at settled facts here h =
     words_fit at settled.0 settled.1 _ (record { started = here.started; pending = here.pending }, h)
 
--- The records after the polls of these sent reads are added.
+-- The records after one poll for each of the given sent reads is added.
 abbrev recorded_sends : (at : ℕ) → Device → List Send → List Fact → List Fact
 recorded_sends at device sends facts = reverse (map (poll_by at device) sends) ++ facts
 
@@ -160,7 +161,8 @@ sent_fit at spans slots facts given None same h found few = h
 sent_fit at spans slots facts given (Some slot) same h found few =
     present_fits at slot.device slot.present spans facts h (found_is_known slots facts given slot same found) few
 
--- If a command is accepted, then the rules of `PollsFit` accept the polls that the command starts.
+-- If a command is accepted, then the rules for the order of polls (`PollsFit`) accept the polls
+-- that the command starts.
 command_fits : (at : ℕ) (slots : List Slot) (facts : List Fact) (c : Command) → HaveSameDevices slots facts → asks_past_numbers slots facts at c ≡ false
     → PollsFit facts → PollsFit (reverse (added_by (next_poll facts) at slots facts c) ++ facts)
 command_fits at slots facts (command.StartPoll c) same few h =

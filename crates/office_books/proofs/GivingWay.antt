@@ -16,8 +16,8 @@ use Rattle.office_books.specs.Voids.{VoidedEntriesGiveWay}
 use Rattle.office_books.proofs.Journals.{installed_fits, well}
 use Rattle.office_books.proofs.Stepping.{installation_by, named, own_line, installed_so, line_after}
 
--- The state of a meter with this counter state and this total energy. Its journal determines
--- whether it is closed.
+-- The state of a meter with a given state of its counter and a given total energy. The meter's
+-- journal (history) determines whether the meter is closed.
 abbrev stood : Opening → journal.Journal → Last → ℕ → Installation
 stood o lines last total = record { opening = o; last = last; total = total; ended = journal.is_ended lines }
 

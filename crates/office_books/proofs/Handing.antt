@@ -2,7 +2,8 @@
 use Rattle.std.proofs.Common.{List, [], ◌∷◌, ◌++◌, refl, subst}
 use Rattle.office_books.specs.Rows.{TakesAll}
 
--- A sink that received a list of rows and then one more row received the extended list.
+-- If a sink received a list of rows and then one more row, then the sink received the list extended
+-- by this row.
 pub takes_more : {S T : Type 0} (takes : S → T → S → Type 0) (before now after : S) (rows : List T) (row : T)
     → TakesAll takes before rows now → takes now row after → TakesAll takes before (rows ++ row ∷ []) after
 takes_more {S} takes before now after [] row took more =

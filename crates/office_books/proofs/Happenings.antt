@@ -1,5 +1,6 @@
--- The session events that an event of the office causes. A session is a connection of a device. Its
--- events are received bytes, timer events, the close of the connection, and the starts of polls.
+-- The session events that an event of the program causes. A session is a connection of a device.
+-- The session's events are received bytes, timer events, the close of the connection, and the
+-- starts of polls.
 use Rattle.std.proofs.Common.{◌≡◌, ℕ, Bool, true, false, List, [], ◌∷◌, ◌++◌, map, refl, sym, ap, ◌∙◌, Some, if◌then◌else◌}
 use Rattle.std.specs.List.{flat_map}
 use Rattle.poll_core.specs.Settling as session
@@ -24,7 +25,7 @@ EndLast (h ∷ later) = (is_close h ≡ true → later ≡ []) × EndLast later
 abbrev pub numbers_by : List session.Event → List ℕ
 numbers_by happenings = flat_map number_by happenings
 
--- The poll numbers of these sent reads.
+-- The poll numbers of the given sent reads.
 abbrev pub sent_numbers : List Send → List ℕ
 sent_numbers sends = map (λ send. send.number) sends
 
@@ -97,7 +98,7 @@ pub round_numbers : (b : Bool) (at : ℕ) (device : Device) (sends : List Send)
 round_numbers true at device sends = starts_number at device sends
 round_numbers false at device sends = refl
 
--- Session events leave the device of a slot unchanged.
+-- After session events, a slot (a device with its sessions) still has the same device.
 pub device_happened : (slot : Slot) (before happenings : List session.Event) → (with_happenings slot before happenings).device ≡ slot.device
 device_happened slot before [] = refl
 device_happened slot before (Start m n u s ∷ later) = device_happened slot (before ++ Start m n u s ∷ []) later

@@ -53,8 +53,8 @@ place_in_range law facts o place a h there found =
     let kept = law (installed o) (journal_of facts o.meter) place a (well facts o h there) (installed_fits facts o h there) found in
     record { range = own.range; ceiling = own.ceiling; raw = kept.sound.raw; scale = kept.sound.scale; total = kept.account.within }
 
--- If a search in two stages finds a result, then the first stage found an element. The second stage
--- found the result from this element.
+-- If a search in two stages finds a result, then the first stage found an element, from which the
+-- second stage found the result.
 bound_some : {X Y : Type 0} (f : X → Option Y) (o : Option X) (y : Y) → option_and_then f o ≡ Some y → (x : X) × (o ≡ Some x) × (f x ≡ Some y)
 bound_some f None y h = absurd (cc)
 bound_some f (Some x) y h = (x, refl, h)

@@ -1,5 +1,5 @@
--- Lemmas that each meter of an accounting register is opened only after the register's earlier
--- meters were closed.
+-- Lemmas that each meter of an accounting register (an energy counter) is opened only after the
+-- register's earlier meters were closed.
 use Rattle.std.proofs.Common.{◌≡◌, ℕ, ◌≤◌, Bool, true, false, cond, List, [], ◌∷◌, refl, sym, ap, subst, ◌∙◌, inl, inr, Option, Some, None, arith}
 use Rattle.std.specs.List.{filter, find, cons_option}
 use Rattle.std.specs.Option.{option_map, option_and_then}
@@ -19,7 +19,8 @@ use Rattle.office_books.specs.Lawful.{OpeningFits, LineFits, AreLawful}
 use Rattle.office_books.proofs.Lookups.{same_text, same_itself}
 use Rattle.office_books.proofs.Journals.{by_name, none_and_some, line_if, by_opening, nothing_before, IsInstalled, installed_fits, well}
 
--- The timestamp of a meter's last valid entry, or of its opening if the meter has no valid entry.
+-- The timestamp of a meter's last entry that was not voided (cancelled). Without such entries, the
+-- timestamp of the meter's installation.
 abbrev pub last_at : List Fact → Opening → ℕ
 last_at facts o = (last_in (installed o) (journal_of facts o.meter)).at
 
@@ -39,8 +40,8 @@ still_installed (fact.Poll p) facts o h there = there
 still_installed (fact.Outcome e) facts o h there = there
 still_installed (fact.Reply r) facts o h there = there
 
--- Suppose that a property holds for a meter's journal, and for the journal with one more line. Then
--- it holds after the line is recorded, whichever meter the line belongs to.
+-- Suppose that a property holds for a meter's journal (history), and for the journal with one more
+-- line. Then the property holds after the line is recorded, whichever meter the line belongs to.
 by_line : (P : journal.Journal → Type 0) (facts : List Fact) (o : Opening) (meter : List ℕ) (line : journal.Line) → LineFits facts meter line
     → IsInstalled facts o
     → (journals.Fits (installed o) (journal_of facts o.meter) line → P (line ∷ journal_of facts o.meter))
@@ -94,7 +95,8 @@ pub record IsOver (facts : List Fact) (at : ℕ) (o : Opening) : Type 0 where
   pub ended : is_ended facts o ≡ true
   pub last : last_at facts o ≤ at
 
--- True if the journal has a closing, and the timestamp of its last entry is at most `at`.
+-- True if the journal (history) of a meter has a closing, and the timestamp of the journal's last
+-- entry is at most `at`.
 record IsDone (o : Opening) (at : ℕ) (lines : journal.Journal) : Type 0 where
   ended : journal.is_ended lines ≡ true
   last : (last_in (installed o) lines).at ≤ at
@@ -157,7 +159,8 @@ over_by_now law facts at now (o ∷ os) h latest over = (
   over_by_now law facts at now os h latest over.1,
 )
 
--- The openings at an accounting register. The latest opening comes first.
+-- The openings (installation records) of the meters at an accounting register (an energy counter).
+-- The latest opening comes first.
 abbrev pub openings_at : List Fact → (register : List ℕ) → List Opening
 openings_at facts register = filter (λ o. same o.register register) (openings_in facts)
 
@@ -176,7 +179,8 @@ ended_where_free facts o h =
       | inr e ↦ absurd (let s : Some (installation_of facts o) ≡ None = sym (cond-false _ _ _ e) ∙ h in cc)
     ]
 
--- If no meter is open at an accounting register, all meters at the register are closed.
+-- If no meter is open at an accounting register (an energy counter), all meters at the register are
+-- closed.
 all_over : VoidsGoNoFurther → (facts : List Fact) (register : List ℕ) (now : ℕ) (os : List Opening) → AreLawful facts → latest_in facts ≤ now
     → open_at facts register ≡ None → openings_at facts register ≡ os → InTurn facts os → AllOver facts now os
 all_over law facts register now [] h latest free is turn = tt

@@ -1,5 +1,5 @@
--- Lemmas about the journals of meters in lawful records. If the rules accept each record after the
--- earlier ones, then the rules of each meter's journal accept each of its lines.
+-- Lemmas about the journals (histories) of meters. If the rules accept each record after the
+-- earlier ones, then the rules for each meter's journal accept each of its lines.
 use Rattle.std.proofs.Common.{◌≡◌, ℕ, true, false, cond, List, [], ◌∷◌, refl, sym, ap, subst, ◌∙◌, inl, inr, Option, Some, None}
 use Rattle.std.specs.List.{cons_option}
 use Rattle.std.proofs.lemmas.Bool.{cases_Bool, cond-true, cond-false}
@@ -31,7 +31,8 @@ by_name a b here elsewhere =
 pub none_and_some : {X P : Type 0} (o : Option X) (x : X) → o ≡ None → o ≡ Some x → P
 none_and_some o x n s = absurd (let e : None ≡ Some x = sym n ∙ s in cc)
 
--- The line of a journal if it belongs to the meter, otherwise `None`.
+-- The journal line (a line of a meter's history) if it belongs to the meter with the given name,
+-- otherwise `None`.
 abbrev pub line_if : (meter m : List ℕ) → journal.Line → Option journal.Line
 line_if meter m line = cond (same meter m) (Some line) None
 
@@ -42,7 +43,7 @@ no_line facts m meter line fits none rest =
     (λ e name. none_and_some (opening_of facts m) fits.opening none (subst (λ (t : List ℕ). opening_of facts t ≡ Some fits.opening) name fits.there))
     (λ e. ap (λ b. cons_option (cond b (Some line) None) (journal_of facts m)) e ∙ rest)
 
--- If a meter is not installed, then its journal is empty.
+-- If a meter is not installed, then the journal (history) of the meter is empty.
 pub nothing_before : (facts : List Fact) (m : List ℕ) → AreLawful facts → opening_of facts m ≡ None → journal_of facts m ≡ []
 nothing_before [] m h none = refl
 nothing_before (fact.Device d ∷ facts) m h none = nothing_before facts m h.1 none
@@ -60,7 +61,7 @@ nothing_before (fact.Poll p ∷ facts) m h none = nothing_before facts m h.1 non
 nothing_before (fact.Outcome e ∷ facts) m h none = nothing_before facts m h.1 none
 nothing_before (fact.Reply r ∷ facts) m h none = nothing_before facts m h.1 none
 
--- True if a search for the name of the opening's meter finds this opening.
+-- True if a search for a meter by name finds the given opening (installation record).
 abbrev pub IsInstalled : List Fact → Opening → Type 0
 IsInstalled facts opening = opening_of facts opening.meter ≡ Some opening
 
@@ -79,8 +80,8 @@ one_line facts o meter line fits there rest =
     subst (λ b. journals.AreFitting (installed o) (cons_option (cond b (Some line) None) (journal_of facts o.meter))) (sym e) (here, rest))
     (λ e. subst (λ b. journals.AreFitting (installed o) (cons_option (cond b (Some line) None) (journal_of facts o.meter))) (sym e) rest)
 
--- After a new opening is recorded, a search for a meter's name finds the new opening or an earlier
--- opening.
+-- After a new opening (installation record) is recorded, a search for a meter's name finds the new
+-- opening or an earlier opening.
 pub by_opening : {P : Type 0} (facts : List Fact) (p o : Opening) → IsInstalled (fact.Opening p ∷ facts) o
     → (p ≡ o → P) → (IsInstalled facts o → P) → P
 by_opening facts p o found here elsewhere =
@@ -88,7 +89,7 @@ by_opening facts p o found here elsewhere =
     (λ e name. here (same_Some p o (sym (cond-true _ _ _ e) ∙ found)))
     (λ e. elsewhere (sym (cond-false _ _ _ e) ∙ found))
 
--- If a meter is installed, then the rules of the journal accept each line of its journal.
+-- If a meter is installed, then the rules accept each line of the meter's journal (history).
 pub installed_fits : (facts : List Fact) (o : Opening) → AreLawful facts → IsInstalled facts o → Fitting facts o
 installed_fits [] o h there = tt
 installed_fits (fact.Device d ∷ facts) o h there = installed_fits facts o h.1 there
@@ -111,7 +112,7 @@ installed_fits (fact.Poll p ∷ facts) o h there = installed_fits facts o h.1 th
 installed_fits (fact.Outcome e ∷ facts) o h there = installed_fits facts o h.1 there
 installed_fits (fact.Reply r ∷ facts) o h there = installed_fits facts o h.1 there
 
--- If a meter is installed, then the count and the scale factor at its opening are in range.
+-- If a meter is installed, then the count and the scale factor at its installation are in range.
 pub well : (facts : List Fact) (o : Opening) → AreLawful facts → IsInstalled facts o → IsWellInstalled (installed o)
 well [] o h there = absurd (cc)
 well (fact.Device d ∷ facts) o h there = well facts o h.1 there
@@ -129,7 +130,8 @@ well (fact.Poll p ∷ facts) o h there = well facts o h.1 there
 well (fact.Outcome e ∷ facts) o h there = well facts o h.1 there
 well (fact.Reply r ∷ facts) o h there = well facts o h.1 there
 
--- If an opening is recorded, then a search for its meter's name finds this opening.
+-- If a meter's opening (installation record) is recorded, then a search for the meter's name finds
+-- this opening.
 pub found : (facts : List Fact) (o : Opening) → AreLawful facts → IsRecorded facts o → IsInstalled facts o
 found facts o h there =
     All-contains (λ (x : Opening). IsInstalled facts x) (openings_in facts) o

@@ -1,4 +1,4 @@
--- Lemmas that a poll that ends adds only an outcome and readings to the records.
+-- Lemmas that the end of a poll adds only an outcome and readings to the records.
 use Rattle.std.proofs.Common.{◌≡◌, ℕ, Bool, true, false, cond, List, [], ◌∷◌, ◌++◌, map, reverse, refl, sym, ap, ◌∙◌, Option, Some, None, append_assoc}
 use Rattle.std.specs.List.{filter_map, cons_option, flat_map}
 use Rattle.std.proofs.lemmas.List.{reverse-append}
@@ -22,7 +22,7 @@ use Rattle.office_books.specs.Readings.{as_fact, judgement, reading_of, is_read_
 use Rattle.office_books.specs.Sessions.{Slot}
 use Rattle.office_books.specs.History.{with_words, with_outcome, with_outcomes, settled_by, with_settled, lost, with_lost}
 
--- True if a lookup finds neither entries nor rejected readings.
+-- True if a filter of the records finds neither entries of meters nor rejected readings.
 pub record SkipsReadings {X : Type 0} (f : Fact → Option X) : Type 0 where
   pub entry : (b : BookedEntry) → f (fact.Entry b) ≡ None
   pub hold : (h : HeldReading) → f (fact.Hold h) ≡ None
@@ -68,7 +68,7 @@ by_words f s at number session.Silent facts = refl
 by_words f s at number (session.Malformed malformation) facts = refl
 by_words f s at number (session.Lost cause) facts = refl
 
--- True if a lookup finds neither readings nor outcomes of polls.
+-- True if a filter of the records finds neither readings nor outcomes of polls.
 pub record SkipsSettled {X : Type 0} (f : Fact → Option X) : Type 0 where
   pub readings : SkipsReadings f
   pub outcome : (e : EndedPoll) → f (fact.Outcome e) ≡ None
@@ -100,7 +100,7 @@ settled_is number at e (slot ∷ slots) facts =
     settled_is number at e slots (with_outcomes at (settled_by number at e slot) facts)
     ∙ sym (outcomes-append at (settled_by number at e slot) (settled_on_all number at e slots) facts)
 
--- The result of a poll that was pending when the office restarted: the poll is lost.
+-- The result of a poll that was pending when the program restarted: the poll is lost.
 abbrev pub as_lost : Poll → ℕ × session.Settlement
 as_lost poll = (poll.number, session.Lost Restart)
 

@@ -77,8 +77,8 @@ next_fits : (facts : List Fact) (o : Opening) (before : List EntryRow) (row : En
 next_fits facts o before row None h none = tt
 next_fits facts o before row (Some next) h none = next_plausible facts o before row next h none
 
--- If a void (cancellation) is not refused, then the entry to void exists, and the rules of the
--- journal accept the void.
+-- If a void (cancellation) is not refused, then the entry to void exists, and the rules for the
+-- meter's journal (history) accept the void.
 around_fits : (facts : List Fact) (m : List ℕ) (place : ℕ) (o : Opening) (found : Option journal.Around) → opening_of facts m ≡ Some o
     → journal.row_at place (rows_of facts o) ≡ found
     → is_not_voidable (option_map (place_in facts o) found) ≡ false
@@ -153,7 +153,7 @@ free_after facts o r e is =
     ∙ none_open (f ∷ facts) o (is_ended (f ∷ facts) o) refl (ended_now facts o o.meter e (same_itself o.meter))
 
 -- If an exchange is accepted, then the rules accept its records. The records are the closing of the
--- old meter and the opening of the new meter.
+-- old meter and the opening (first entry) of the new meter.
 pub exchange_fits : (facts : List Fact) (at : ℕ) (r m : List ℕ) (o : Opening) (last rolls raw ceiling range : ℕ) (sf : ℤ) → AreLawful facts
     → at ≤ moment_limit → latest_in facts ≤ at
     → opening_of facts o.meter ≡ Some o → installed_at facts r ≡ Some o → is_ended facts o ≡ false

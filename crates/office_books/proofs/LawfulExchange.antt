@@ -36,8 +36,8 @@ some_there : {X P : Type 0} (b : Bool) (x y : X) (o : Option X) → cond b (Some
 some_there true x y o e here later = here refl
 some_there false x y o e here later = later e
 
--- If a meter was installed at an accounting register, then the accounting register exists in the
--- records.
+-- If a meter was installed at an accounting register (an energy counter), then the accounting
+-- register exists in the records.
 pub register_known : (facts : List Fact) (r : List ℕ) (o : Opening) → AreLawful facts → installed_at facts r ≡ Some o → is_some (register_of facts r) ≡ true
 register_known [] r o h e = absurd (cc)
 register_known (fact.Device d ∷ facts) r o h e = register_known facts r o h.1 e
@@ -73,7 +73,7 @@ record IsGood (facts : List Fact) (m : List ℕ) (range raw ceiling : ℕ) (sf :
   scaled : (negsuc 2 ≤ℤ sf) × (sf ≤ℤ pos 3)
   limited : (1 ≤ ceiling) × (ceiling ≤ 1000000000)
 
--- True if the closing in an exchange does not have the fault `why`.
+-- True if an exchange of meters closes the old meter without the fault `why`.
 abbrev NoFault : (at : ℕ) → Exchange → Option Installation → TermFault → Type 0
 NoFault at c row why = makes_fault at why (command.Exchange c) row ≡ false
 

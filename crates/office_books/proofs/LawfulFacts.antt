@@ -62,7 +62,7 @@ lost_kept at facts timely h =
     (outcomes_kept at all facts timely h
     (open_once facts (settled_numbers all) h.lawful (λ n. omega (arith, ap (times n) (lost_numbers (pending_in facts))))))
 
--- If a start of the office is accepted, then the records after the start still follow the rules.
+-- If a start of the program is accepted, then the records after the start still follow the rules.
 opened_kept : (at : ℕ) (facts : List Fact) → AreLawful facts → opening_refusal_of facts at ≡ None → AreKept at (with_lost at facts)
 opened_kept at facts h taken =
     let back = none_parts (nat_lt at (latest_in facts)) refusal.ClockBack _ taken in

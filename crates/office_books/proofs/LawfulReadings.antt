@@ -34,8 +34,9 @@ use Rattle.office_books.specs.Refusals.{refuses, reasons, refusal_of, makes_faul
 use Rattle.office_books.specs.Lawful.{AreLawful}
 use Rattle.office_books.proofs.FoundOpenings.{found_installed}
 
--- True if `row` is the state of the open meter at an accounting register. The meter is the latest
--- at the register, a search for its name finds its opening, and it was not closed.
+-- True if `row` is the state of the open meter at an accounting register (an energy counter). The
+-- meter is the latest at the register, a search for its name finds its opening (first entry), and
+-- it was not closed.
 pub record IsOpen (facts : List Fact) (register : List ℕ) (row : Installation) : Type 0 where
   pub opening : Opening
   pub there : installed_at facts register ≡ Some opening

@@ -47,7 +47,7 @@ module _ (from most : ℕ) (before : List MeterEntry) (e : MeterEntry) where
     | inr is ↦ too_early is
   ]
 
--- Each further row adds one entry to the end of the list.
+-- Each further row adds one entry to the end of the list of entries.
 
 pub turned_rows : (rows : List EntryRow) (i : ℕ) (d : EntryRow) → i < length rows → latest_first (take (i + 1) rows) ≡ get_or rows i d ∷ latest_first (take i rows)
 turned_rows rows i d lt = ap reverse (take_more rows i d lt) ∙ reverse-append (take i rows) (get_or rows i d ∷ [])

@@ -1,4 +1,4 @@
--- Properties of sequences of calls of a store.
+-- Properties of sequences of calls of a store, which keeps the records.
 use Rattle.std.proofs.Common.{◌≡◌, ◌⊎◌, List, [], ◌∷◌, inl, inr, refl, subst, ◌∙◌, Result, Ok, Err, ap}
 use Rattle.office_events.specs.declared.facts.Fact.{Fact}
 use Rattle.office_books.specs.Lawful.{AreLawful}
@@ -8,7 +8,8 @@ use Rattle.office_books.specs.declared.failures.Failures.{Failures}
 use Rattle.office_books.specs.Faults.{FailuresAfterCalls}
 use Rattle.office_books.specs.Ledgers.{Ledger, LedgerAfterCall, LedgerAfterCalls, KeepsFacts, OnlyReads, Consults, Books, Moves, with_facts}
 
--- The guarantees of a single call are also those of a sequence with only this call.
+-- If a single call of the store has its guarantees, then a sequence with only this call has the
+-- guarantees of a sequence.
 pub passes : {T : Type 0} (old new : Ledger) (result : Result T BooksFault) → LedgerAfterCall old new result → LedgerAfterCalls old new result
 passes old new (Ok x) goes = record { clean = goes.clean; faults = goes.faults; zone = goes.zone }
 passes old new (Err (Store fault)) goes = record { clean = goes.clean; faults = goes.faults; zone = goes.zone }
@@ -17,8 +18,8 @@ passes old new (Err Memory) goes = record { clean = goes.clean; faults = inl goe
 pub consults : {T : Type 0} (old new : Ledger) (result : Result T BooksFault) → OnlyReads old new result → Consults old new result
 consults old new result reads = record { goes = passes old new result reads.goes; keeps = reads.keeps }
 
--- The guarantees of a sequence of calls depend only on success or failure, not on the value that it
--- returns.
+-- The guarantees of a successful sequence of store calls do not depend on the value that the
+-- sequence returns.
 pub passes_well : {T S : Type 0} (old new : Ledger) (x : T) (y : S) → LedgerAfterCalls old new (Ok x) → LedgerAfterCalls old new (Ok y)
 passes_well old new x y goes = record { clean = goes.clean; faults = goes.faults; zone = goes.zone }
 
@@ -26,7 +27,8 @@ pub passes_failed : {T S : Type 0} (old new : Ledger) (why : BooksFault) → Led
 passes_failed old new (Store fault) goes = record { clean = goes.clean; faults = goes.faults; zone = goes.zone }
 passes_failed old new Memory goes = record { clean = goes.clean; faults = goes.faults; zone = goes.zone }
 
--- If memory runs out after successful calls, the sequence counts no failure of the store.
+-- If memory runs out after successful calls of the store, then the failure counter of the store
+-- does not change.
 pub passes_without : {T S : Type 0} (old new : Ledger) (x : T) → LedgerAfterCalls old new (Ok x) → LedgerAfterCalls {T = S} old new (Err Memory)
 passes_without old new x goes = record { clean = goes.clean; faults = inr goes.faults; zone = goes.zone }
 
@@ -51,8 +53,8 @@ consults_then old between new x result first after = record {
   keeps = keeps_then old between new first.keeps after.keeps;
 }
 
--- If lookups before a write end with an error, then the write was not made, and the guarantees of a
--- failed write hold.
+-- If the lookups before a write fail, then nothing was written, and the guarantees of a failed
+-- write hold.
 pub failed_reading : {T S : Type 0} (old new : Ledger) (known later : List Fact) (why : BooksFault) → Consults {T = T} old new (Err why)
     → Moves {T = S} old new known later (Err why)
 failed_reading old new known later why reads = record {
@@ -63,7 +65,8 @@ failed_reading old new known later why reads = record {
   goes = passes_failed old new why reads.goes;
 }
 
--- Lookups before a write do not change the guarantees of the write.
+-- If lookups precede a write, then the guarantees of the write hold for the lookups and the write
+-- together.
 pub read_then : {T S : Type 0} (old between new : Ledger) (known later : List Fact) (x : T) (result : Result S BooksFault)
     → Consults old between (Ok x) → Moves between new known later result → Moves old new known later result
 read_then old between new known later x result reads moves = record {
@@ -91,8 +94,8 @@ settles old new known left facts x books h lawful may = elim (settled_or_none ol
   | inr none ↦ inr (ap (λ (fs : List Fact). with_facts fs known) none.0, none.1)
 ]
 
--- A call of `book` satisfies all guarantees of `Moves` if it writes records that follow the rules
--- (`AreLawful`).
+-- A call that adds records has all guarantees of a change (`Moves`) if the added records follow the
+-- rules (`AreLawful`).
 pub booked : (old new : Ledger) (known facts : List Fact) (result : Result (Unit {0}) BooksFault)
     → (old.holds known → AreLawful (with_facts facts known)) → Books old new facts result
     → Moves old new known (with_facts facts known) result

@@ -1,5 +1,5 @@
--- Lemmas about names, and about the open meter at an accounting register, in lawful records. Lawful
--- means that the rules accept each record after the earlier ones.
+-- Lemmas about names, and about the open meter at an accounting register (an energy counter), in
+-- lawful records. Lawful means that the rules accept each record after the earlier ones.
 use Rattle.std.proofs.Common.{◌≡◌, ℕ, true, false, cond, Bool, List, [], ◌∷◌, sym, ap, subst, ◌∙◌, inl, inr, Option, Some, None}
 use Rattle.std.specs.Prelude.{All}
 use Rattle.std.specs.List.{cons_option}
@@ -49,7 +49,8 @@ registers_apart (fact.Poll p ∷ facts) h = registers_apart facts h.1
 registers_apart (fact.Outcome e ∷ facts) h = registers_apart facts h.1
 registers_apart (fact.Reply r ∷ facts) h = registers_apart facts h.1
 
--- If a meter is open after a journal line, then the meter was also open before this line.
+-- If a meter is open after a line of its journal (history), then the meter was also open before
+-- this line.
 by_closing : (c x : Bool) → cond c true x ≡ false → x ≡ false
 by_closing true x h = absurd (let e : true ≡ false = h in cc)
 by_closing false x h = h
@@ -69,7 +70,7 @@ before_void : (b : Bool) (place : ℕ) (lines : journal.Journal)
 before_void true place lines h = h
 before_void false place lines h = h
 
--- True if a search for the name of the opening's meter finds this opening.
+-- True if a search for a meter by name finds the given opening (installation record).
 abbrev IsInstalled : List Fact → Opening → Type 0
 IsInstalled facts o = opening_of facts o.meter ≡ Some o
 
@@ -78,8 +79,8 @@ open_there : (facts : List Fact) (r : List ℕ) (o : Opening) → installed_at f
 open_there facts r o there unended =
     ap (λ (x : Option Opening). option_and_then if_open (option_map (installation_of facts) x)) there ∙ cond-false _ _ _ unended
 
--- If an accounting register has an open meter, then no other meter can be installed at the
--- register.
+-- If an accounting register (an energy counter) has an open meter, then no other meter can be
+-- installed at the register.
 not_free : {P : Type 0} (facts : List Fact) (p o : Opening) → p.register ≡ o.register → open_at facts p.register ≡ None
     → installed_at facts o.register ≡ Some o → is_ended facts o ≡ false → P
 not_free facts p o same_one free there unended =
@@ -108,7 +109,7 @@ opened_at facts p o free there before unended =
       | inr e ↦ later_there facts p o free (before (sym (cond-false _ _ _ e) ∙ there)) unended
     ]
 
--- If a meter is open, then it is the latest meter at its accounting register.
+-- If a meter is open, then it is the latest meter at its accounting register (an energy counter).
 open_is_latest : (facts : List Fact) (o : Opening) → AreLawful facts → IsInstalled facts o → is_ended facts o ≡ false
     → installed_at facts o.register ≡ Some o
 open_is_latest [] o h there unended = absurd (cc)

@@ -1,5 +1,5 @@
 -- Lemmas that no poll is pending in an ended session, which is a former connection of a device. A
--- restart of the office ends all sessions.
+-- restart of the program ends all sessions.
 use Rattle.std.proofs.Common.{◌≡◌, ℕ, Bool, true, false, List, [], ◌∷◌, ◌++◌, map, refl, sym, ap, ◌∙◌, Option, Some, None, if◌then◌else◌}
 use Rattle.std.specs.List.{flat_map}
 use Rattle.std.specs.List.Sorted.{IsPermutation}
@@ -81,7 +81,7 @@ pub over-restarted : (slots : List Slot) → AreOver slots → AreOver (map slot
 over-restarted [] over = tt
 over-restarted (slot ∷ slots) over = (over_restarted slot.device slot.ended slot.present over.0, over-restarted slots over.1)
 
--- After a restart of the office, each pending poll has ended as lost, and no poll was started.
+-- After a restart of the program, each pending poll has ended as lost, and no poll was started.
 ends_with : (device : Device) (ended : List EndedSession) (present : Option (List session.Event))
     → IsPermutation (ends_in (polls_of_slot (slot_restarted (slot_with device ended present)))) (ends_in (polls_of_slot (slot_with device ended present)) ++ map lost_end (pending_on (slot_with device ended present)))
 ends_with device ended None = same_is _ _ (sym (append-nil _))

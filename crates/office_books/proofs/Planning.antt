@@ -1,4 +1,4 @@
--- Properties of the selection of reads from a plan by index range.
+-- Properties of the selection of Modbus reads from a device's plan by index range.
 use Rattle.std.proofs.Common.{◌≡◌, ◌-◌, ℕ, suc, zero, min, List, [], ◌∷◌, map, take, drop, length, refl, sym, ap, ◌∙◌, inl, inr, arith}
 use Rattle.std.proofs.lemmas.Bool.{cases_lt}
 use Rattle.std.proofs.lemmas.List.{drop_all, take_min, take_rest, take-map}

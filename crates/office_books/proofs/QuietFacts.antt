@@ -57,15 +57,16 @@ pub later_part_first : (added later facts : List Fact) → reverse (added ++ lat
 later_part_first added later facts =
     ap (λ (fs : List Fact). fs ++ facts) (reverse-append added later) ∙ append_assoc (reverse later) (reverse added) facts
 
--- If a lookup finds none of the added records, then its result is unchanged.
+-- If a filter of the records finds none of the added records, then its result is unchanged.
 pub unseen : {X : Type 0} (look : Fact → Option X) (added facts : List Fact) → Each (λ f. look f ≡ None) added
     → filter_map look (reverse added ++ facts) ≡ filter_map look facts
 unseen look [] facts h = refl
 unseen look (f ∷ added) facts h =
     ap (filter_map look) (later_first f added facts) ∙ unseen look added (f ∷ facts) h.1 ∙ ap (λ o. cons_option o (filter_map look facts)) h.0
 
--- True if the property `P` holds for each point list, register, opening, entry and void record. A
--- command adds no other records except devices and polls.
+-- True if the property `P` holds for each record of a point list, an accounting register, a meter's
+-- installation, an entry or a void (cancellation). A command adds no other records except devices
+-- and polls.
 pub record HoldsOfBooks (P : Fact → Type 0) : Type 0 where
   pub list : (put : DeviceList) → P (fact.List put)
   pub register : (register : Register) → P (fact.Register register)

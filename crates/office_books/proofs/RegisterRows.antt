@@ -1,5 +1,5 @@
--- Lemmas about the interval rows of an accounting register: the energy by quarter hour of its
--- meters, one meter after another.
+-- Lemmas about the interval rows of an accounting register (an energy counter): the energy by
+-- quarter hour of its meters, one meter after another.
 use Rattle.std.proofs.Common.{◌≡◌, ℕ, zero, suc, ◌+◌, ◌*◌, ◌^◌, ◌%◌, ◌<◌, ◌≤◌, List, [], ◌∷◌, ◌++◌, reverse, length, refl, sym, ap, subst, ◌∙◌, inl, inr, ◌⊎◌, arith}
 use Rattle.std.specs.Prelude.{All, slice_index_or}
 use Rattle.std.specs.List.{flat_map}
@@ -22,7 +22,7 @@ use Rattle.office_books.proofs.Lists.{reverse_cons}
 use Rattle.office_books.proofs.Journals.{IsInstalled, installed_fits, well}
 use Rattle.office_books.proofs.InTurn.{last_at, last_is_recorded, AllOver, InTurn, openings_at, in_turn}
 
--- The theorems about journals and their interval rows that this proof uses.
+-- The theorems about the energy of single meters by quarter hour that this proof uses.
 pub record FromJournals : Type 0 where
   pub kept : laws.JournalsAreKept
   pub accounts : laws.IntervalRowsAreAccounts
@@ -30,7 +30,7 @@ pub record FromJournals : Type 0 where
   pub within : RowsLieWithin
   pub no_further : VoidsGoNoFurther
 
--- True if all interval rows begin at or after the time `n`.
+-- True if all interval rows (energy by quarter hour) begin at or after the time `n`.
 abbrev From : ℕ → List Share → Type 0
 From n [] = Unit {0}
 From n (row ∷ rows) = (n ≤ row.start) × From n rows
@@ -39,8 +39,8 @@ abbrev NeverFall : List Share → Type 0
 NeverFall [] = Unit {0}
 NeverFall (row ∷ rows) = From row.start rows × NeverFall rows
 
--- True if all rows are quarter hours that begin before the time `n`. `RowsAfter` is true if all
--- rows are quarter hours that end after `n`.
+-- True if all interval rows are quarter hours that begin before the time `n`. `RowsAfter` is true
+-- if all of them are quarter hours that end after `n`.
 abbrev Before : ℕ → List Share → Type 0
 Before n [] = Unit {0}
 Before n (row ∷ rows) = (row.start % 900 ≡ 0) × (row.start < n) × Before n rows
@@ -85,7 +85,7 @@ never_at (row ∷ rows) zero (suc j) d h le lt = from_at row.start rows j d h.0 
 never_at (row ∷ rows) (suc i) zero d h le lt = absurd (omega (arith, le))
 never_at (row ∷ rows) (suc i) (suc j) d h le lt = never_at rows i j d h.1 (omega (arith, le)) (omega (arith, lt))
 
--- Lemmas about the interval rows of one meter.
+-- Lemmas about the interval rows (energy by quarter hour) of one meter.
 
 from_ascending : (n : ℕ) (rows : List Share) → All (λ later. n < later) (starts_of rows) → From n rows
 from_ascending n [] h = tt
@@ -110,8 +110,8 @@ after_within opened last (row ∷ rows) h =
     let here = All-head (LiesWithin opened last) row rows h in
     (here.quarter, here.following, after_within opened last rows (All-tail (LiesWithin opened last) row rows h))
 
--- The start times of one meter's interval rows never fall. The rows are between the opening and the
--- last entry, and their energy is at most 4 * 10^18 mWh.
+-- The start times of one meter's interval rows (energy by quarter hour) never fall. The rows are
+-- between the meter's first and last entry, and their energy is at most 4 * 10^18 mWh.
 record IsFine (facts : List Fact) (o : Opening) : Type 0 where
   never_fall : NeverFall (rows_of_opening facts o)
   within : All (LiesWithin o.at (last_at facts o)) (rows_of_opening facts o)
@@ -128,10 +128,10 @@ fine law facts o h there =
       energy = omega (arith, law.sums (installed o) lines own fits, (law.kept (installed o) lines own fits).account.within);
     }
 
--- Lemmas about the interval rows of several meters, one after another.
+-- Lemmas about the interval rows (energy by quarter hour) of several meters, one after another.
 
--- The interval rows of a list of meters that begins with the latest. The rows of the earliest meter
--- come first.
+-- The interval rows (energy by quarter hour) of a list of meters that begins with the latest. The
+-- rows of the earliest meter come first.
 abbrev rows_in_turn : List Fact → List Opening → List Share
 rows_in_turn facts os = flat_map (rows_of_opening facts) (reverse os)
 
@@ -171,8 +171,8 @@ all_never_fall law facts (o ∷ os) h turn =
     (all_before law facts o.at os h turn.2 (last_over facts o.at os turn.1))
     (after_within o.at (last_at facts o) (rows_of_opening facts o) this.within))
 
--- If a meter has no interval rows, then it has no energy. If it has interval rows, then its last
--- entry is later than its opening.
+-- If a meter has no interval rows (energy by quarter hour), then it has no energy. If it has
+-- interval rows, then its last entry is later than its first.
 rows_go_on : (opened last : ℕ) (rows : List Share) → All (LiesWithin opened last) rows → energy_of rows ≤ 4 * 10 ^ 18
     → (energy_of rows ≡ 0) ⊎ (opened < last)
 rows_go_on opened last [] h few = inl refl
@@ -204,8 +204,8 @@ all_energy law facts at (o ∷ os) h turn last =
           )
     ]
 
--- Lemmas about the interval rows of accounting registers, if the records follow the rules
--- (`AreLawful`).
+-- Lemmas about the interval rows (energy by quarter hour) of accounting registers (energy
+-- counters), if the records follow the rules (`AreLawful`).
 
 moments_bounded : (facts : List Fact) → AreLawful facts → latest_in facts ≤ moment_limit
 moments_bounded [] h = omega arith

@@ -36,8 +36,8 @@ round_step : (at number : ℕ) (device : Device) (send : Send) (later : List Sen
 round_step at number device send later facts true h rest few = subst AreLawful (sym (recorded_more at device send later facts)) (rest few)
 round_step at number device send later facts false h rest few = h
 
--- If the polls of a round have consecutive numbers, then the records with these polls still follow
--- the rules (`AreLawful`).
+-- If the polls of a polling round have consecutive numbers, then the records with these polls still
+-- follow the rules (`AreLawful`).
 pub round_fits : (at number : ℕ) (device : Device) (before : List session.Event) (spans : List ReadSpan) (facts : List Fact) → AreLawful facts
     → at ≤ moment_limit → number ≡ next_poll facts → is_some (device_of facts device.name) ≡ true
     → length (polls_in facts) + length (sends_on number at device before spans) ≤ poll_limit
@@ -61,8 +61,8 @@ starts_more : (starts : List session.Event) (send : Send) (at : ℕ) (device : D
 starts_more [] send at device h = (refl, tt)
 starts_more (s ∷ starts) send at device h = (h.0, starts_more starts send at device h.1)
 
--- A round sends all its reads, or only the first reads if the device's Modbus session cannot start
--- the later reads.
+-- A polling round sends all its reads, or only the first reads if the device's Modbus session
+-- cannot start the later reads.
 pub round_count : (at number : ℕ) (device : Device) (events starts : List session.Event) (id count : ℕ) (spans : List ReadSpan)
     → IsReady device.timeout device.window events id count → AreStarts starts → length starts ≤ count
     → length starts + length (sends_on number at device (events ++ starts) spans) ≡ min count (length starts + length spans)

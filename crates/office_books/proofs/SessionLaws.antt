@@ -47,8 +47,8 @@ numbers-new_result t es (Piece m b) = refl
 numbers-new_result t es (Tick m) = refl
 numbers-new_result t es (Close m c) = refl
 
--- After a start event, the Modbus session has one more poll number. After any other session event,
--- the poll numbers are unchanged.
+-- An event that starts a poll adds one number to the list of the Modbus session's polls. No other
+-- event of a session changes this list.
 pub numbers-push : (laws : SessionLaws) (t : ℕ) (es : List Event) (e : Event) → numbers_of (results t [] (es ++ e ∷ [])) ≡ numbers_of (results t [] es) ++ number_by e
 numbers-push laws t es e =
     let new = new_result (started t es e) in

@@ -84,8 +84,8 @@ on_slot : SettlesPending → (n number at : ℕ) (e : OfficeEvent) (device : Dev
 on_slot law n number at e device ended None = omega (arith, times-nil n)
 on_slot law n number at e device ended (Some before) = on_session law n number at e device before
 
--- Among the polls that an event of the office ends on all devices, a number occurs at most as often
--- as among all pending polls.
+-- Among the polls that an event of the program ends on all devices, a number occurs at most as
+-- often as among all pending polls.
 pub settled_at_most : SettlesPending → (n number at : ℕ) (e : OfficeEvent) (slots : List Slot)
     → times n (settled_numbers (flat_map (settled_by number at e) slots)) ≤ times n (flat_map pending_on slots)
 settled_at_most law n number at e [] = omega (arith, times-nil n)

@@ -24,7 +24,7 @@ use Rattle.office_books.proofs.QuietFacts.{AreQuiet, IsQuiet, later_first, quiet
 abbrev pub numbers : List Fact → List ℕ
 numbers facts = map (λ poll. poll.number) (polls_in facts)
 
--- The records after the polls of sent reads are added.
+-- The records after one poll for each of the given sent reads is added.
 abbrev recorded_sends : (at : ℕ) → Device → List Send → List Fact → List Fact
 recorded_sends at device sends facts = reverse (map (poll_by at device) sends) ++ facts
 
@@ -65,8 +65,8 @@ sent_numbered number at device before (span ∷ spans) facts h is =
     (sent_numbered (number + 1) at device (before ++ start_by at device send ∷ []) spans (poll_by at device send ∷ facts)
     (is, h) (one_more number (length (polls_in facts)) is))
 
--- True if the added records contain exactly the polls of these sent reads, consecutively numbered,
--- and no outcome of a poll.
+-- True if the added records contain exactly the polls of the given sent reads, consecutively
+-- numbered, and no outcome of a poll.
 pub record AddsPolls (facts added : List Fact) (sends : List Send) : Type 0 where
   pub numbered : AreNumbered (polls_in (reverse added ++ facts))
   pub started : IsPermutation (numbers (reverse added ++ facts)) (sent_numbers sends ++ numbers facts)

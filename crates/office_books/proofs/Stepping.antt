@@ -1,4 +1,4 @@
--- Lemmas about the state of a meter (its installation) after a new record.
+-- Lemmas about the state of a meter after a new record is added.
 use Rattle.std.proofs.Common.{◌≡◌, ℕ, true, false, cond, List, [], ◌∷◌, sym, ap, subst, ◌∙◌, inl, inr, Some, None}
 use Rattle.std.specs.List.{cons_option}
 use Rattle.std.proofs.lemmas.Bool.{cases_Bool, cond-true, cond-false}
@@ -21,12 +21,12 @@ use Rattle.office_books.specs.Steps.{Stays, OtherMetersStay, HoldsChangeNothing,
 use Rattle.office_books.proofs.Lookups.{same_text, same_itself, find_passes}
 use Rattle.office_books.proofs.Journals.{nothing_before, IsInstalled, installed_fits, well}
 
--- The state of a meter, computed from its journal.
+-- The state of a meter, computed from its journal (history).
 abbrev pub installation_by : Opening → journal.Journal → Installation
 installation_by o lines = standing o (journal.entries_of (opened o) lines) (journal.is_ended lines)
 
--- If a record leaves the journal of a meter unchanged, then the record leaves the meter's state
--- unchanged.
+-- If a record leaves the journal (history) of a meter unchanged, then the record leaves the meter's
+-- state unchanged.
 same_journal : (f : Fact) (facts : List Fact) (o : Opening) → journal_of (f ∷ facts) o.meter ≡ journal_of facts o.meter → Stays f facts o
 same_journal f facts o is =
     record {
@@ -65,12 +65,13 @@ openings_begin o facts h =
       intervals = ap (books.interval_rows (installed o)) none;
     }
 
--- If a search by name finds an opening, then the opening's meter has this name.
+-- If a search by name finds an opening (installation record), then the installed meter has this
+-- name.
 pub named : (facts : List Fact) (m : List ℕ) (o : Opening) → opening_of facts m ≡ Some o → o.meter ≡ m
 named facts m o there = same_text o.meter m (find_passes (λ (x : Opening). same x.meter m) (openings_in facts) o there)
 
--- If a journal line may be added to the records of its meter, then the rules of the journal accept
--- the line.
+-- If a line may be added to a meter's journal (history), then the rules for the journal of the
+-- found meter accept the line.
 pub own_line : (facts : List Fact) (meter : List ℕ) (line : journal.Line) (o : Opening) → LineFits facts meter line → opening_of facts meter ≡ Some o
     → journals.Fits (installed o) (journal_of facts o.meter) line
 own_line facts meter line o fits there =

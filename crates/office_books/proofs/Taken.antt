@@ -62,8 +62,8 @@ is_taken past at c h =
       few = limit.1.1.1.1.1.1.1.1.1.1.0;
     }
 
--- Suppose that every reason that applies by the test `q` also applies by the test `p`. If no reason
--- applies by `p`, then none applies by `q`. A request and its command have such tests.
+-- Suppose that every reason to refuse that applies by the test `q` also applies by the test `p`. If
+-- no reason applies by `p`, then no reason applies by `q`.
 less_refused : (p q : Refusal → Bool) → ((why : Refusal) → p why ≡ false → q why ≡ false) → (xs : List Refusal) → find p xs ≡ None → find q xs ≡ None
 less_refused p q less [] h = refl
 less_refused p q less (why ∷ xs) h =

@@ -1,11 +1,12 @@
--- The proof that the records after any accepted events are correct, as `AreTrue` defines.
+-- The proof that the polls and the energy of meters in the records are correct after any accepted
+-- events (`AreTrue`).
 use Rattle.office_books.specs.History.{History, facts_of}
 use Rattle.office_books.specs.Refusals.{AreAccepted}
 use Rattle.office_books.specs.Endings.{EachEndsOnce}
 use Rattle.office_books.specs.Laws.{MetersAreKept, TruthIsRecorded, VoidsLeaveNoTrace}
 use Rattle.office_books.specs.Lawfulness.{FactsAreLawful, NamesAreDistinct, BooksAreTrue}
 
--- The theorems from which `AreTrue` follows.
+-- The theorems from which the correctness of the records (`AreTrue`) follows.
 pub record Laws : Type 0 where
   pub polls : (history : History) → AreAccepted history → EachEndsOnce history
   pub lawful : FactsAreLawful

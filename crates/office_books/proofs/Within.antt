@@ -1,4 +1,4 @@
--- The energy of a meter before an entry is at most its total energy.
+-- Lemmas that the energy of a meter before an entry is at most the meter's total energy.
 use Rattle.std.proofs.Common.{◌≡◌, ℕ, ◌≤◌, ◌==◌, List, [], ◌∷◌, refl, sym, ap, subst, ◌∙◌, inl, inr, Option, Some, None, arith}
 use Rattle.std.specs.Prelude.{sum_by}
 use Rattle.std.specs.Option.{option_map, option_and_then}

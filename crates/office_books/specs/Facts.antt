@@ -21,7 +21,7 @@ use Rattle.read_plan.specs.PlannedLists.{Planned}
 use Rattle.point_list.specs.declared.point.ListedPoint.{ListedPoint}
 use Rattle.office_events.specs.declared.facts.Fact.TheVariants as fact
 
--- The greatest timestamp that the office accepts: 2099-12-31 24:00 UTC.
+-- The greatest timestamp that the program accepts: 2099-12-31 24:00 UTC.
 abbrev pub moment_limit : ℕ
 moment_limit = LAST_MOMENT
 
@@ -116,8 +116,8 @@ polls_in facts = filter_map as_poll facts
 abbrev pub ended_in : List Fact → List EndedPoll
 ended_in facts = filter_map as_ended facts
 
--- The device, the accounting register or the opening with the given name, or `None` if no record
--- has the name.
+-- The device, the accounting register or the meter's opening (installation record) with the given
+-- name. `None` if no record has the name.
 abbrev pub device_of : List Fact → List ℕ → Option Device
 device_of facts name = find (λ device. same device.name name) (devices_in facts)
 
@@ -127,8 +127,8 @@ register_of facts name = find (λ register. same register.name name) (registers_
 abbrev pub opening_of : List Fact → List ℕ → Option Opening
 opening_of facts meter = find (λ opening. same opening.meter meter) (openings_in facts)
 
--- The accounting registers of the device with the given name, in the order in which they were
--- added.
+-- The accounting registers (energy counters) of the device with the given name, in the order in
+-- which they were added.
 abbrev pub registers_of : List Fact → List ℕ → List Register
 registers_of facts device =
     reverse (filter (λ register. same register.device device) (registers_in facts))

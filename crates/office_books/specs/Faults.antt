@@ -10,7 +10,7 @@ use Rattle.office_books.specs.declared.faults.StoreFault.TheVariants.{Refused, D
 use Rattle.office_books.specs.declared.faults.BooksFault.{BooksFault}
 use Rattle.office_books.specs.declared.faults.BooksFault.TheVariants.{Store, Memory}
 
--- The cause that a refusal reports for this failure of the store.
+-- The cause that a refusal states for a given failure of the store.
 abbrev pub as_cause : StoreFault → StoreCause
 as_cause Refused = cause.Refused
 as_cause Damaged = cause.Damaged
@@ -33,7 +33,7 @@ failed_by (Store fault) failures = record {
 }
 failed_by Memory failures = record { count = failures.count; last = Some Memory }
 
--- The failure counter after one call of the store with this result.
+-- The failure counter after one call of the store with the given result.
 abbrev pub faults_after : {T : Type 0} → Result T BooksFault → Failures → Failures
 faults_after (Ok x) failures = failures
 faults_after (Err fault) failures = failed_by fault failures

@@ -1,4 +1,4 @@
--- The starts of the office and the events that the office accepted, and the records that follow
+-- The starts of the program and the events that the program accepted, and the records that follow
 -- from them.
 use Rattle.std.specs.Prelude.{ℕ, ◌+◌, ◌==◌, List, [], ◌∷◌, ◌++◌, map, drop, reverse, Option, Some, None, length, if◌then◌else◌}
 use Rattle.std.specs.Option.{option_map, option_and_then, option_to_list}
@@ -39,16 +39,16 @@ use Rattle.office_books.specs.Facts.{polls_in, poll_of, pending_in, list_of}
 use Rattle.office_books.specs.Readings.{with_reply}
 use Rattle.office_books.specs.Sessions.{Slot, Send, slot_of, command_in, started_on, sends_at, reaches, device_by, slots_after, slot_restarted}
 
--- An accepted start of the office, which is a start of the program, or an accepted event.
+-- An accepted start of the program, or an accepted event.
 pub data Accepted : Type 0 where
   Opened : (at : ℕ) → Accepted
   Fed : (at : ℕ) → (event : Event) → Accepted
 
--- All accepted starts of the office and all accepted events. The latest comes first.
+-- All accepted starts of the program and all accepted events. The latest comes first.
 abbrev pub History : Type 0
 History = List Accepted
 
--- The timestamp of the latest accepted start of the office or event, or 0 if nothing was accepted.
+-- The timestamp of the latest accepted start of the program or event, or 0 if nothing was accepted.
 abbrev pub latest_of : History → ℕ
 latest_of [] = 0
 latest_of (Opened at ∷ past) = at
@@ -95,15 +95,16 @@ settled_in device before (happening ∷ later) =
     session.outcomes_at device.timeout before happening
     ++ settled_in device (before ++ happening ∷ []) later
 
--- The polls that an event of the office ends on the session (connection) of a device, each with its
--- result. Without a session, no poll ends.
+-- The polls that an event of the program ends on the session (connection) of a device, each with
+-- its result. Without a session, no poll ends.
 abbrev pub settled_on : (number at : ℕ) → Event → Device → Option (List session.Event)
     → List (ℕ × session.Settlement)
 settled_on number at e device None = []
 settled_on number at e device (Some before) =
     settled_in device before (reaches number at [] e device before)
 
--- The polls that an event of the office ends for the device of a slot, each with its result.
+-- The polls that an event of the program ends for the device of a slot (a device with its
+-- sessions), each with its result.
 abbrev pub settled_by : (number at : ℕ) → Event → Slot → List (ℕ × session.Settlement)
 settled_by number at e slot = settled_on number at e slot.device slot.present
 
@@ -125,7 +126,8 @@ abbrev pub scale_by : GivenScale → ScaleSource
 scale_by (given.Fixed sf) = source.Fixed sf
 scale_by (given.Register address) = source.Register address
 
--- The record of a new accounting register, with its name and the name of its device.
+-- The record of a new accounting register (an energy counter), with its name and the name of its
+-- device.
 abbrev pub register_by : AddRegister → (name device : List ℕ) → Fact
 register_by c name device =
     fact.Register
@@ -137,7 +139,8 @@ register_by c name device =
       scale = scale_by c.scale;
     })
 
--- The record of the opening of a new meter at an accounting register, at the timestamp `at`.
+-- The opening (installation record) of a new meter at an accounting register (an energy counter),
+-- at the timestamp `at`.
 abbrev pub opening_by : ℕ → Install → (register meter : List ℕ) → Fact
 opening_by at c register meter =
     fact.Opening (record {
@@ -150,8 +153,8 @@ opening_by at c register meter =
       sf = c.sf;
     })
 
--- The installation command for the new meter of an exchange, which is installed after the old meter
--- is closed.
+-- The installation command for the new meter in an exchange of meters. The new meter is installed
+-- after the old meter is closed.
 abbrev pub installed_by : Exchange → Install
 installed_by c =
     record {
@@ -169,8 +172,8 @@ abbrev pub read_at : (at : ℕ) → Option ℕ → ℕ
 read_at at None = at
 read_at at (Some earlier) = earlier
 
--- The parameters of the entry that a command makes, which are its accounting register, its kind,
--- its times and its counts.
+-- The parameters of the entry that a command makes, which are its accounting register (an energy
+-- counter), its kind, its times and its counts.
 pub record Made : Type 0 where
   pub register : Option (List ℕ)
   pub kind : EntryKind
@@ -236,8 +239,8 @@ entries_by at facts c =
     option_to_list
     (option_and_then (made_on at c) (option_and_then (open_at facts) (corrected_at c)))
 
--- The opening record of the meter that a command installs. The list is empty if one of the names is
--- invalid.
+-- The opening (installation record) of the meter that a command installs. The list is empty if one
+-- of the names is invalid.
 abbrev pub openings_by : (at : ℕ) → Install → List Fact
 openings_by at c =
     option_to_list
@@ -261,14 +264,14 @@ spans_by facts (command.StartRound c) =
     round_spans c.from (option_and_then (list_of facts) c.device)
 spans_by facts _ = []
 
--- The reads that the command in an event of the office requests. An event without a command
+-- The reads that the command in an event of the program requests. An event without a command
 -- requests none.
 abbrev pub spans_in : List Fact → Option Command → List ReadSpan
 spans_in facts None = []
 spans_in facts (Some c) = spans_by facts c
 
--- The reads that a device's Modbus session can start, from the first of `spans` on. Without a slot,
--- which means without such a device, no read starts.
+-- The reads that a device's Modbus session can start, from the first of `spans` on. No read starts
+-- if the device does not exist.
 abbrev pub sends_from : (number at : ℕ) → List ReadSpan → Option Slot → List Send
 sends_from number at spans None = []
 sends_from number at spans (Some slot) = sends_at number at slot.device slot.present spans
@@ -290,8 +293,8 @@ poll_by at device send =
       span = send.span;
     })
 
--- The records of the polls that a device's Modbus session can start for the reads `spans`. Without
--- a slot, which means without such a device, the list is empty.
+-- The records of the polls that a device's Modbus session can start for the reads `spans`. The list
+-- is empty if the device does not exist.
 abbrev pub polls_from : (number at : ℕ) → List ReadSpan → Option Slot → List Fact
 polls_from number at spans None = []
 polls_from number at spans (Some slot) =
@@ -366,16 +369,16 @@ facts_after number at (event.Command c) slots facts =
 facts_after number at (event.Asked asked) slots facts =
     reverse (added_by number at slots facts asked.command ++ reply_by at asked) ++ facts
 
--- The outcome record of a poll that was pending when the office restarted. The poll is lost.
+-- The outcome record of a poll that was pending when the program restarted. The poll is lost.
 abbrev pub lost : ℕ → Poll → Fact
 lost at poll = fact.Outcome (record { poll = poll.number; at = at; outcome = outcome.Lost Restart })
 
--- The records after a start of the office. Each pending poll gets the outcome "lost".
+-- The records after a start of the program. Each pending poll gets the outcome "lost".
 abbrev pub with_lost : ℕ → List Fact → List Fact
 with_lost at facts = reverse (map (lost at) (pending_in facts)) ++ facts
 
 abbrev mutual
-  -- The records that follow from a list of accepted starts of the office and accepted events. The
+  -- The records that follow from a list of accepted starts of the program and accepted events. The
   -- latest record comes first.
   pub facts_of : History → List Fact
   facts_of [] = []
@@ -383,7 +386,7 @@ abbrev mutual
   facts_of (Fed at e ∷ past) =
       facts_after (next_poll (facts_of past)) at e (slots_of past) (facts_of past)
 
-  -- The slots of all devices after a list of accepted starts of the office and accepted events. A
+  -- The slots of all devices after a list of accepted starts of the program and accepted events. A
   -- slot contains a device and the events of its sessions (connections).
   pub slots_of : History → List Slot
   slots_of [] = []

@@ -11,6 +11,7 @@ use Rattle.office_books.specs.Spans.{is_within}
 abbrev pub holds_of : List Fact → (meter : List ℕ) → List HeldReading
 holds_of facts meter = reverse (filter (λ held. same held.meter meter) (holds_in facts))
 
--- Those of the rejected readings whose timestamps lie in the span, in unchanged order.
+-- From a list of rejected readings, those whose timestamps lie in the time span, in unchanged
+-- order.
 abbrev pub holds_within : Span → List HeldReading → List HeldReading
 holds_within span holds = filter (λ held. is_within span held.at) holds

@@ -22,7 +22,7 @@ use Rattle.office_books.specs.Meters.{held_line, installed, journal_of, open_at}
 use Rattle.office_books.specs.History.{next_poll}
 
 -- True if a device may be added. No device has its name, and its Modbus unit, timeout and window
--- are in range.
+-- (number of concurrent polls) are in range.
 pub record DeviceFits (facts : List Fact) (device : Device) : Type 0 where
   pub new : device_of facts device.name ≡ None
   pub unit : device.unit ≤ LAST_UNIT
@@ -35,15 +35,15 @@ pub record ListFits (facts : List Fact) (put : DeviceList) : Type 0 where
   pub device : is_some (device_of facts put.device) ≡ true
   pub planned : IsPlanned put.list
 
--- True if an accounting register may be added. No accounting register has its name, and its device
--- exists.
+-- True if an accounting register (an energy counter) may be added. No accounting register has its
+-- name, and its device exists.
 pub record RegisterFits (facts : List Fact) (register : Register) : Type 0 where
   pub new : register_of facts register.name ≡ None
   pub device : is_some (device_of facts register.device) ≡ true
 
--- True if a meter may be installed. No meter has its name, and its accounting register exists and
--- has no open meter. No record has a later timestamp, and the meter's counts and limits are in
--- range.
+-- True if a meter may be installed. No meter has its name, and its accounting register (an energy
+-- counter) exists and has no open meter. No record has a later timestamp, and the meter's counts
+-- and limits are in range.
 pub record OpeningFits (facts : List Fact) (opening : Opening) : Type 0 where
   pub new : opening_of facts opening.meter ≡ None
   pub free : open_at facts opening.register ≡ None
@@ -55,14 +55,14 @@ pub record OpeningFits (facts : List Fact) (opening : Opening) : Type 0 where
   pub ceiling : (1 ≤ opening.ceiling) × (opening.ceiling ≤ MAX_CEILING)
 
 -- True if a line may be added to a meter's journal, the list of its entries, rejected readings and
--- voids. The meter is installed, and the journal's rules accept the line.
+-- voids (cancellations). The meter is installed, and the journal's rules accept the line.
 pub record LineFits (facts : List Fact) (meter : List ℕ) (line : journal.Line) : Type 0 where
   pub opening : Opening
   pub there : opening_of facts meter ≡ Some opening
   pub fits : journals.Fits (installed opening) (journal_of facts opening.meter) line
 
--- True if a rejected reading may be recorded. Its poll was started, and the rules of its meter's
--- journal accept the line.
+-- True if a rejected reading may be recorded. Its poll was started, and the rules accept the
+-- reading as the next line of its meter's journal (history).
 pub record HoldFits (facts : List Fact) (held : HeldReading) : Type 0 where
   pub started : is_some (poll_of facts held.poll) ≡ true
   pub line : LineFits facts held.meter (held_line held)

@@ -31,8 +31,8 @@ ListsArePlanned [] = Unit {0}
 ListsArePlanned (Opened at ∷ past) = ListsArePlanned past
 ListsArePlanned (Fed at e ∷ past) = PutsPlanned (command_in e) × ListsArePlanned past
 
--- True if a list of starts of the office and of events is a possible past of the office. Each item
--- was accepted after the earlier items, and each point list has the reads of its plan.
+-- True if a list of program starts and events is a possible past of the program. Each item was
+-- accepted after the earlier items, and each point list has the reads of its plan.
 pub record IsPast (history : History) : Type 0 where
   pub accepted : AreAccepted history
   pub planned : ListsArePlanned history
@@ -65,10 +65,10 @@ pub record AreDistinct (facts : List Fact) : Type 0 where
 abbrev pub NamesAreDistinct : Type 0
 NamesAreDistinct = (facts : List Fact) → AreLawful facts → AreDistinct facts
 
--- True if the polls and meters of a history satisfy all theorems. Each poll ended once or is
--- pending. The energy and the interval rows of each meter come from its valid entries, and voided
--- (cancelled) entries leave no trace. If the readings come from an honest meter that is polled
--- often enough, the energy and the interval rows equal the true ones.
+-- True if the polls and meters are correct after a list of accepted events. Each poll ended once or
+-- is pending. The energy of each meter, in total and by quarter hour, comes from its valid entries,
+-- and voided (cancelled) entries leave no trace. If the readings come from an honest meter that is
+-- polled often enough, this energy equals the true energy.
 pub record AreTrue (history : History) : Type 0 where
   pub polls : EachEndsOnce history
   pub lawful : AreLawful (facts_of history)
@@ -82,6 +82,7 @@ pub record AreTrue (history : History) : Type 0 where
       → ShowsTrueRun (installed opening) (journal_of (facts_of history) opening.meter) first items
       → IsKeptTruly (installed opening) (journal_of (facts_of history) opening.meter) first items
 
--- Theorem: the records of each possible history satisfy `AreTrue`.
+-- Theorem: after any accepted events, the polls and the energy of meters in the records are correct
+-- (`AreTrue`).
 abbrev pub BooksAreTrue : Type 0
 BooksAreTrue = (history : History) → AreAccepted history → ListsArePlanned history → AreTrue history

@@ -17,21 +17,23 @@ use Rattle.office_books.specs.Meters.{opened, installed, journal_of, entries_of,
 use Rattle.office_books.specs.Intervals.{rows_of_opening}
 use Rattle.office_books.specs.Lawful.{AreLawful}
 
--- True if the records contain the opening of a meter.
+-- True if the records contain the opening (installation record) of a meter.
 abbrev pub IsRecorded : List Fact → Opening → Type 0
 IsRecorded facts opening = Contains (openings_in facts) opening
 
--- Theorem: if the records follow the rules (`AreLawful`), then the rules of each meter's journal
--- accept each of its lines after the earlier lines.
+-- Theorem: if the records follow the rules (`AreLawful`), then the rules for each meter's journal
+-- (history) accept each line after the earlier lines.
 abbrev pub JournalsFit : Type 0
 JournalsFit = (facts : List Fact) (opening : Opening) → AreLawful facts → IsRecorded facts opening
     → AreFitting (installed opening) (journal_of facts opening.meter)
 
 -- True if the energy of a meter balances. One sum consists of its total energy, its value at the
--- opening, and the values to which its counter was set. The other sum consists of its last value, a
--- full range for each rollover, and the values before the counter was set. Both sums are equal.
+-- installation, and the values to which its counter was set. The other sum consists of its last
+-- value, a full range for each rollover, and the values before the counter was set. Both sums are
+-- equal.
 --
--- The account of the valid entries is sound, and the interval rows add up to the total energy.
+-- The energies of the steps between valid entries, and the energies by quarter hour, add up to the
+-- total energy.
 pub record IsKept (facts : List Fact) (opening : Opening) : Type 0 where
   pub energy : (installation_of facts opening).total + value_of (opened opening)
       + set_anew (entries_of facts opening)
@@ -49,15 +51,15 @@ MetersAreKept = (facts : List Fact) (opening : Opening) → AreLawful facts → 
 
 -- Theorem about an honest meter that is polled often enough. It covers the readings that were valid
 -- after the last void (cancellation), and all later readings. Then none of the later readings was
--- rejected, and the recorded steps, energy and interval rows equal the true ones.
+-- rejected. The recorded energy, in total and by quarter hour, equals the true energy.
 abbrev pub TruthIsRecorded : Type 0
 TruthIsRecorded = (facts : List Fact) (opening : Opening) (first : Item) (items : List Item)
     → AreLawful facts → IsRecorded facts opening
     → truth.ShowsTrueRun (installed opening) (journal_of facts opening.meter) first items
     → truth.IsKeptTruly (installed opening) (journal_of facts opening.meter) first items
 
--- True if the valid entries of a meter are the entries that no void (cancellation) names. These
--- entries lead to the same energy as a journal that contains only the valid entries.
+-- True if the valid entries of a meter are the entries that no void (cancellation) names. Without
+-- the other entries, the meter's history leads to the same energy.
 pub record IsUntraced (facts : List Fact) (opening : Opening) : Type 0 where
   pub rows : journals.HasItsRows (installed opening) (journal_of facts opening.meter)
   pub alone : journals.LeavesNoTrace (installed opening) (journal_of facts opening.meter)

@@ -1,4 +1,4 @@
--- The model of a store, and how a call may change the model.
+-- A model of the store of records, and how calls of the store may change the model.
 use Rattle.std.specs.Prelude.{◌≡◌, ◌≢◌, ◌⊎◌, List, [], ◌∷◌, ◌++◌, reverse, Result, IfOk, OnOk, OnErr, IsOk}
 use Rattle.interval_core.specs.declared.zone.Zone.{Zone}
 use Rattle.office_events.specs.declared.facts.Fact.{Fact}
@@ -38,7 +38,7 @@ pub record LedgerAfterCalls {T : Type 0} (old new : Ledger) (result : Result T B
   pub faults : FailuresAfterCalls result old.failures new.failures
   pub zone : new.zone ≡ old.zone
 
--- The store's records and the lists of records that a crash may leave are unchanged.
+-- States that neither the store's records nor the lists of records that a crash may leave change.
 pub record KeepsFacts (old new : Ledger) : Type 0 where
   pub facts : (known : List Fact) → old.holds known → new.holds known
   pub left : (left : List (List Fact)) → old.may_leave left → new.may_leave left

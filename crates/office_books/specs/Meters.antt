@@ -1,5 +1,5 @@
--- The meters in the records: their journals, their accounts, and the meters at each accounting
--- register.
+-- The meters in the records: their journals (histories), their states, and the meters at each
+-- accounting register (an energy counter).
 use Rattle.std.specs.Prelude.{ℕ, Bool, List, Option, Some, None, if◌then◌else◌}
 use Rattle.std.specs.List.{filter_map}
 use Rattle.std.specs.Option.{option_map, option_and_then}
@@ -18,12 +18,13 @@ use Rattle.office_events.specs.declared.questions.Installation.{Installation}
 use Rattle.office_events.specs.declared.questions.EntryContext.{EntryContext}
 use Rattle.office_books.specs.Facts.{same, opening_of, installed_at}
 
--- The line of a rejected reading in its meter's journal, with the cause of the rejection.
+-- The line of a rejected reading in the journal (history) of the reading's meter, with the cause of
+-- the rejection.
 abbrev pub held_line : HeldReading → journal.Line
 held_line held = journal.Held (record { at = held.at; raw = held.raw; sf = held.sf }) held.cause
 
--- The line that a record adds to the journal of a meter. `None` for records of other meters and for
--- records without a line.
+-- The line that a record adds to the journal (history) of a meter. `None` for records of other
+-- meters and for records that add no line.
 abbrev pub line_of : (meter : List ℕ) → Fact → Option journal.Line
 line_of meter (fact.Entry booked) =
     if same booked.meter meter then Some (journal.Entered booked.kind booked.entry) else None
@@ -33,24 +34,27 @@ line_of meter (fact.Void voided) =
     if same voided.meter meter then Some (journal.Voided voided.place) else None
 line_of meter _ = None
 
--- The journal of the meter with a given name. The latest line comes first.
+-- The journal (history) of the meter with a given name. The latest line comes first.
 abbrev pub journal_of : List Fact → (meter : List ℕ) → journal.Journal
 journal_of facts meter = filter_map (line_of meter) facts
 
--- The state of a meter's counter at its opening: the time, the count and the scale factor.
+-- The state of a meter's counter when the meter was installed: the time, the count and the scale
+-- factor.
 abbrev pub opened : Opening → Last
 opened opening = record { at = opening.at; raw = opening.raw; sf = opening.sf }
 
--- An installed meter: its range in counts, its ceiling in W, and its counter at the opening.
+-- An installed meter: its range in counts, its greatest power in W, and the state of its counter at
+-- the installation.
 abbrev pub installed : Opening → Installed
 installed opening =
     record { range = opening.range; ceiling = opening.ceiling; opening = opened opening }
 
--- The rows of a meter's entries after its opening, including voided entries.
+-- The entry rows of a meter after its opening (first entry), including voided (cancelled) entries.
 abbrev pub rows_of : List Fact → Opening → List EntryRow
 rows_of facts opening = journal.rows_of (opened opening) (journal_of facts opening.meter)
 
--- The valid entries of a meter, without its opening and its voided entries.
+-- The valid entries of a meter, without its opening (first entry) and without voided (cancelled)
+-- entries.
 abbrev pub entries_of : List Fact → Opening → List Entry
 entries_of facts opening = journal.entries_of (opened opening) (journal_of facts opening.meter)
 
@@ -58,12 +62,13 @@ entries_of facts opening = journal.entries_of (opened opening) (journal_of facts
 abbrev pub is_ended : List Fact → Opening → Bool
 is_ended facts opening = journal.is_ended (journal_of facts opening.meter)
 
--- The steps between consecutive valid entries of a meter, each with its energy. The latest step
--- comes first.
+-- The steps from each valid entry of a meter to the next valid entry, each with its energy. The
+-- latest step comes first.
 abbrev pub steps_in : List Fact → Opening → List Step
 steps_in facts opening = books.steps_in (installed opening) (journal_of facts opening.meter)
 
--- The state of a meter with a given opening after a list of valid entries was added to it.
+-- The state of a meter with a given opening (installation record) after a list of valid entries was
+-- added.
 abbrev pub standing : Opening → List Entry → (ended : Bool) → Installation
 standing opening es ended = record {
   opening = opening;
@@ -72,8 +77,8 @@ standing opening es ended = record {
   ended = ended;
 }
 
--- The state of a meter: its opening, its counter, its total energy in mWh, and whether it was
--- closed.
+-- The state of a meter: its opening (installation record), its counter, its total energy in mWh,
+-- and whether it was closed.
 abbrev pub installation_of : List Fact → Opening → Installation
 installation_of facts opening = standing opening (entries_of facts opening) (is_ended facts opening)
 
@@ -81,17 +86,17 @@ installation_of facts opening = standing opening (entries_of facts opening) (is_
 abbrev pub meter_of : List Fact → List ℕ → Option Installation
 meter_of facts meter = option_map (installation_of facts) (opening_of facts meter)
 
--- The state of the latest meter at the accounting register with a given name, open or closed.
--- `None` if no meter was installed there.
+-- The state of the latest meter at the accounting register (an energy counter) with a given name,
+-- open or closed. `None` if no meter was installed there.
 abbrev pub installation_at : List Fact → List ℕ → Option Installation
 installation_at facts register = option_map (installation_of facts) (installed_at facts register)
 
--- The state of the meter, or `None` if the meter was closed.
+-- The given state of a meter, or `None` if the meter was closed.
 abbrev pub if_open : Installation → Option Installation
 if_open row = if row.ended then None else Some row
 
--- The state of the open meter at the accounting register with a given name, or `None` if no meter
--- is open there.
+-- The state of the open meter at the accounting register (an energy counter) with a given name, or
+-- `None` if no meter is open there.
 abbrev pub open_at : List Fact → List ℕ → Option Installation
 open_at facts register = option_and_then if_open (installation_at facts register)
 

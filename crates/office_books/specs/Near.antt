@@ -7,22 +7,21 @@ use Rattle.office_events.specs.declared.questions.Installation.{Installation}
 use Rattle.office_events.specs.declared.questions.EntryContext.{EntryContext}
 use Rattle.office_books.specs.Meters.{meter_of, entry_at}
 
--- The entry and its neighbors, with the energy of the meter before the entry replaced by `mwh`, in
+-- The entry and its neighbours, where `mwh` replaces the energy of the meter before the entry, in
 -- mWh.
 abbrev pub with_energy : (mwh : ℕ) → EntryContext → EntryContext
 with_energy mwh place = record place { before = record place.before { total = mwh } }
 
--- The entry of a meter with the sequence number `place`. Its state `before` has the meter's present
--- total energy, because finding the energy before the entry would require adding up all earlier
--- entries.
+-- The entry of a meter with the sequence number `place`. The state before the entry contains the
+-- meter's present total energy, so that earlier entries need not be added up.
 abbrev pub entry_near : List Fact → (meter : List ℕ) → (place : ℕ) → Option EntryContext
 entry_near facts meter place =
     option_and_then
     (λ (whole : Installation). option_map (with_energy whole.total) (entry_at facts meter place))
     (meter_of facts meter)
 
--- True if the energy of the meter before the entry `place` is at most the meter's present total
--- energy.
+-- True if the energy of the meter before the entry with the sequence number `place` is at most the
+-- meter's present total energy.
 abbrev pub IsWithinWhole : List Fact → (meter : List ℕ) → (place : ℕ) → Type 0
 IsWithinWhole facts meter place = (whole : Installation) (found : EntryContext)
     → meter_of facts meter ≡ Some whole

@@ -41,8 +41,8 @@ as_note meter reading (Held cause) = note.Held meter reading.raw cause
 abbrev pub reading_note : Reading → Installation → Note
 reading_note reading row = as_note row.opening.meter reading (judgement row reading)
 
--- The notification of a reading at an accounting register in a response. The list is empty if the
--- read does not cover the register, or no meter is open there.
+-- The notification of a reading at an accounting register (an energy counter) in a response. The
+-- list is empty if the read does not cover the register, or no meter is open there.
 abbrev pub register_notes : ℕ → Poll → List ℕ → Register → List Fact → List Note
 register_notes at poll words register facts =
     if is_read_by poll.span register
@@ -51,7 +51,8 @@ register_notes at poll words register facts =
     (open_at facts register.name))
     else []
 
--- The notifications of the readings at several accounting registers in a response, in order.
+-- The notifications of the readings at several accounting registers (energy counters) in a
+-- response, in order.
 abbrev pub registers_notes : ℕ → Poll → List ℕ → List Register → List Fact → List Note
 registers_notes at poll words [] facts = []
 registers_notes at poll words (register ∷ registers) facts =
@@ -107,8 +108,8 @@ abbrev pub frame_of : Device → Send → List ℕ
 frame_of device send =
     spelling send.id device.unit (request_bytes (request_of (span_view send.span)))
 
--- The bytes of the Modbus frames of all reads that a device's session can start. Without a slot,
--- which means without such a device, the list is empty.
+-- The bytes of the Modbus frames of all reads that a device's session can start. The list is empty
+-- if the device does not exist.
 abbrev pub frames_from : (number at : ℕ) → List ReadSpan → Option Slot → List ℕ
 frames_from number at spans None = []
 frames_from number at spans (Some slot) =

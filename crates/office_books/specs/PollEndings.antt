@@ -1,5 +1,5 @@
 -- The endings of polls: by events of a session, which is a connection of a device, or by a restart
--- of the office.
+-- of the program.
 use Rattle.std.specs.Prelude.{◌≡◌, ℕ, ◌+◌, ◌==◌, Bool, true, false, List, [], ◌∷◌, ◌++◌, map, length, Option, Some, None}
 use Rattle.std.specs.Option.{option_and_then, option_to_list}
 use Rattle.std.specs.List.{find, flat_map}
@@ -15,7 +15,7 @@ use Rattle.office_books.specs.Sessions.{Slot, EndedSession}
 use Rattle.office_books.specs.History.{History, facts_of, slots_of, outcome_of}
 
 -- The outcome of a poll. If the events of its Modbus session contain its result, the outcome is
--- that result. Otherwise the poll is lost if the office restarted, and pending (`None`) if not.
+-- that result. Otherwise the poll is lost if the program restarted, and pending (`None`) if not.
 abbrev pub end_by : (restarted : Bool) → Option session.Settlement → Option Outcome
 end_by restarted (Some settlement) = Some (outcome_of settlement)
 end_by true None = Some (Lost Restart)
@@ -35,7 +35,7 @@ polls_on_present device None = []
 polls_on_present device (Some events) = polls_on device false events
 
 -- The polls of a device's ended Modbus sessions, each with its outcome. The outcome is `None` only
--- if no event ended the poll and the office did not restart.
+-- if no event ended the poll and the program did not restart.
 abbrev pub polls_on_ended : Device → List EndedSession → List (ℕ × Option Outcome)
 polls_on_ended device sessions =
     flat_map (λ ended. polls_on device ended.restarted ended.events) sessions

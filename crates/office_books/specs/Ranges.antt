@@ -20,8 +20,8 @@ pub record IsSound (row : Installation) : Type 0 where
   pub scale : IsScale row.last.sf
   pub total : row.total ≤ MAX_TOTAL
 
--- True if `IsSound` holds for each recorded meter's state, now and before each entry. The meter may
--- be looked up by name or by accounting register.
+-- True if the numbers of each recorded meter's state are in range (`IsSound`), now and before each
+-- entry. The meter may be looked up by name or by accounting register (an energy counter).
 pub record AreInRange (facts : List Fact) : Type 0 where
   pub recorded : (opening : Opening) → IsRecorded facts opening
       → IsSound (installation_of facts opening)
@@ -35,6 +35,7 @@ pub record AreInRange (facts : List Fact) : Type 0 where
       → entry_at facts meter place ≡ Some found
       → IsSound found.before
 
--- Theorem: `AreInRange` holds for all records that follow the rules (`AreLawful`).
+-- Theorem: if the records follow the rules (`AreLawful`), then the numbers of all meters' states
+-- are in range (`AreInRange`).
 abbrev pub InstallationsAreInRange : Type 0
 InstallationsAreInRange = (facts : List Fact) → AreLawful facts → AreInRange facts

@@ -40,8 +40,8 @@ abbrev pub contains_scale : ReadSpan → ScaleSource → Bool
 contains_scale span (source.Fixed sf) = true
 contains_scale span (source.Register address) = contains span address 1
 
--- True if a read covers an accounting register. The function codes are equal, and the read contains
--- the accounting register's counter and scale factor.
+-- True if a read covers an accounting register (an energy counter). The function codes are equal,
+-- and the read contains the accounting register's counter and scale factor.
 abbrev pub is_read_by : ReadSpan → Register → Bool
 is_read_by span register =
     (code_of span.function == code_of register.function) && contains span register.address 2
@@ -51,13 +51,14 @@ is_read_by span register =
 abbrev pub word_at : ReadSpan → (words : List ℕ) → (address : ℕ) → ℕ
 word_at span words address = slice_index words (address - span.address)
 
--- The scale factor of an accounting register, either fixed or taken from the response to a read.
+-- The scale factor of an accounting register (an energy counter), either fixed or taken from the
+-- response to a read.
 abbrev pub scale_of : ReadSpan → List ℕ → ScaleSource → ℤ
 scale_of span words (source.Fixed sf) = sf
 scale_of span words (source.Register address) = scale_value (word_at span words address)
 
--- The reading of an accounting register in a response: its counter, from two Modbus registers with
--- the high word first, and its scale factor.
+-- The reading of an accounting register (an energy counter) in a response: its counter, from two
+-- Modbus registers with the high word first, and its scale factor.
 abbrev pub reading_of : ℕ → ReadSpan → List ℕ → Register → Reading
 reading_of at span words register = record {
   at = at;
@@ -98,8 +99,8 @@ abbrev pub with_reading : (poll : ℕ) → Reading → Option Installation → L
 with_reading poll reading None facts = facts
 with_reading poll reading (Some row) facts = reading_fact poll reading row ∷ facts
 
--- The records after the reading at an accounting register in a response is added. If the read does
--- not cover the register, nothing is added.
+-- The records after the reading at an accounting register (an energy counter) in a response is
+-- added. If the read does not cover the register, nothing is added.
 abbrev pub with_register : ℕ → Poll → List ℕ → Register → List Fact → List Fact
 with_register at poll words register facts =
     if is_read_by poll.span register
@@ -107,14 +108,16 @@ with_register at poll words register facts =
     (open_at facts register.name) facts
     else facts
 
--- The records after the readings at several accounting registers in a response are added, in order.
+-- The records after the readings at several accounting registers (energy counters) in a response
+-- are added, in order.
 abbrev pub with_registers : ℕ → Poll → List ℕ → List Register → List Fact → List Fact
 with_registers at poll words [] facts = facts
 with_registers at poll words (register ∷ registers) facts =
     with_registers at poll words registers (with_register at poll words register facts)
 
 -- The records after all readings in the response to a poll are added. Each covered accounting
--- register of the device adds one reading, in the order in which the registers were added.
+-- register (an energy counter) of the device adds one reading, in the order in which the registers
+-- were added.
 abbrev pub with_reply : ℕ → Option Poll → List ℕ → List Fact → List Fact
 with_reply at None words facts = facts
 with_reply at (Some poll) words facts =

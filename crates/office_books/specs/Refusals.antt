@@ -1,5 +1,5 @@
--- The refusals of events: the conditions for each reason, and the order in which the office checks
--- the reasons.
+-- The refusals of events: the conditions for each reason, and the order in which the reasons are
+-- checked.
 use Rattle.std.specs.Prelude.{◌≡◌, ℕ, ℤ, pos, negsuc, ◌+◌, ◌-◌, ◌==◌, nat_lt, nat_le, int_lt, Bool, true, false, not, ◌||◌, ◌&&◌, min, max, List, [], ◌∷◌, ◌++◌, map, Option, Some, None, is_none, is_some, length, Result, Ok, Err, if◌then◌else◌}
 use Rattle.std.specs.Option.{option_map, option_and_then}
 use Rattle.std.specs.List.{find}
@@ -45,15 +45,15 @@ use Rattle.office_books.specs.Readings.{judgement}
 use Rattle.office_books.specs.Sessions.{Slot, slot_of, present_of, is_startable}
 use Rattle.office_books.specs.History.{History, Opened, Fed, facts_of, slots_of, latest_of, next_poll, Made, made_by, corrected_at, spans_by, round_spans, sends_by, kind_of}
 
--- The maximum number of devices of an office.
+-- The maximum number of devices.
 abbrev pub device_limit : ℕ
 device_limit = MAX_DEVICES
 
--- The maximum number of accounting registers of a device.
+-- The maximum number of accounting registers (energy counters) of a device.
 abbrev pub register_limit : ℕ
 register_limit = MAX_REGISTERS
 
--- The maximum number of meters of an office, including closed ones.
+-- The maximum number of meters, including closed ones.
 abbrev pub installation_limit : ℕ
 installation_limit = MAX_INSTALLATIONS
 
@@ -62,8 +62,8 @@ installation_limit = MAX_INSTALLATIONS
 abbrev pub has_no_meter : List Fact → Option (List ℕ) → Bool
 has_no_meter facts register = is_none (option_and_then (installation_at facts) register)
 
--- True if a meter has an opening or an entry with the sequence number `place`. The opening has
--- number 1, and the entries are numbered from 2. False without a meter.
+-- True if a meter has an entry with the sequence number `place`. The opening (the first entry) has
+-- number 1. False without a meter.
 abbrev pub has_place : List Fact → (place : ℕ) → Option Opening → Bool
 has_place facts place None = false
 has_place facts place (Some opening) =
@@ -104,7 +104,8 @@ asks_taken slots facts _ = false
 abbrev pub is_off_scale : ℤ → Bool
 is_off_scale sf = int_lt sf (negsuc 2) || int_lt (pos 3) sf
 
--- Refusal `BadScale`: the fixed scale factor of a new accounting register is not from -3 to 3.
+-- Refusal `BadScale`: the fixed scale factor of a new accounting register (an energy counter) is
+-- not from -3 to 3.
 abbrev pub is_bad_scale : GivenScale → Bool
 is_bad_scale (given.Fixed sf) = is_off_scale sf
 is_bad_scale (given.Register address) = false
@@ -129,23 +130,24 @@ makes_fault at why c None = false
 makes_fault at why c (Some row) = has_fault why row (made_by at row.last c)
 
 -- True if the command's entry has the fault `why` at the open meter of the command's accounting
--- register.
+-- register (an energy counter).
 abbrev pub asks_faulty : List Fact → (at : ℕ) → TermFault → Command → Bool
 asks_faulty facts at why c = makes_fault at why c (option_and_then (open_at facts) (corrected_at c))
 
--- Refusal `Ended`: the latest meter at an accounting register was closed. False if no meter was
--- installed there.
+-- Refusal `Ended`: the latest meter at an accounting register (an energy counter) was closed. False
+-- if no meter was installed there.
 abbrev pub is_closed : Option Installation → Bool
 is_closed None = false
 is_closed (Some row) = row.ended
 
--- Refusal `Ended`: the latest meter at the accounting register in the command was closed.
+-- Refusal `Ended`: the latest meter at the accounting register (an energy counter) in the command
+-- was closed.
 abbrev pub asks_ended : List Fact → Command → Bool
 asks_ended facts c = is_closed (option_and_then (installation_at facts) (corrected_at c))
 
 -- True if polls can start on a device. The device is connected, and its session is ready. A session
--- is not ready if its window is full, the next transaction identifier is pending, or its stream is
--- garbled.
+-- is not ready if too many polls are pending, the next transaction identifier is pending, or its
+-- stream is garbled.
 abbrev pub is_ready : Option Slot → Bool
 is_ready None = false
 is_ready (Some slot) = is_startable slot.device slot.present
@@ -176,8 +178,8 @@ abbrev pub is_bad_address : GivenScale → Bool
 is_bad_address (given.Fixed sf) = false
 is_bad_address (given.Register address) = nat_lt LAST_ADDRESS address
 
--- Refusal `Limit`: the name of a meter is invalid, its range or ceiling is out of range, or its
--- count is not below its range.
+-- Refusal `Limit`: the name of a meter is invalid, its range or greatest power is out of range, or
+-- its count is not below its range.
 abbrev pub is_bad_meter : (meter : Option (List ℕ)) → (range raw ceiling : ℕ) → Bool
 is_bad_meter meter range raw ceiling =
     is_none meter || is_outside MIN_RANGE MAX_RANGE range || nat_le range raw
@@ -203,7 +205,8 @@ asks_bad_field at (command.Manual c) = nat_lt MAX_ROLLS c.rolls || is_later at c
 asks_bad_field at (command.Close c) = nat_lt MAX_ROLLS c.rolls
 asks_bad_field at _ = false
 
--- Refusal `Limit`: the device already has the maximum number of accounting registers.
+-- Refusal `Limit`: the device already has the maximum number of accounting registers (energy
+-- counters).
 abbrev pub is_full_of_registers : List Fact → Option (List ℕ) → Bool
 is_full_of_registers facts None = false
 is_full_of_registers facts (Some device) =
@@ -241,32 +244,34 @@ abbrev pub asks_past_numbers : List Slot → List Fact → (at : ℕ) → Comman
 asks_past_numbers slots facts at c =
     is_start c && nat_lt poll_limit (length (polls_in facts) + sent_count slots facts at c)
 
--- Refusal `NotVoidable`: the entry does not exist, is already voided, or is not a reading from the
--- device. The same reason applies if the next valid entry is not a reading from the device.
+-- Refusal `NotVoidable`: the entry to void (cancel) does not exist, is already voided, or is not a
+-- reading from the device. The same reason applies if the next valid entry is not a reading from
+-- the device.
 abbrev pub is_not_voidable : Option EntryContext → Bool
 is_not_voidable None = true
 is_not_voidable (Some place) = not (is_voidable place.row place.next)
 
--- The entry that a command voids. `None` if the command voids no entry or the entry does not exist.
+-- The entry that a command voids (cancels). `None` if the command voids no entry or the entry does
+-- not exist.
 abbrev pub voided_place : List Fact → Command → Option EntryContext
 voided_place facts (command.Void c) =
     option_and_then (λ meter. entry_at facts meter c.place) c.meter
 voided_place facts _ = None
 
--- Refusal `NotVoidable`: the command names an entry that may not be voided.
+-- Refusal `NotVoidable`: the command names an entry that may not be voided (cancelled).
 abbrev pub asks_unvoidable : List Fact → Command → Bool
 asks_unvoidable facts (command.Void c) = is_not_voidable (voided_place facts (command.Void c))
 asks_unvoidable facts _ = false
 
--- The verdict on a later entry, judged directly after the meter's state `before`. A `Change` has no
--- verdict.
+-- The verdict on a later reading, judged directly after the meter's state `before`. An entry of the
+-- kind `Change` has no verdict.
 abbrev pub verdict_between : Installation → Entry → Option Verdict
 verdict_between before (entry.Step at raw rolls) =
     Some (judgement before (reading_at before.last at raw))
 verdict_between before (entry.Change at set_before after sf) = None
 
--- The verdict on the entry after a voided entry, judged without the voided entry. `None` if no
--- valid entry follows.
+-- The verdict on the entry after a voided (cancelled) entry, judged without the voided entry.
+-- `None` if no valid entry follows.
 abbrev pub verdict_at : Option EntryContext → Option Verdict
 verdict_at place =
     option_and_then
@@ -344,8 +349,8 @@ all_causes = cause.NotAccumulated ∷ cause.ScaleChanged ∷ cause.NotLater ∷ 
     ∷ cause.GapTooLong ∷ cause.TooFast
     ∷ cause.TotalFull ∷ cause.NotBelowRange ∷ []
 
--- All reasons to refuse an event, in the order in which the office checks them. The last reason is
--- that no poll numbers are left.
+-- All reasons to refuse an event, in the order of their checks. The last reason is that no poll
+-- numbers are left.
 abbrev pub reasons : List Refusal
 reasons = refusal.NotFound ∷ refusal.Exists ∷ refusal.ClockBack ∷ refusal.BadScale
     ∷ refusal.NegativeStep ∷ refusal.NotLater
@@ -373,7 +378,7 @@ kept_of facts _ = None
 abbrev pub refusal_of : History → (at : ℕ) → Event → Option Refusal
 refusal_of past at e = find (refuses past at e) reasons
 
--- The reason to refuse a start of the office with the records of a store, or `None`. A start is
+-- The reason to refuse a start of the program with the records of a store, or `None`. A start is
 -- refused if its timestamp is before the timestamp of a record, or exceeds the greatest timestamp.
 abbrev pub opening_refusal_of : List Fact → (at : ℕ) → Option Refusal
 opening_refusal_of facts at =
@@ -387,7 +392,7 @@ pub record IsAccepted (past : History) (at : ℕ) (e : Event) : Type 0 where
   pub new : kept_of (facts_of past) e ≡ None
   pub right : refusal_of past at e ≡ None
 
--- True if each start of the office and each event in a list was accepted after the earlier items.
+-- True if each start of the program and each event in a list was accepted after the earlier items.
 abbrev pub AreAccepted : History → Type 0
 AreAccepted [] = Unit {0}
 AreAccepted (Opened at ∷ past) = (opening_refusal_of (facts_of past) at ≡ None) × AreAccepted past
@@ -432,8 +437,8 @@ abbrev pub unless_kept : Result Answer Refusal → Option (Result CommandKind Re
 unless_kept given None = given
 unless_kept given (Some kept) = by_kept kept
 
--- The office's answer to an event after a list of accepted events, if neither the store nor the
--- memory allocation fails.
+-- The answer to an event after a list of accepted events, if neither the store nor the memory
+-- allocation fails.
 abbrev pub decision_of : History → (at : ℕ) → Event → Result Answer Refusal
 decision_of past at e =
     unless_kept (unless_refused (answer_of (slots_of past) (facts_of past) at e)

@@ -4,14 +4,14 @@ use Rattle.office_events.specs.declared.facts.Fact.{Fact}
 use Rattle.office_books.specs.declared.faults.BooksFault.{BooksFault}
 use Rattle.office_books.specs.Ledgers.{Ledger}
 
--- True if the sink received exactly these rows one by one, in order.
+-- True if the sink received exactly the rows of the list one by one, in order.
 abbrev pub TakesAll : {S T : Type 0} → (takes : S → T → S → Type 0) → (before : S) → List T
     → (after : S) → Type 0
 TakesAll takes before [] after = after ≡ before
 TakesAll {S} takes before (row ∷ rows) after =
     (next : S) × takes before row next × TakesAll takes next rows after
 
--- True if the sink received the first rows of this list in order, possibly none or all of them.
+-- True if the sink received the first rows of the list in order, possibly none or all of them.
 abbrev pub TakesFirst : {S T : Type 0} → (takes : S → T → S → Type 0) → (before : S) → List T
     → (after : S) → Type 0
 TakesFirst takes before rows after = (n : ℕ) × TakesAll takes before (take n rows) after

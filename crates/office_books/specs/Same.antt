@@ -1,4 +1,4 @@
--- Definition of when two lists of records have the same tables.
+-- Definition of when two lists of records yield the same database tables.
 use Rattle.std.specs.Prelude.{◌≡◌, ℕ, List, Contains}
 use Rattle.std.specs.List.Sorted.{IsPermutation}
 use Rattle.office_events.specs.declared.facts.Opening.{Opening}
@@ -7,8 +7,8 @@ use Rattle.office_books.specs.Facts.{devices_in, registers_in, openings_in, hold
 use Rattle.office_books.specs.Meters.{rows_of}
 use Rattle.office_books.specs.Ledgers.{Ledger}
 
--- True if two lists of records have the same rows in each table, where some tables ignore the order
--- of their rows. Each installed meter has the same entry rows in both lists.
+-- True if two lists of records yield the same rows of each database table, for some tables in any
+-- order. Each installed meter has the same entry rows in both lists.
 pub record AreSame (facts others : List Fact) : Type 0 where
   pub devices : devices_in facts ≡ devices_in others
   pub lists : (device : List ℕ) → list_of facts device ≡ list_of others device
@@ -22,8 +22,8 @@ pub record AreSame (facts others : List Fact) : Type 0 where
   pub outcomes : IsPermutation (ended_in facts) (ended_in others)
   pub replies : IsPermutation (replies_in facts) (replies_in others)
 
--- True if all lists of records that the model of a clean and open store allows have the same
--- tables.
+-- True if all lists of records that an open store without undetected faults may contain yield the
+-- same database tables.
 abbrev pub AreKnown : Ledger → Type 0
 AreKnown books =
     (known others : List Fact) → books.is_clean → books.is_open → books.holds known

@@ -1,5 +1,5 @@
--- The devices of the office in the order in which they were added, each with all events of its
--- sessions. A session is a connection of a device.
+-- The devices in the order in which they were added, each with all events of its sessions. A
+-- session is a connection of a device.
 use Rattle.std.specs.Prelude.{ℕ, ◌+◌, Bool, true, false, List, [], ◌∷◌, ◌++◌, map, Option, Some, None, if◌then◌else◌}
 use Rattle.std.specs.Option.{option_map, option_and_then, is_none}
 use Rattle.std.specs.List.{find}
@@ -17,7 +17,7 @@ use Rattle.office_events.specs.declared.events.Event.TheVariants as event
 use Rattle.office_books.specs.Facts.{is_named}
 
 -- A session that ended: a former connection of a device. `restarted` is true if a restart of the
--- office ended the session, instead of the session's last event.
+-- program ended the session, instead of the session's last event.
 pub record EndedSession : Type 0 where
   pub events : List session.Event
   pub restarted : Bool
@@ -29,7 +29,8 @@ pub record Slot : Type 0 where
   pub ended : List EndedSession
   pub present : Option (List session.Event)
 
--- The slot of the device with a given name, or `None` if no device has the name.
+-- The slot (device with its sessions) of the device with a given name, or `None` if no device has
+-- the name.
 abbrev pub slot_of : List Slot → Option (List ℕ) → Option Slot
 slot_of slots given = find (λ slot. is_named given slot.device.name) slots
 
@@ -94,7 +95,7 @@ starts_by number at spans (Some c) device before =
     if is_named (started_on c) device.name
     then map (start_by at device) (sends_on number at device before spans) else []
 
--- The session events that an event of the office causes at a device. A timer event reaches every
+-- The session events that an event of the program causes at a device. A timer event reaches every
 -- session. Received bytes and the end of a connection reach only the session of their device. A
 -- command that starts polls reaches only the session of the polled device.
 --
@@ -122,8 +123,8 @@ abbrev pub is_close : session.Event → Bool
 is_close (session.Close moment closing) = true
 is_close _ = false
 
--- The slot of a device after further events of its present Modbus session. A close event ends the
--- session.
+-- The slot (device with its sessions) after further events of the device's present Modbus session.
+-- A close event ends the session.
 abbrev pub with_happenings : Slot → List session.Event → List session.Event → Slot
 with_happenings slot before [] =
     record { device = slot.device; ended = slot.ended; present = Some before }
@@ -136,15 +137,16 @@ with_happenings slot before (happening ∷ later) =
     }
     else with_happenings slot (before ++ happening ∷ []) later
 
--- The slot of a device after an event of the office other than a new connection. A slot without a
--- present session is unchanged.
+-- The slot (device with its sessions) after an event of the program other than a new connection. A
+-- slot without a present session is unchanged.
 abbrev pub slot_reached : (number at : ℕ) → List ReadSpan → Event → Slot
     → Option (List session.Event) → Slot
 slot_reached number at spans e slot None = slot
 slot_reached number at spans e slot (Some before) =
     with_happenings slot before (reaches number at spans e slot.device before)
 
--- The slot of a device after an event of the office. A new connection begins a new session.
+-- The slot (device with its sessions) after an event of the program. A new connection begins a new
+-- session.
 abbrev pub slot_after : (number at : ℕ) → List ReadSpan → Event → Slot → Slot
 slot_after number at spans e slot =
     if connects e slot.device
@@ -158,30 +160,32 @@ device_by c =
     record { name = name; unit = c.unit; timeout = c.timeout; window = c.window })
     c.name
 
--- The slot of a new device, which is not connected yet. Without a device, the list is empty.
+-- The slot (device with its sessions) of a new device, which is not connected yet. Without a
+-- device, the list is empty.
 abbrev pub new_slot : Option Device → List Slot
 new_slot None = []
 new_slot (Some device) = (record { device = device; ended = []; present = None }) ∷ []
 
--- The slot of the device that a command adds. If the command adds no device, the list is empty.
+-- The slot (device with its sessions) of the device that a command adds. If the command adds no
+-- device, the list is empty.
 abbrev pub slots_added : Option Command → List Slot
 slots_added (Some (command.AddDevice c)) = new_slot (device_by c)
 slots_added _ = []
 
--- The slots after an event: the updated existing slots, followed by the slot of a device that the
--- event adds.
+-- The slots (devices with their sessions) after an event: the updated existing slots, then the slot
+-- of a device that the event adds.
 abbrev pub slots_after : (number at : ℕ) → List ReadSpan → Event → List Slot → List Slot
 slots_after number at spans e slots =
     map (slot_after number at spans e) slots ++ slots_added (command_in e)
 
--- The present Modbus session of a device as an ended session after the office restarted. Without a
+-- The present Modbus session of a device as an ended session after the program restarted. Without a
 -- session, the list is empty.
 abbrev pub ended_by_restart : Option (List session.Event) → List EndedSession
 ended_by_restart None = []
 ended_by_restart (Some events) = (record { events = events; restarted = true }) ∷ []
 
--- The slot of a device after the office restarted. Its present session has ended, and the device is
--- not connected.
+-- The slot (device with its sessions) after the program restarted. The present session has ended,
+-- and the device is not connected.
 abbrev pub slot_restarted : Slot → Slot
 slot_restarted slot = record {
   device = slot.device;

@@ -1,5 +1,5 @@
--- Guarantees of lookups of a meter's state (its installation). All numbers of the returned state
--- are in range, even if the store is damaged.
+-- Guarantees of lookups of a meter's state. All numbers of the returned state are in range, even if
+-- the store is damaged.
 use Rattle.std.specs.Prelude.{◌≡◌, ◌≤◌, ◌<◌, ◌+◌, false, List, Option, Result, Ok, Err, IfOk, IfSome}
 use Rattle.energy_core.specs.declared.limits.TheConstants.{MAX_CEILING, MAX_RANGE, MIN_RANGE}
 use Rattle.energy_core.specs.declared.admission.TermFault.{TermFault}
@@ -20,11 +20,12 @@ use Rattle.office_books.specs.Ranges.{IsSound}
 use Rattle.office_books.specs.declared.faults.BooksFault.{BooksFault}
 use Rattle.office_books.specs.Ledgers.{Ledger, OnlyReads}
 
--- The state of a meter directly after its opening, with an energy of 0 mWh.
+-- The state of a meter directly after its installation, with an energy of 0 mWh.
 abbrev pub as_begun : Opening → Installation
 as_begun opening = record { opening = opening; last = opened opening; total = 0; ended = false }
 
--- True if the range, the maximum power, the count and the scale factor of an opening are in range.
+-- True if the range, the maximum power, the count and the scale factor of an opening (installation
+-- record) are in range.
 pub record HasNumbers (opening : Opening) : Type 0 where
   pub range : (MIN_RANGE ≤ opening.range) × (opening.range ≤ MAX_RANGE)
   pub ceiling : (1 ≤ opening.ceiling) × (opening.ceiling ≤ MAX_CEILING)
@@ -50,7 +51,7 @@ pub record ReadsPlace (old new : Ledger) (result : Result (Option EntryContext) 
     pub reads : OnlyReads old new result
     pub sound : IfOk result (λ place. IfSome place (λ p. IsSound p.before))
 
--- True if the entry is admissible as the next entry of this installed meter.
+-- True if the entry is admissible as the next entry of the given installed meter.
 abbrev pub MayEnter : Installation → Entry → Type 0
 MayEnter row e =
     entered row.opening.range row.total row.last e

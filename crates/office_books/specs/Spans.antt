@@ -10,7 +10,7 @@ abbrev pub is_within : Span → (moment : ℕ) → Bool
 is_within All moment = true
 is_within (Between from till) moment = nat_le from moment && nat_lt moment till
 
--- The rows whose quarter hours begin in the time span, in order.
+-- The rows of a list whose quarter hours begin in the time span, in order.
 abbrev pub rows_within : Span → List Share → List Share
 rows_within All rows = rows
 rows_within (Between from till) rows =

@@ -19,15 +19,15 @@ use Rattle.office_books.specs.Intervals.{rows_of_opening}
 use Rattle.office_books.specs.Lawful.{AreLawful}
 use Rattle.office_books.specs.Meters.{line_of, opened, installed, journal_of, rows_of, installation_of}
 
--- True if the record `f` leaves the stored state of a meter (its installation), its entry rows and
--- its interval rows unchanged.
+-- True if the record `f` leaves the stored state, the entry rows and the interval rows (energy by
+-- quarter hour) of a meter unchanged.
 pub record Stays (f : Fact) (facts : List Fact) (opening : Opening) : Type 0 where
   pub installation : installation_of (f ∷ facts) opening ≡ installation_of facts opening
   pub rows : rows_of (f ∷ facts) opening ≡ rows_of facts opening
   pub intervals : rows_of_opening (f ∷ facts) opening ≡ rows_of_opening facts opening
 
--- Theorem: if a record has no line in a meter's journal, then the record leaves the meter
--- unchanged.
+-- Theorem: if a record adds no line to a meter's journal (history), then the record leaves the
+-- meter unchanged.
 abbrev pub OtherMetersStay : Type 0
 OtherMetersStay = (f : Fact) (facts : List Fact) (opening : Opening)
     → line_of opening.meter f ≡ None
@@ -38,9 +38,9 @@ abbrev pub HoldsChangeNothing : Type 0
 HoldsChangeNothing = (held : HeldReading) (facts : List Fact) (opening : Opening)
     → Stays (fact.Hold held) facts opening
 
--- True if the opening record installs its meter. The meter is found by its name and at its
--- accounting register. Its counter has the state of the opening, its energy is 0, and it has no
--- rows.
+-- True if the opening (installation record) installs its meter. The meter is found by its name and
+-- at its accounting register (an energy counter). Its counter has the state of the opening, its
+-- energy is 0, and it has no rows.
 pub record Begins (facts : List Fact) (opening : Opening) : Type 0 where
   pub by_name : opening_of (fact.Opening opening ∷ facts) opening.meter ≡ Some opening
   pub at_register : installed_at (fact.Opening opening ∷ facts) opening.register ≡ Some opening
@@ -49,7 +49,8 @@ pub record Begins (facts : List Fact) (opening : Opening) : Type 0 where
   pub rows : rows_of (fact.Opening opening ∷ facts) opening ≡ []
   pub intervals : rows_of_opening (fact.Opening opening ∷ facts) opening ≡ []
 
--- Theorem: each opening record that the rules accept installs its meter, as `Begins` describes.
+-- Theorem: each opening (installation record) that the rules accept installs its meter, as `Begins`
+-- describes.
 abbrev pub OpeningsBegin : Type 0
 OpeningsBegin = (opening : Opening) (facts : List Fact) → AreLawful (fact.Opening opening ∷ facts)
     → Begins facts opening
@@ -63,16 +64,16 @@ moved_by k e row = record {
   ended = if is_closing k then true else row.ended;
 }
 
--- The step of the counter from the last entry of an installed meter to a new entry.
+-- The step (increase of the counter) from the last entry of an installed meter to a new entry.
 abbrev pub step_from : Installation → Entry → Step
 step_from row e = step_to row.opening.range row.last e
 
--- True if a new entry of an open meter advances the meter's state by the entry's step of the
--- counter, and adds one entry row.
+-- True if a new entry of an open meter adds one entry row, and advances the meter's state by the
+-- entry's increase of the counter.
 --
--- The quarter-hour shares of the step extend the interval rows. Two equal definitions state the
--- result. The first merges the shares into the last interval row, and the second adds each share to
--- the row of its quarter hour.
+-- The energy of the increase is added to the interval rows (energy by quarter hour). Two equal
+-- definitions state the result. The first merges the new energy into the last row, and the second
+-- adds it to the row of each quarter hour.
 pub record MovesOn (booked : BookedEntry) (facts : List Fact) (opening : Opening) : Type 0 where
   pub unended : (installation_of facts opening).ended ≡ false
   pub goes_on : journals.ContinuesJournal (installed opening) (journal_of facts opening.meter)

@@ -11,7 +11,8 @@ use energy_core::accounts_are_sound;
 use meter_journal::{EntryRow, checked_tally};
 use office_events::{Installation, Opening};
 
-/// Returns the state of a meter with this opening after these entry rows, given oldest first.
+/// Returns the state of a meter from its opening (installation record) and its later entry rows,
+/// the oldest first.
 ///
 /// Returns `None` if a number of the opening is out of range, or if the energy of the valid entries
 /// cannot be added up.

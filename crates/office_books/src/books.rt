@@ -1,4 +1,4 @@
-//! Declares the trait `Books`, which a store of the office's records implements.
+//! Declares the trait `Books`, which a store of the program's records implements.
 
 use crate::entries::MeterEntry;
 use crate::faults::BooksFault;
@@ -24,8 +24,8 @@ pub trait RowSink<T> {
 /// The result of comparing a request with the stored request of the same idempotency key.
 #[derive(Clone, Copy, PartialEq, Eq)]
 pub enum Repeat {
-    /// The stored request has the same bytes, so the request is a retry. The office has executed a
-    /// command of this kind for it.
+    /// The stored request has the same bytes, so the request is a retry. A command of this kind was
+    /// executed for the stored request.
     Same(CommandKind),
     /// The stored request has other bytes, so the idempotency key was reused.
     Other,
@@ -72,8 +72,8 @@ pub trait Books: Drop {
     fn zone(&self) -> Zone
         ensures { result ≡ (ledger self.now).zone };
 
-    /// Proves that two lists of records have the same tables if the model of this clean and open
-    /// store allows both.
+    /// Proves that two lists of records yield the same database tables, if an open store without
+    /// undetected faults may contain both lists.
     fn tables_are_known(&self)
         ensures { AreKnown (ledger self.now) };
 
@@ -102,8 +102,8 @@ pub trait Books: Drop {
             (λ known v. v.items ≡ reads_from from most (list_of known device.now)) }
         ensures reads { OnlyReads (ledger self.old) (ledger self.new) result };
 
-    /// Returns the accounting register with the name, or `None` if no accounting register has this
-    /// name.
+    /// Returns the accounting register (an energy counter) with the name, or `None` if no
+    /// accounting register has this name.
     fn register(&mut self, name: &Name) -> Result<Option<Register>, BooksFault>
         ensures found { Finds (ledger self.old) (ledger self.new) result
             (λ known row. row ≡ register_of known name.now) }
@@ -115,35 +115,35 @@ pub trait Books: Drop {
             (λ known v. v.items ≡ registers_of known device.now) }
         ensures reads { OnlyReads (ledger self.old) (ledger self.new) result };
 
-    /// Returns the accounting registers of a device that a read of `span` covers, in the order in
-    /// which they were added.
+    /// Returns the accounting registers (energy counters) of a device that a read of `span` covers,
+    /// in the order in which they were added.
     fn registers_read(&mut self, device: &Name, span: ReadSpan) -> Result<Vec<Register>, BooksFault>
         ensures found { Finds (ledger self.old) (ledger self.new) result
             (λ known v. v.items ≡ filter (is_read_by span) (registers_of known device.now)) }
         ensures reads { OnlyReads (ledger self.old) (ledger self.new) result };
 
-    /// Returns the number of accounting registers of a device.
+    /// Returns the number of accounting registers (energy counters) of a device.
     fn register_count(&mut self, device: &Name) -> Result<usize, BooksFault>
         ensures found { Finds (ledger self.old) (ledger self.new) result
             (λ known n. n ≡ length (registers_of known device.now)) }
         ensures reads { OnlyReads (ledger self.old) (ledger self.new) result };
 
-    /// Returns the installation (opening, last entry and total energy) of the meter with the name,
-    /// or `None` if no meter has this name.
+    /// Returns the installation of the meter with the name, or `None` if no meter has this name.
+    /// The installation is the first entry, the last entry and the total energy.
     fn meter(&mut self, name: &Name) -> Result<Option<Installation>, BooksFault>
         ensures found { Finds (ledger self.old) (ledger self.new) result
             (λ known row. row ≡ meter_of known name.now) }
         ensures reads { ReadsInstallation (ledger self.old) (ledger self.new) result };
 
-    /// Returns the latest meter at an accounting register, open or closed, with its state, or
-    /// `None` if no meter was installed there.
+    /// Returns the latest meter at an accounting register (an energy counter), open or closed, with
+    /// its state, or `None` if no meter was installed there.
     fn installation(&mut self, register: &Name) -> Result<Option<Installation>, BooksFault>
         ensures found { Finds (ledger self.old) (ledger self.new) result
             (λ known row. row ≡ installation_at known register.now) }
         ensures reads { ReadsInstallation (ledger self.old) (ledger self.new) result };
 
-    /// Returns the meters at an accounting register with their state, in order of installation,
-    /// closed meters included.
+    /// Returns the meters at an accounting register (an energy counter) with their state, in order
+    /// of installation, closed meters included.
     fn meters(&mut self, register: &Name) -> Result<Vec<Installation>, BooksFault>
         ensures found { Finds (ledger self.old) (ledger self.new) result
             (λ known v. v.items ≡ installations_of known register.now) }
@@ -171,8 +171,8 @@ pub trait Books: Drop {
             (λ known row. ReportsNear known meter.now place row) }
         ensures reads { ReadsPlace (ledger self.old) (ledger self.new) result };
 
-    /// Returns at most `most` entries of a meter from sequence number `from` on, in order, voided
-    /// entries included. The opening has number 1.
+    /// Returns at most `most` entries of a meter from sequence number `from` on, in order,
+    /// including voided (cancelled) entries. The opening (the first entry) has number 1.
     fn entries(&mut self, meter: &Name, from: u64, most: u32) -> Result<Vec<MeterEntry>, BooksFault>
         ensures found { Finds (ledger self.old) (ledger self.new) result
             (λ known v. v.items ≡ entries_from known meter.now from most) }
@@ -228,8 +228,9 @@ pub trait Books: Drop {
             (λ known. rows_within span (rows_of_meter known meter.now)) }
         ensures reads { OnlyReads (ledger self.old) (ledger self.new) result };
 
-    /// Passes the energy of an accounting register to the sink: one row for each meter and quarter
-    /// hour in the span. The rows are sorted by the installation of their meter, then by time.
+    /// Passes the energy of an accounting register (an energy counter) to the sink: one row for
+    /// each meter and quarter hour in the span. The rows are sorted by the installation of their
+    /// meter, then by time.
     fn register_intervals<K: RowSink<Share>>(
         &mut self,
         register: &Name,
@@ -252,7 +253,7 @@ pub trait Books: Drop {
             (λ known. holds_within span (holds_of known meter.now)) }
         ensures reads { OnlyReads (ledger self.old) (ledger self.new) result };
 
-    /// Adds all of these records, or none of them. The rules must accept each record after the
+    /// Adds all of the given records, or none of them. The rules must accept each record after the
     /// records before it.
     fn book(&mut self, facts: Vec<Fact>) -> Result<(), BooksFault>
         ensures books { ledgers.Books (ledger self.old) (ledger self.new) facts.items result };

@@ -1,4 +1,4 @@
-//! Theorems about how the polls of an office end.
+//! Theorems about how polls end.
 ghost use Rattle.office_books.specs.History.{History};
 ghost use Rattle.office_books.specs.Refusals.{AreAccepted};
 ghost use Rattle.office_books.specs.PollEndings.{PollsEndOnce};

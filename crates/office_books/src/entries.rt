@@ -16,9 +16,10 @@ use std::alloc::{AllocError, Global};
 #[derive(Clone, Copy, PartialEq, Eq)]
 pub enum MeterEntry {
     /// The opening: the state of the counter when the meter was installed. The opening has sequence
-    /// number 1, and cannot be voided.
+    /// number 1, and cannot be voided (cancelled).
     Opening(Last),
-    /// An entry after the opening, with the scale factor of the counter after this entry.
+    /// An entry after the opening (first entry), with the scale factor of the counter after this
+    /// entry.
     Later { row: EntryRow, sf: i16 },
 }
 
@@ -64,7 +65,7 @@ fn list(
 }
 
 /// Returns at most `most` entries of a meter from sequence number `from` on. `rows` has the meter's
-/// entries after its opening, the oldest first.
+/// entries after its opening (first entry), the oldest first.
 pub fn list_entries(
     alloc: Global,
     opening: &Opening,

@@ -1,4 +1,4 @@
-//! Theorems about the records of an office after any accepted events.
+//! Theorems about the records after any accepted events.
 ghost use Rattle.office_books.specs.Lawfulness.{BooksAreTrue, FactsAreLawful, NamesAreDistinct};
 
 use crate::endings::polls_end_once;
@@ -21,9 +21,9 @@ pub fn names_are_distinct()
     ensures { NamesAreDistinct }
 {}
 
-/// Proves for all accepted events that each poll ended once or is pending. The energy and the
-/// interval rows of each meter come from its valid entries. If an honest meter is polled often
-/// enough, its recorded energy and interval rows equal the true ones.
+/// Proves for all accepted events that each poll ended once or is pending. The energy of each
+/// meter, in total and by quarter hour, comes from its valid entries. If an honest meter is polled
+/// often enough, its recorded energy equals the true energy.
 pub fn books_are_true()
     ensures { BooksAreTrue }
 {

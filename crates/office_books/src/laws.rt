@@ -7,17 +7,17 @@ use meter_journal::{
     places_were_kept, rows_are_kept, truth_is_kept, voids_leave_no_trace as journal_voids,
 };
 
-/// Proves that the rules of a meter's journal accept each of its lines after the earlier lines. The
-/// premise is that the records are lawful.
+/// Proves that the rules for a meter's journal (history) accept each line after the earlier lines.
+/// The premise is that the records are lawful, so that the rules accept each record.
 pub fn journals_fit()
     ensures { JournalsFit }
 {}
 
-/// Proves that the energy of each meter balances if the records are lawful. The energy is the last
-/// value less the first, plus a full range for each recorded rollover, plus the differences that
-/// resets and rescales record.
+/// Proves that the energy of each meter balances if the rules accept all records. The energy is the
+/// last value less the first, plus a full range for each recorded rollover, plus the differences
+/// that resets and rescales record.
 ///
-/// Voided entries do not count, and the interval rows add up to the energy.
+/// Voided (cancelled) entries do not count, and the energies by quarter hour add up to the energy.
 pub fn meters_are_kept()
     ensures { MetersAreKept }
 {
@@ -29,14 +29,15 @@ pub fn meters_are_kept()
 
 /// Proves that the readings of an honest meter are recorded truly if the meter is polled often
 /// enough and has no entries but readings. No reading since the last void (cancellation) is
-/// rejected. The recorded steps, total energy and interval rows equal the true ones.
+/// rejected. The recorded energy, in total and by quarter hour, equals the true energy.
 pub fn truth_is_recorded()
     ensures { TruthIsRecorded }
 {
     truth_is_kept();
 }
 
-/// Proves that voided (cancelled) entries leave no trace in a meter's energy and interval rows.
+/// Proves that voided (cancelled) entries leave no trace in a meter's total energy and in its
+/// energy by quarter hour.
 pub fn voids_leave_no_trace()
     ensures { VoidsLeaveNoTrace }
 {
@@ -44,13 +45,14 @@ pub fn voids_leave_no_trace()
     journal_voids();
 }
 
-/// Proves that no timestamp, poll number or request number in lawful records exceeds its limit.
+/// Proves that no timestamp, poll number or request number exceeds its limit in records that the
+/// rules accept.
 pub fn facts_are_bounded()
     ensures { FactsAreBounded }
 {}
 
-/// Proves that the counts, scale factors and energies of each meter in lawful records are in range,
-/// now and before each entry.
+/// Proves that the counts, scale factors and energies of each meter are in range, now and before
+/// each entry. The premise is that the rules accept all records.
 pub fn installations_are_in_range()
     ensures { InstallationsAreInRange }
 {

@@ -1,5 +1,5 @@
-//! The rules that an office's records obey, the trait of a store of these records, and helpers for
-//! implementations of that trait.
+//! The rules that the program's records obey, the trait of a store of these records, and helpers
+//! for implementations of that trait.
 #![tactic(auto)]
 
 mod accounts;

@@ -1,4 +1,4 @@
-//! The state of a meter at its opening.
+//! The state of a meter at its installation.
 ghost use Rattle.std.specs.Prelude.{◌≡◌, IsTrue};
 ghost use Rattle.office_books.specs.Meters as meters;
 ghost use Rattle.office_books.specs.Sound.{HasNumbers, as_begun};
@@ -8,7 +8,7 @@ use energy_core::Last;
 use meter_journal::Installed;
 use office_events::{Installation, Opening};
 
-/// Returns the state of a meter's counter at its opening: timestamp, count and scale factor.
+/// Returns the state of a meter's counter at its installation: timestamp, count and scale factor.
 pub fn opened(opening: &Opening) -> Last
     ensures { result ≡ meters.opened opening.now }
 {
@@ -19,7 +19,8 @@ pub fn opened(opening: &Opening) -> Last
     }
 }
 
-/// Returns the range, the maximum power and the opening state of a meter.
+/// Returns the range and the maximum power of a meter, and the state of its counter at the
+/// installation.
 pub fn installed(opening: &Opening) -> Installed
     ensures { result ≡ meters.installed opening.now }
 {
@@ -30,7 +31,7 @@ pub fn installed(opening: &Opening) -> Installed
     }
 }
 
-/// Returns the state of a meter directly after its opening, with an energy of 0 mWh.
+/// Returns the state of a meter directly after its installation, with an energy of 0 mWh.
 pub fn begun(opening: &Opening) -> Installation
     ensures { result ≡ as_begun opening.now }
 {
@@ -42,7 +43,7 @@ pub fn begun(opening: &Opening) -> Installation
     }
 }
 
-/// Returns true if the numbers of an opening are in range.
+/// Returns true if the numbers of an opening (installation record of a meter) are in range.
 pub fn has_numbers(opening: &Opening) -> bool
     ensures so { IsTrue result → HasNumbers opening.now }
     ensures if_so { HasNumbers opening.now → IsTrue result }

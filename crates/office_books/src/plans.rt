@@ -1,4 +1,4 @@
-//! Selects reads from the plan of a point list.
+//! Selects Modbus reads from the plan of a device's point list.
 ghost use Rattle.std.specs.Prelude.{◌≡◌, IfOk, Some, map};
 ghost use Rattle.office_books.specs.Plans.{read_count_of, reads_from};
 

@@ -1,4 +1,4 @@
-//! Selects the accounting registers that a Modbus read covers.
+//! Selects the accounting registers (named energy counters) that a Modbus read covers.
 ghost use Rattle.std.specs.Prelude.{◌≡◌, ◌≤◌, IfOk};
 ghost use Rattle.std.specs.List.{filter};
 ghost use Rattle.office_books.specs.Readings as readings;
@@ -27,7 +27,7 @@ fn contains_scale(span: ReadSpan, scale: ScaleSource) -> bool
     }
 }
 
-/// Returns true if a Modbus read gives a reading of the accounting register.
+/// Returns true if a Modbus read gives a reading of the accounting register (an energy counter).
 ///
 /// The read must have the register's function code and contain both Modbus registers of the
 /// counter. It must also contain the Modbus register with the scale factor, if there is one.
@@ -39,7 +39,7 @@ pub fn is_read_by(span: ReadSpan, register: &Register) -> bool
         && contains_scale(span, register.scale)
 }
 
-/// Returns copies of only those accounting registers that the Modbus read covers.
+/// Returns copies of only those accounting registers (energy counters) that the Modbus read covers.
 pub fn registers_read(
     alloc: Global,
     registers: &[Register],
@@ -56,7 +56,8 @@ pub fn registers_read(
     Ok(read)
 }
 
-/// Removes the accounting registers that the Modbus read does not cover, without allocating memory.
+/// Removes the accounting registers (energy counters) that the Modbus read does not cover, without
+/// allocating memory.
 pub fn retain_covered(registers: &mut Vec<Register>, span: ReadSpan)
     ensures { registers.new.items ≡ filter (readings.is_read_by span) registers.old.items }
 {

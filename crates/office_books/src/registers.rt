@@ -1,4 +1,5 @@
-//! A theorem about the interval rows of accounting registers.
+//! A theorem about the interval rows (energy by quarter hour) of accounting registers (energy
+//! counters).
 ghost use Rattle.office_books.specs.Registers.{RegistersAreInTurn};
 
 use meter_journal::{

@@ -4,8 +4,8 @@ ghost use Rattle.office_books.specs.Voids.{VoidedEntriesGiveWay};
 
 use meter_journal::{entries_go_on, voids_change_two_rows};
 
-/// Proves that a record leaves a meter's state and rows unchanged if the record has no line in the
-/// meter's journal.
+/// Proves that a record leaves a meter's state and rows unchanged if the record adds no line to the
+/// meter's journal (history).
 pub fn other_meters_stay()
     ensures { OtherMetersStay }
 {}
@@ -15,14 +15,14 @@ pub fn holds_change_nothing()
     ensures { HoldsChangeNothing }
 {}
 
-/// Proves that a newly installed meter has the state of its opening entry, and is found by its name
-/// and at its accounting register.
+/// Proves that a newly installed meter has the state of its opening (first entry), and is found by
+/// its name and at its accounting register.
 pub fn openings_begin()
     ensures { OpeningsBegin }
 {}
 
 /// Proves what a new entry changes: the last reading of its meter, the meter's entry rows, and the
-/// interval rows over which the entry's energy is spread.
+/// energy of the quarter hours over which the entry's energy is spread.
 pub fn entries_move_on()
     ensures { EntriesMoveOn }
 {
@@ -30,8 +30,8 @@ pub fn entries_move_on()
 }
 
 /// Proves the effect of a void (cancellation of an entry) on the meter. The rows of the voided
-/// entry and of the next valid entry change. The steps around the voided entry are replaced in the
-/// meter's energy and interval rows.
+/// entry and of the next valid entry change. In the meter's energy, one step between the entry's
+/// neighbours replaces the steps to and from the entry.
 pub fn voided_entries_give_way()
     ensures { VoidedEntriesGiveWay }
 {

@@ -1,4 +1,4 @@
--- Lemmas that a meter's booked energy follows from the meter's readings, rollovers, resets and
+-- Lemmas that a meter's recorded energy follows from the meter's readings, rollovers, resets and
 -- changes of scale.
 use Rattle.std.proofs.Common.{◌≡◌, ℕ, ◌+◌, ◌*◌, List, [], ◌∷◌, get_or, refl, arith}
 use Rattle.std.specs.Prelude.{ℤ, pos, ◌+ℤ◌, ◌-ℤ◌}
@@ -27,8 +27,9 @@ changed : (before after r s f : ℕ) (d : ℤ) → pos r -ℤ pos s ≡ pos f +�
     → pos (before + r) -ℤ pos (after + s) ≡ pos f +ℤ (pos before -ℤ pos after +ℤ d)
 changed before after r s f d h = omega (arith, ints)
 
--- The recorded energy minus the values to which the counter was set equals the full ranges plus the
--- differences at resets and changes of scale.
+-- The energy that a meter's entries record, minus the values to which these entries set the
+-- counter, equals two terms. They are the full ranges of rollovers, and the differences at resets
+-- and changes of scale.
 recorded_is : (range : ℕ) (first : Last) (es : List Entry)
     → pos (recorded range first es) -ℤ pos (set_anew es) ≡ pos (full_ranges range first es) +ℤ differences first es
 recorded_is range first [] = refl

@@ -73,8 +73,8 @@ lies_around from till zone start is =
     let ends_later : nat_lt start (utc_start (epoch_day till +ℤ pos 2)) ≡ true = grind (arith, nat_tests, high) in
     and_from _ _ has_begun ends_later
 
--- If a timestamp is on a day of a range, then the range's time span contains the timestamp. An end
--- of the range may be open.
+-- If a timestamp is on a day of a range of days, then the time span around this range contains the
+-- timestamp. An end of the range may be open.
 pub has_each : (from till : Option Date) (zone : Zone) (start : ℕ)
     → (begins_by_number from (day_at zone start) && ends_after_number till (day_at zone start)) ≡ true → is_within (span_between from till) start ≡ true
 has_each (Some from) (Some till) zone start is = lies_around from till zone start is

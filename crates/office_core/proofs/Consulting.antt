@@ -7,8 +7,8 @@ use Rattle.office_books.specs.declared.faults.BooksFault.TheVariants.{Memory}
 use Rattle.office_books.specs.Ledgers.{Ledger, LedgerAfterCalls, Consults}
 use Rattle.office_books.proofs.Moving.{consults_then, passes_well, passes_failed, passes_without}
 
--- If memory runs out after successful lookups in the store, then the guarantees of lookups still
--- hold.
+-- If memory runs out after successful lookups in the store, then the lookups still guarantee that
+-- the store's records are unchanged.
 pub reads_without : {T U : Type 0} (a b : Ledger) (x : T) (r : Result U BooksFault) → Consults a b (Ok x) → IfErr r (λ fault. fault ≡ Memory)
     → Consults a b r
 reads_without a b x (Ok y) reads lacks = record { goes = passes_well a b x y reads.goes; keeps = reads.keeps }
@@ -20,8 +20,8 @@ pub reads_lacking : {T U : Type 0} (a b : Ledger) (x : T) (r : Result U BooksFau
 reads_lacking a b x (Ok y) reads lacks = absurd lacks
 reads_lacking a b x (Err fault) reads lacks = reads_without a b x (Err fault) reads lacks
 
--- If memory runs out before the first call of the store, then the unchanged store meets the
--- guarantees of a sequence of calls.
+-- If memory runs out before the first call of the store, then the store is unchanged. This meets
+-- the guarantees of a sequence of calls of the store.
 pub passes_lacking : {U : Type 0} (a : Ledger) (r : Result U BooksFault) → IsErrAnd r (λ fault. fault ≡ Memory) → LedgerAfterCalls a a r
 passes_lacking a (Ok y) lacks = absurd lacks
 passes_lacking {U} a (Err fault) lacks =
@@ -30,8 +30,8 @@ passes_lacking {U} a (Err fault) lacks =
 pub asks_lacking : {U : Type 0} (a : Ledger) (r : Result U BooksFault) → IsErrAnd r (λ fault. fault ≡ Memory) → Consults a a r
 asks_lacking a r lacks = record { goes = passes_lacking a r lacks; keeps = record { facts = λ known h. h; left = λ left may. may } }
 
--- If a caller returns the failure of a call, then the guarantees of the failed call also hold for
--- the caller.
+-- If a function returns the failure of a call of the store, then the guarantees of the failed call
+-- also hold for the function.
 pub passes_as : {T U : Type 0} (a b : Ledger) (fault : BooksFault) (r : Result U BooksFault) → LedgerAfterCalls {T = T} a b (Err fault) → IsErrAnd r (λ f. f ≡ fault)
     → LedgerAfterCalls a b r
 passes_as a b fault (Ok y) goes is = absurd is
@@ -41,8 +41,8 @@ pub reads_as : {T U : Type 0} (a b : Ledger) (fault : BooksFault) (r : Result U 
     → Consults a b r
 reads_as a b fault r reads is = record { goes = passes_as a b fault r reads.goes is; keeps = reads.keeps }
 
--- If a lookup fails after successful lookups, then the guarantees of lookups hold for all of these
--- lookups together.
+-- If a lookup in the store fails after successful lookups, then all of these lookups together still
+-- guarantee that the store's records are unchanged.
 pub reads_failed : {T U V : Type 0} (a b c : Ledger) (x : T) (fault : BooksFault) (r : Result V BooksFault) → Consults a b (Ok x)
     → Consults {T = U} b c (Err fault) → IsErrAnd r (λ f. f ≡ fault) → Consults a c r
 reads_failed {T} {U} {V} a b c x fault r first second is = consults_then a b c x r first (reads_as b c fault r second is)

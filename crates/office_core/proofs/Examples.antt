@@ -1,5 +1,5 @@
--- A worked example of the promise in `Headline.antt`: the energy of a meter with a rollover, a
--- change of scale and a reset.
+-- A worked example of the promise about a meter's energy, with a rollover, a change of scale and a
+-- reset.
 use Rattle.std.proofs.Common.{◌≡◌, pos, List, ℕ, [], ◌∷◌, refl}
 use Rattle.energy_core.specs.Value.{unit_of}
 use Rattle.energy_core.specs.declared.entries.Entry.{Entry}
@@ -31,8 +31,8 @@ abbrev facts : List Fact
 facts = entry Reset (Change 4600 40 5 (pos 1)) ∷ entry Manual (Step 3700 35 0)
     ∷ entry Rescale (Change 2800 300 31 (pos 1)) ∷ entry Reading (Step 1900 200 1) ∷ fact.Opening meter ∷ []
 
--- The booked energy in mWh: 496 Wh up to the reading, and 100 Wh to the change of scale. Then 40 Wh
--- to the manual reading, and 50 Wh to the reset.
+-- The recorded energy of the example in mWh: 496 Wh up to the reading, and 100 Wh to the change of
+-- scale. Then 40 Wh to the manual reading, and 50 Wh to the reset.
 booked : energy_booked facts meter ≡ 686000
 unfolding unit_of
 booked = refl
@@ -45,13 +45,13 @@ last : value (last_reading facts meter) ≡ pos 50000
 unfolding unit_of
 last = refl
 
--- One rollover of 4294967296 counts at 1 Wh each, in mWh.
+-- The example's only rollover in mWh: 4294967296 counts at 1 Wh each.
 ranges : full_ranges 4294967296 (first_reading meter) (entries_of facts meter) ≡ 4294967296000
 unfolding unit_of
 ranges = refl
 
--- The differences in mWh: 300 Wh minus 310 Wh at the change of scale, and 400 Wh minus 50 Wh at the
--- reset.
+-- The differences of the example in mWh: 300 Wh minus 310 Wh at the change of scale, and 400 Wh
+-- minus 50 Wh at the reset.
 changes : differences (first_reading meter) (entries_of facts meter) ≡ pos 340000
 unfolding unit_of
 changes = refl

@@ -14,7 +14,8 @@ only_one : {X : Type 0} (P : X → Type 0) (x : X) → P x → All P (x ∷ [])
 only_one P x h zero d less = h
 only_one P x h (suc k) d less = absurd (omega arith)
 
--- If an event adds no record, then a crash may leave the same lists of records as before the event.
+-- If an event adds no record to the store, then the store may have the same records after a crash
+-- as before the event.
 still_left : (past later : History) → facts_of later ≡ facts_of past → (facts : List Fact) → MayBeLeft past facts → MayBeLeft later facts
 still_left past later same facts (inl is) = inl (is ∙ sym same)
 still_left past later same facts (inr more) =
@@ -61,8 +62,8 @@ moved_not old new next past why moves is_past clean stand = record {
   leaves = leaves_err new next past stand.leaves.left stand.leaves.each is_past (moves.under_way stand.leaves.left stand.holds clean stand.leaves.may);
 }
 
--- After a successful call of the store, a crash leaves the records of the accepted events, the new
--- event included.
+-- After a successful call of the store, the store has the records of all accepted events after a
+-- crash, the new event included.
 pub done_left : {T : Type 0} (old new : Ledger) (next : Accepted) (past : History) (x : T) → Moves old new (facts_of past) (facts_of (next ∷ past)) (Ok x)
     → new.is_clean → BooksStand old past → Leaves old new (LeftOnceDone past next)
 done_left old new next past x moves clean stand = λ before may. elim (moves.settled before stand.holds clean may) [
@@ -77,8 +78,8 @@ failed_left old new next past why moves is_past clean stand = λ before may. eli
   | inr more ↦ (before ++ facts_of (next ∷ past) ∷ [], inr (is_past, refl), more)
 ]
 
--- If a lookup precedes a call, then a crash after the call may leave the same lists of records as
--- without the lookup.
+-- A lookup before a call of the store does not change which records the store may have after a
+-- crash.
 pub read_first : {T : Type 0} (old between new : Ledger) (result : Result T BooksFault) (so : (before after : List (List Fact)) → Type 0)
     → OnlyReads old between result → Leaves between new so → Leaves old new so
 read_first old between new result so reads leaves = λ before may. leaves before (reads.keeps.left before may)

@@ -1,5 +1,5 @@
--- The lemma that a query for a meter's interval rows (energy by quarter hour) in the span of all
--- times returns all of them.
+-- The lemma that a query for a meter's interval rows (energy by quarter hour) returns all of these
+-- rows if its time span contains all times.
 use Rattle.std.proofs.Common.{◌≡◌, ℕ, List, refl, subst}
 use Rattle.std.specs.Prelude.{Option, Some, None, Result}
 use Rattle.std.specs.Option.{option_map}

@@ -19,7 +19,8 @@ use Rattle.office_books.specs.declared.spans.Span.TheVariants as span
 use Rattle.office_books.specs.Spans.{is_within, rows_within}
 use Rattle.office_core.specs.DayRange.{accounts_within}
 
--- ---- a filter after a weaker filter has the same result as alone
+-- Lemmas on two filters in a row. If the first filter keeps all elements that the second keeps,
+-- then the second filter alone has the same result.
 
 filter_through : {X : Type 0} (p q : X → Bool) → ((x : X) → p x ≡ true → q x ≡ true) → (xs : List X) → filter p (filter q xs) ≡ filter p xs
 filter_through p q through [] = refl
@@ -49,7 +50,7 @@ filter_apart p q apart (x ∷ xs) =
       | inr fails ↦ ap (filter p) (cond-false _ _ _ fails) ∙ rest
     ]
 
--- ---- the civil days of interval rows that a filter keeps
+-- Lemmas on the civil days of the interval rows (energy by quarter hour) that a filter keeps.
 
 module _ (zone : Zone) (asked : ℤ → Bool) where
   abbrev row_asked : Share → Bool
@@ -118,8 +119,8 @@ module _ (zone : Zone) (asked : ℤ → Bool) where
   abbrev of_rows : ℤ → List Share → DayAccount
   of_rows day rows = record { day = day; count = distinct_count (starts_of rows); mwh = energy_of rows }
 
-  -- If `accounts` are the days of all interval rows, then the requested days among them are the
-  -- days of the rows on requested days.
+  -- If `accounts` has the energy of each civil day, then its requested days have the energy of the
+  -- interval rows on these days.
   pub accounts_asked : (rows : List Share) (accounts : List DayAccount) → AreAccounts zone rows accounts → AreAccounts zone (filter row_asked rows) (filter account_asked accounts)
   accounts_asked rows accounts are = record {
     in_order = in_order accounts are.in_order;
@@ -139,8 +140,8 @@ module _ (zone : Zone) (asked : ℤ → Bool) where
         whole ∙ sym (ap (of_rows _) (rows_asked rows _ is));
   }
 
-  -- If a filter keeps all interval rows of the requested days, then the requested days are
-  -- unchanged.
+  -- If a filter keeps all interval rows (energy by quarter hour) of the requested days, then the
+  -- energy of these days is unchanged.
   pub same_days : (among : Share → Bool) → ((row : Share) → row_asked row ≡ true → among row ≡ true)
       → AccountsAreOne → (rows : List Share) (some all : List DayAccount)
       → AreAccounts zone (filter among rows) some → AreAccounts zone rows all → filter account_asked some ≡ filter account_asked all
@@ -151,7 +152,7 @@ module _ (zone : Zone) (asked : ℤ → Bool) where
       let unique = one zone (filter row_asked rows) in
       unique.2 _ left ∙ sym (unique.2 _ right)
 
--- ---- the requested days of an accounting register
+-- Lemmas on the energy of the requested days of an accounting register (a named energy counter).
 
 -- If a filter accepts each element, then the filtered list equals the complete list.
 all_kept : {X : Type 0} (xs : List X) → filter (λ x. true) xs ≡ xs
@@ -162,7 +163,7 @@ by_test : (asked : Span) (rows : List Share) → rows_within asked rows ≡ filt
 by_test span.All rows = sym (all_kept rows)
 by_test (span.Between from till) rows = refl
 
--- A range contains a day by its date if and only if it contains the day by its day number.
+-- A test whether a date is in a range of dates equals the test by day numbers.
 is_in_number : (range : DayRange) (total : DayTotal) → is_in range total.day ≡ has_day range (account_of total).day
 is_in_number range total =
     elim range.from as (λ from. (begins_by from total.day && ends_after range.till total.day)

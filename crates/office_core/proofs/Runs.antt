@@ -1,4 +1,4 @@
--- Lemmas about a run, in which an office processes a list of events. If a guarantee of the run
+-- Lemmas about a run, in which the program processes a list of events. If a guarantee of the run
 -- holds so far, it also holds after one more event.
 use Rattle.std.proofs.Common.{◌≡◌, ◌↔◌, ◌||◌, ℕ, ◌+◌, ◌<◌, Bool, true, false, List, [], ◌∷◌, ◌++◌, take, length, ◌≤◌, get_or, Result, Err, refl, ap, sym, subst, ◌∙◌, arith, take_all}
 use Rattle.std.specs.Prelude.{All, IfErr}
@@ -63,8 +63,8 @@ left_push past before between after [] one h k = (after, rw (sym h) k, refl)
 left_push past before between after (f ∷ fed) one h k =
     (h.0, h.1, left_push (with_answer past f.at f.event f.result) h.0 between after fed one h.2 k)
 
--- If the records that a crash may leave follow from the answers so far, then they also follow from
--- the answers after one more event.
+-- If the records that may remain after a crash changed as the answers so far require, then they
+-- also do after one more event.
 run_push : (old between new : Ledger) (past : History) (opened : ℕ) (fed : List Answered) (one : Answered)
     → Leaves old between (LeftByRun past opened fed)
     → Leaves between new (LeftByEvent (history_after (Opened opened ∷ past) fed) one.at one.event one.result)
@@ -92,15 +92,15 @@ counts_push : (before between after : Failures) (fed : List Answered) (one : Ans
 counts_push before between after [] one h k = (after, rw (sym h) k, refl)
 counts_push before between after (f ∷ fed) one h k = (h.0, h.1, counts_push h.0 between after fed one h.2 k)
 
--- True if the event was not refused because some quarter hour has no civil day in the store's time
--- zone.
+-- True if the refusal of the event, if any, has another cause than a quarter hour without a civil
+-- day in the store's time zone.
 abbrev pub HasItsDay : Answered → Type 0
 HasItsDay fed = IfErr fed.result IsNotForWantOfDay
 
 no_day_push : (fed : List Answered) (one : Answered) → All HasItsDay fed → HasItsDay one → All HasItsDay (fed ++ one ∷ [])
 no_day_push fed one h k = All-append HasItsDay fed (one ∷ []) h (All-cons HasItsDay one [] k (All-nil HasItsDay))
 
--- The guarantees of a run of events after the events `fed`, the first ones of its list.
+-- The guarantees of a run of events after its first events, `fed`, were processed.
 pub record SoFar {B : Type 0} (ledger : B → Ledger) (books : B) (opened : ℕ) (fed : List Answered) (office : Office B) : Type 0 where
   pub stands : (past : History) → BooksStand (ledger books) past → (ledger (books_in office)).is_clean
       → Stands ledger (history_after (Opened opened ∷ past) fed) office
@@ -116,7 +116,7 @@ pub record SoFar {B : Type 0} (ledger : B → Ledger) (books : B) (opened : ℕ)
   pub clean : (ledger (books_in office)).is_clean → (ledger books).is_clean
   pub zone : (ledger (books_in office)).zone ≡ (ledger books).zone
 
--- The guarantees of `feed` for one event of a run of events.
+-- The guarantees of the function that processes one event of a run of events.
 pub record Feeds {B : Type 0} (ledger : B → Ledger) (old new : Office B) (one : Answered) : Type 0 where
   pub answers : After ledger old new (λ past. IsAnswer past one.at one.event (failures_of ledger old) (failures_of ledger new) one.result)
   pub stands : After ledger old new (λ past. Stands ledger (with_answer past one.at one.event one.result) new)
@@ -126,8 +126,8 @@ pub record Feeds {B : Type 0} (ledger : B → Ledger) (old new : Office B) (one 
       → IsQuiet old new one.result
   pub ends : Ends ledger old new one.event one.result
 
--- If an event ends no poll, then its answer is not a failure, whether the office is running or has
--- stopped.
+-- If an event is of a kind that ends no poll, then its answer is not a failure, whether the program
+-- is running or has stopped.
 not_failing : {B : Type 0} (ledger : B → Ledger) (past : History) (old new : Office B) (one : Answered) → Feeds ledger old new one
     → Stands ledger past old → SettlesNothing past one.at one.event → (stopped : Bool) → is_stopped old ≡ stopped
     → is_failure one.result ≡ false

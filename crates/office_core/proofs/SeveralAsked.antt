@@ -1,4 +1,4 @@
--- Lemmas about several queries to the office, each made only if the query before it succeeded.
+-- Lemmas about several queries in a row, each made only if the query before it succeeded.
 use Rattle.std.proofs.Common.{◌≡◌, inl, inr, true, Option, Some, None, refl, sym, ap, subst, ◌∙◌}
 use Rattle.std.specs.Prelude.{Result, Ok, Err}
 use Rattle.office_events.specs.declared.refusals.Refusal.{Refusal}
@@ -13,7 +13,7 @@ use Rattle.office_core.specs.Taking.{failures_of}
 use Rattle.office_core.specs.declared.office.Office.{Office}
 use Rattle.office_core.proofs.Taken.{outside_more}
 
--- ---- the results of several queries in a row
+-- Lemmas on the results of several queries in a row.
 
 abbrev value_of : {T : Type 0} → Result T Refusal → Option T
 value_of (Ok x) = Some x
@@ -43,8 +43,8 @@ pub found_so : {T : Type 0} (m : Type 0) (found : Option T) (before after : Fail
     → IsFound m found before after (Ok x)
 found_so m found before after x is same = inl (ap or_not_found (sym is), same)
 
--- If the query for `f` is refused, then the query for `g`, which needs `f`, is refused for the same
--- reason.
+-- If the query for `f` is refused, then the combined query for `g`, which needs `f`, is refused for
+-- the same reason.
 pub refused_on : {T U : Type 0} (few many : Type 0) (f : Option T) (g : Option U) (before mid after : Failures) (why : Refusal) → (few → many)
     → (f ≡ None → g ≡ None) → mid ≡ before → IsFound few f mid after (Err why) → IsFound many g before after (Err why)
 refused_on {T} {U} few many f g before mid after why more nothing same (inl is) =
@@ -55,7 +55,7 @@ refused_on {T} {U} few many f g before mid after why more nothing same (inl is) 
 refused_on few many f g before mid after why more nothing same (inr fails) =
     inr (subst (λ was. IsOutside many was after why) same (outside_more few many mid after why more fails))
 
--- ---- the state of the office after several queries
+-- Lemmas on the program's state after several queries in a row.
 
 module _ {B : Type 0} (ledger : B → Ledger) where
   pub unasked : (a : Office B) → Keeps ledger a a
@@ -97,8 +97,8 @@ module _ {B : Type 0} (ledger : B → Ledger) where
     zone = more.zone ∙ first.zone;
   }
 
-  -- If a query follows other successful queries, then it has the same effect on the office as
-  -- without these queries.
+  -- If a query follows other successful queries, then all of them together have the same effect on
+  -- the program's state as this query alone.
   pub asked_after : {T : Type 0} (a b c : Office B) (result : Result T Refusal) → Keeps ledger a b → OnlyAsks ledger b c result → OnlyAsks ledger a c result
   asked_after a b c result first more = record {
     stands = λ past stands. more.stands past (first.stands past stands);
@@ -115,11 +115,12 @@ module _ {B : Type 0} (ledger : B → Ledger) where
     zone = more.zone ∙ first.zone;
   }
 
-  -- If an office answered a query with `Ok`, then the office had not stopped.
+  -- If the program answered a query with `Ok`, then the program had not stopped.
   pub goes_on : {T : Type 0} (a b : Office B) (x : T) → OnlyAsks ledger a b (Ok x) → is_stopped a ≡ true → ⊥
   goes_on a b x asks stopped = let e = asks.stopped.1 stopped in cc e
 
-  -- If a running office is unchanged, then the guarantees of a query hold for any `Ok` result.
+  -- If the running program's state is unchanged, then the guarantees of a query hold for any `Ok`
+  -- result.
   pub answered_as : {U : Type 0} (a b : Office B) (y : U) → (is_stopped a ≡ true → ⊥) → Keeps ledger a b → OnlyAsks ledger a b (Ok y)
   answered_as a b y goes kept = record {
     stands = kept.stands;
@@ -133,8 +134,8 @@ module _ {B : Type 0} (ledger : B → Ledger) where
     zone = kept.zone;
   }
 
-  -- If memory runs out after successful queries, then the refusal `Memory` meets the guarantees of
-  -- a query.
+  -- If memory runs out after successful queries, then the refusal `Memory` satisfies the guarantees
+  -- of a query.
   pub without_memory : {U : Type 0} (a b : Office B) → (is_stopped a ≡ true → ⊥) → Keeps ledger a b
       → OnlyAsks {T = U} ledger a b (Err refusal.Memory)
   without_memory a b goes kept = record {
@@ -149,7 +150,8 @@ module _ {B : Type 0} (ledger : B → Ledger) where
     zone = kept.zone;
   }
 
-  -- If a query is refused, then its effect on the office depends only on the reason of the refusal.
+  -- If a query is refused, then its effect on the program's state depends only on the reason for
+  -- the refusal.
   pub refused_as : {T U : Type 0} (a b : Office B) (why : Refusal) → OnlyAsks {T = T} ledger a b (Err why) → OnlyAsks {T = U} ledger a b (Err why)
   refused_as {T} {U} a b why asks = record {
     stands = asks.stands;
@@ -166,6 +168,6 @@ module _ {B : Type 0} (ledger : B → Ledger) where
     zone = asks.zone;
   }
 
-  -- If a query succeeds, then its effect on the office does not depend on its result.
+  -- If a query succeeds, then its effect on the program's state does not depend on its result.
   pub now_as : {T U : Type 0} (a b : Office B) (x : T) (y : U) → OnlyAsks ledger a b (Ok x) → OnlyAsks ledger a b (Ok y)
   now_as a b x y asks = answered_as a b y (goes_on a b x asks) (asked a b x asks)

@@ -1,5 +1,5 @@
--- A worked example of the records after a crash. A poll is started, and the store fails when the
--- poll times out.
+-- A worked example of the records that remain after a crash. A poll is started, and the store fails
+-- when the poll times out.
 use Rattle.std.proofs.Common.{◌≡◌, ◌⊎◌, ℕ, List, [], ◌∷◌, Some, inl, inr, refl, subst, ap, ◌∙◌, Ok, Err, lit≤, length}
 use Rattle.mb_wire.specs.declared.span.ReadFunction.TheVariants.{HoldingRegisters}
 use Rattle.mb_wire.specs.declared.span.ReadSpan.{ReadSpan}
@@ -34,7 +34,7 @@ connected = Fed 1000 (event.Connected (Some inv))
     ∷ Fed 1000 (event.Command (command.AddDevice (record { name = Some inv; unit = 1; timeout = 5; window = 1 })))
     ∷ Opened 0 ∷ []
 
--- The records after the start of the poll, and the record of the poll's timeout.
+-- The example's records after the start of the poll, and the record of the poll's timeout.
 abbrev waiting : List Fact
 waiting = fact.Poll (record { number = 1; device = inv; unit = 1; at = 1898; id = 0; span = span })
     ∷ fact.Device (record { name = inv; unit = 1; timeout = 5; window = 1 }) ∷ []
@@ -59,7 +59,7 @@ fed = record { at = 1898; event = start; result = Ok (answer.Started 1 1 1) }
 abbrev Lists : Type 0
 Lists = List (List Fact)
 
--- The start of the poll adds a record.
+-- In the example, the start of the poll adds a record to the store.
 no_less : facts_of (Fed 1898 start ∷ connected) ≡ facts_of connected → ⊥
 unfolding frames frames_in rest rest_in is_garbled is_over is_closed stream next_id frames_at ending_at settled_by pending outcomes_at
 no_less same = let e = ap length same in cc e
@@ -78,8 +78,8 @@ then_ended : (between after : Lists) → between ≡ waiting ∷ [] → LeftOnce
 then_ended between after is left =
     or_ended after (subst (λ (ls : Lists). LeftOnceFailed (Fed 1898 start ∷ connected) (Fed 1904 event.Tick) ls after) is left)
 
--- After a crash, the poll is pending or its timeout is recorded. The store can have no other list
--- of records.
+-- After a crash in the example, the poll is pending or its timeout is recorded. The store can have
+-- no other list of records.
 waits_or_ended : (before after : Lists) → LeftInTurn connected fed before after
     → (after ≡ waiting ∷ []) ⊎ (after ≡ waiting ∷ ended ∷ [])
 waits_or_ended before after left =

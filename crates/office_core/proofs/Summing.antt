@@ -1,4 +1,5 @@
--- Lemmas about the sink that adds up interval rows (energy by quarter hour) by civil day.
+-- Lemmas about the sink that adds up interval rows (energy by quarter hour) by civil day. A sink
+-- receives the rows of a query one by one.
 use Rattle.std.proofs.Common.{◌≡◌, ℕ, ◌+◌, ◌≤◌, ◌<◌, Bool, not, List, [], ◌∷◌, ◌++◌, length, get_or, Option, Some, None, inr, refl, sym, ap, subst, ◌∙◌, arith, append_assoc, length-append}
 use Rattle.std.specs.Prelude.{MatchOption, MatchResult, Result, Ok, Err, map, unwrap_or}
 use Rattle.std.specs.declared.alloc.Global.{Global}
@@ -32,8 +33,8 @@ use Rattle.office_core.specs.Asking.{ListsDays}
 use Rattle.office_core.specs.DaySums.{MayFollow, UnlessFailed, HasAdded, AddsRow, TakesShare, EndsAs}
 use Rattle.office_core.specs.Failing.{IsOutside}
 
--- If the energy of a list of interval rows can be added up, then each row may be added after the
--- earlier rows.
+-- If the energy of all of a list's interval rows can be added up, then each row may be added after
+-- the earlier rows.
 may_follow : (done rest : List Share) (row : Share) → CanBeFolded (done ++ row ∷ rest) → MayFollow done row
 may_follow done rest row folds =
     let start : Share → ℕ = λ r. r.start in
@@ -52,7 +53,8 @@ may_follow done rest row folds =
           omega (arith, folds.energy, more, first);
     }
 
--- After one more interval row, the sink has added the row, or the sink has failed.
+-- After a query passes one more interval row to a sink that adds up energy by civil day, the sink
+-- has added the row or has failed.
 add_one : (failed : Option DayFault) (done : List Share) (row : Share) (s next : DaySink) → s.fault ≡ failed → MayFollow done row
     → UnlessFailed failed (HasTaken s.zone done s.fold) → MatchOption failed (AddsRow s row next) (λ fault. next ≡ s)
     → (next.zone ≡ s.zone) × HasAdded next (done ++ row ∷ [])
@@ -63,7 +65,8 @@ add_one (Some fault.Memory) done row s next is may added step =
     subst Q (sym step) (refl, subst P (sym is) tt)
 add_one (Some fault.Zone) done row s next is may added step = absurd added
 
--- After the remaining interval rows, the sink has added all rows, or the sink has failed.
+-- After a query passes its remaining interval rows to a sink that adds up energy by civil day, the
+-- sink has added all rows or has failed.
 add_all : (zone : Zone) (done rest : List Share) (s after : DaySink) → s.zone ≡ zone → CanBeFolded (done ++ rest) → HasAdded s done
     → TakesAll TakesShare s rest after → (after.zone ≡ zone) × HasAdded after (done ++ rest)
 add_all zone done [] s after is folds added took =
@@ -75,14 +78,16 @@ add_all zone done (row ∷ rest) s after is folds added took =
     let all = add_all zone (done ++ row ∷ []) rest took.0 after (step.0 ∙ is) (subst CanBeFolded (sym same) folds) step.1 took.2 in
     (all.0, subst (HasAdded after) same all.1)
 
--- If a new sink received interval rows, then it has added all of the rows, or it has failed.
+-- If a new sink for sums by civil day received interval rows, then it has added all of the rows, or
+-- it has failed.
 pub added_up : (fresh after : DaySink) (rows : List Share) → CanBeFolded rows → fresh.fault ≡ None → HasTaken fresh.zone [] fresh.fold
     → TakesAll TakesShare fresh rows after → (after.zone ≡ fresh.zone) × HasAdded after rows
 added_up fresh after rows folds works empty took =
     let P : Option DayFault → Type 0 = λ f. UnlessFailed f (HasTaken fresh.zone [] fresh.fold) in
     add_all fresh.zone [] rows fresh after refl folds (subst P (sym works) empty) took
 
--- If an interval row may be added to the sink, then it starts no earlier than the latest added row.
+-- If the sums by civil day may be extended by an interval row, then this row starts no earlier than
+-- the latest added row.
 after_latest : (rows : List Share) (latest : Option ℕ) (row : Share) → IsLatest rows latest → MayFollow rows row → unwrap_or latest 0 ≤ row.start
 after_latest rows None row at may = omega arith
 after_latest rows (Some start) row at may =
@@ -93,7 +98,7 @@ pub no_earlier : (zone : Zone) (rows : List Share) (fold : FoldState) (latest : 
     → MayFollow rows row → unwrap_or latest 0 ≤ row.start
 no_earlier zone rows fold latest row same taken may = after_latest rows latest row (subst (IsLatest rows) same taken.latest) may
 
--- The days of the sink equal the civil days of its interval rows.
+-- The days in the sums by civil day equal the civil days of the added interval rows.
 days_by : (failed : Option DayFault) (old new : Ledger) (zone : Zone) (rows : List Share) (fold : FoldState)
     (result : Result (Vec DayTotal Global) Refusal) → new.failures ≡ old.failures → UnlessFailed failed (HasTaken zone rows fold)
     → EndsAs failed fold.accounts result

@@ -1,4 +1,4 @@
--- Lemmas about the office's state and answer after an accepted event.
+-- Lemmas about the program's state and answer after an accepted event.
 use Rattle.std.proofs.Common.{◌≡◌, ℕ, Bool, true, false, cond, List, [], ◌∷◌, inl, inr, refl, sym, ap, subst, ◌∙◌, Option, Some, None, Result, Ok, Err}
 use Rattle.office_events.specs.declared.answers.Answer.{Answer}
 use Rattle.office_events.specs.declared.answers.Answer.TheVariants as answer
@@ -33,8 +33,8 @@ use Rattle.office_core.specs.Standing.{Goes, notes_in, outgoing_in}
 use Rattle.office_core.specs.Taking.{LeavesEvent, MayTake, Takes}
 use Rattle.office_core.proofs.Left.{moved_on, moved_not, done_left, failed_left}
 
--- If an event is accepted, then the decision on the event is its regular answer, not a refusal or
--- the answer to a retry.
+-- If an event is accepted, then the answer to the event is neither a refusal nor the stored answer
+-- to a retry.
 pub accepted_decision : (past : History) (at : ℕ) (e : Event) → IsAccepted past at e → decision_of past at e ≡ Ok (answer_of (slots_of past) (facts_of past) at e)
 accepted_decision past at e accepted =
     ap (λ kept. unless_kept (unless_refused (answer_of (slots_of past) (facts_of past) at e) (refusal_of past at e)) kept) accepted.new
@@ -56,13 +56,13 @@ by_answer So started done noted slots facts at (event.Gone given closing) = note
 by_answer So started done noted slots facts at (event.Command c) = by_start So started done (is_start c) _ _ _ _
 by_answer So started done noted slots facts at (event.Asked asked) = by_start So started done (is_start asked.command) _ _ _ _
 
--- Suppose that a list of accepted events is a possible past of the office, and one more event is
--- accepted. Then the list with this event is a possible past.
+-- Suppose that the program can have accepted a list of events, and one more event is accepted. Then
+-- it can have accepted the list with this event.
 pub one_more_past : (past : History) (at : ℕ) (e : Event) → IsPast past → IsAccepted past at e → PutsPlanned (command_in e) → IsPast (Fed at e ∷ past)
 one_more_past past at e is accepted planned = record { accepted = (accepted, is.accepted); planned = (planned, is.planned) }
 
--- If an event fails because the store fails or memory runs out, then a crash leaves the records
--- with or without those of the event.
+-- If an event fails because the store fails or memory runs out, then after a crash the store has
+-- all records of the event or none.
 pub event_failed : (old new : Ledger) (past : History) (at : ℕ) (e : Event) (why : BooksFault) → Leaves old new (LeftOnceFailed past (Fed at e))
     → Leaves old new (LeftByEvent past at e (Err (as_refusal why)))
 event_failed old new past at e (Store fault) left = left
@@ -85,8 +85,8 @@ unchanged_left old new past at e (Err why) keeps none = λ before may. (before, 
 pub refused_left : (old new : Ledger) (past : History) (at : ℕ) (e : Event) (why : Refusal) → KeepsFacts old new → Leaves old new (LeftByEvent past at e (Err why))
 refused_left old new past at e why keeps = λ before may. (before, left_by_refused past at e why before, keeps.left before may)
 
--- If calls of the store fail, then the refusal with the store's cause is a correct report, and the
--- failure counter agrees with it.
+-- If the store fails, then the refusal with the store's cause is a correct report, and the store's
+-- failure counter agrees with the report.
 pub failed_outside : (T takes_memory : Type 0) (before after : Failures) (why : BooksFault) → FailuresAfterCalls {T = T} (Err why) before after → takes_memory
     → IsOutside takes_memory before after (as_refusal why)
 failed_outside T takes_memory before after (Store Refused) is takes = is
@@ -94,8 +94,8 @@ failed_outside T takes_memory before after (Store Damaged) is takes = is
 failed_outside T takes_memory before after Memory (inl reported) takes = inl reported
 failed_outside T takes_memory before after Memory (inr same) takes = inr (takes, same)
 
--- The conditions `few` and `many` limit when the office may run out of memory outside the store. A
--- report of a failure that is correct under `few` is correct under the weaker condition `many`.
+-- The conditions `few` and `many` state when the program may run out of memory outside the store. A
+-- report of a failure that is correct under `few` is correct under the weaker `many`.
 pub outside_more : (few many : Type 0) (before after : Failures) (why : Refusal) → (few → many) → IsOutside few before after why → IsOutside many before after why
 outside_more few many before after (refusal.Store cause) more is = is
 outside_more few many before after refusal.Memory more (inl reported) = inl reported
@@ -109,7 +109,8 @@ books_failed T takes_memory before after (Store Refused) is = is
 books_failed T takes_memory before after (Store Damaged) is = is
 books_failed T takes_memory before after Memory is = inl is
 
--- If an event fails without stopping the office, then it is an event that cannot end polls.
+-- If an event fails without stopping the program, then the event is of a kind that cannot end
+-- polls.
 pub goes_on_unsettling : (e : Event) (why : BooksFault) → stops e (Err (as_refusal why)) ≡ false → may_settle e ≡ false
 goes_on_unsettling (event.Connected given) why on = refl
 goes_on_unsettling (event.Bytes given piece) (Store fault) on = absurd (cc)
@@ -139,7 +140,8 @@ unsettling (event.Gone given closing) number at slots device none = absurd (cc)
 unsettling (event.Command c) number at slots device none = absurd (cc)
 unsettling (event.Asked asked) number at slots device none = absurd (cc)
 
--- The answer to an accepted device event, which is an event without a command, is `Noted`.
+-- The answer to an accepted device event (not a command), such as a received chunk of bytes, is
+-- `Noted`.
 pub noted : (slots : List Slot) (facts : List Fact) (at : ℕ) (e : Event) → is_command e ≡ false → answer.Noted ≡ answer_of slots facts at e
 noted slots facts at (event.Connected given) device = refl
 noted slots facts at (event.Bytes given piece) device = refl
@@ -195,7 +197,7 @@ taken ledger past at e old new x given may accepted clean moves is latest slots 
       reported = record { notes = notes ∙ sym reported; outgoing = outgoing ∙ sym sent };
     }
 
--- If a call of the store fails, then the office reports the failure correctly.
+-- If a call of the store fails, then the program reports the failure correctly.
 pub not_taken : {B T : Type 0} (ledger : B → Ledger) (past : History) (at : ℕ) (e : Event) (old new : Office B) (fault : BooksFault) (why : Refusal)
     → MayTake ledger past e old → IsAccepted past at e → (ledger new.books).is_clean
     → Moves {T = T} (ledger old.books) (ledger new.books) (facts_of past) (facts_of (Fed at e ∷ past)) (Err fault)

@@ -1,4 +1,4 @@
--- The office's answers to queries, and the effect of a query on the office.
+-- The program's answers to queries, and the effect of a query on the program's state.
 use Rattle.std.specs.Prelude.{◌≡◌, ◌⊎◌, ◌↔◌, ℕ, ◌<◌, ◌^◌, length, true, List, [], map, Option, Some, None, Result, Ok, Err, MatchResult, IfErr, OnOk, OnErr}
 use Rattle.std.specs.Option.{option_map, option_and_then}
 use Rattle.std.specs.declared.alloc.Global.{Global}
@@ -34,35 +34,36 @@ abbrev pub or_not_found : {T : Type 0} → Option T → Result T Refusal
 or_not_found None = Err refusal.NotFound
 or_not_found (Some found) = Ok found
 
--- The office's answer for this result of a lookup in the store. The answer is the row, the refusal
+-- The program's answer for the result of a lookup in the store. The answer is the row, the refusal
 -- `NotFound`, or the refusal that reports the store's failure.
 abbrev pub answered : {T : Type 0} → Result (Option T) BooksFault → Result T Refusal
 answered (Ok found) = or_not_found found
 answered (Err why) = Err (as_refusal why)
 
--- True if the result of a query is correct. Without a failure, it is the row or `NotFound`.
--- Otherwise it reports the failure of the store or of memory.
+-- True if the result of a query for one row is correct. Without a failure, it is the row or
+-- `NotFound`. Otherwise it reports the failure of the store or of memory.
 abbrev pub IsFound : {T : Type 0} → (takes_memory : Type 0) → Option T → (before after : Failures)
     → Result T Refusal → Type 0
 IsFound takes_memory found before after result =
     ((result ≡ or_not_found found) × (after ≡ before))
     ⊎ FailsOutside takes_memory before after result
 
--- `Some` without content if the row exists, otherwise `None`.
+-- `Some` without content if the requested row exists, otherwise `None`.
 abbrev pub is_there : {T : Type 0} → Option T → Option (Unit {0})
 is_there found = option_map (λ x. tt) found
 
--- The rows of an optional list, or an empty list for `None`.
+-- The rows of an optional list, or the empty list if the optional list is `None`.
 abbrev pub rows_in : {T : Type 0} → Option (List T) → List T
 rows_in None = []
 rows_in (Some rows) = rows
 
--- The interval rows of the named meter, or `None` if no meter has the name or the name is invalid.
+-- The interval rows (energy by quarter hour) of the named meter, or `None` if no meter has the name
+-- or the name is invalid.
 abbrev pub intervals_of : List Fact → (meter : Option (List ℕ)) → Option (List Share)
 intervals_of facts meter =
     option_map (rows_of_opening facts) (option_and_then (opening_of facts) meter)
 
--- True if the result of a query for one row is correct. Such a query needs no memory outside the
+-- True if the result of a query for one row is correct. The query needs no memory outside the
 -- store.
 abbrev pub IsRowFound : {T : Type 0} → Option T → (before after : Failures) → Result T Refusal
     → Type 0
@@ -76,14 +77,14 @@ pub record HandsRows {S T : Type 0} (takes : S → T → S → Type 0) (rows : O
   pub begun : TakesFirst takes from (rows_in rows) to
   pub whole : OnOk result (TakesAll takes from (rows_in rows) to)
 
--- True if `days` are the civil days of the accounting register with this name in this time zone.
--- False if the name is invalid (`None`).
+-- True if `days` has the energy by civil day, in this time zone, of the accounting register (a
+-- named energy counter) with this name. False if the name is invalid (`None`).
 abbrev pub AreDaysNamed : Zone → List Fact → (register : Option (List ℕ)) → List DayAccount → Type 0
 AreDaysNamed zone facts None days = ⊥
 AreDaysNamed zone facts (Some register) days = AreDaysOf zone facts register days
 
--- True if the sink got the days of an accounting register in order. The days are those on which a
--- quarter hour with energy begins, and are fewer than 2^64.
+-- True if the sink got the days of an accounting register (a named energy counter) in order. The
+-- days are those on which a quarter hour with energy begins, and are fewer than 2^64.
 pub record TakesDays {S : Type 0} (takes : S → DayTotal → S → Type 0) (zone : Zone)
     (facts : List Fact) (register : Option (List ℕ)) (from to : S) : Type 0 where
   pub days : List DayTotal
@@ -138,14 +139,13 @@ ListsDays old new register span result =
     × (new.failures ≡ old.failures))
     (IsOutside (Unit {0}) old.failures new.failures)
 
--- True if the office's answer to a query for one row agrees with the records of all accepted
--- events.
+-- True if the answer to a query for one row agrees with the records of all accepted events.
 abbrev pub ReportsRow : {B T : Type 0} → (B → Ledger) → (old new : Office B) → Result T Refusal
     → (List Fact → Option T) → Type 0
 ReportsRow ledger old new result row = After ledger old new (λ past.
     IsRowFound (row (facts_of past)) (failures_of ledger old) (failures_of ledger new) result)
 
--- True if the rows of a query to the office agree with the records of all accepted events.
+-- True if the rows that a query returns agree with the records of all accepted events.
 abbrev pub ReportsRows : {B S T : Type 0} → (S → T → S → Type 0) → (B → Ledger)
     → (old new : Office B) → (from to : S) → Result (Unit {0}) Refusal
     → (List Fact → Option (List T)) → Type 0
@@ -153,7 +153,7 @@ ReportsRows takes ledger old new from to result rows = After ledger old new (λ 
     HandsRows takes (rows (facts_of past))
     (failures_of ledger old) (failures_of ledger new) from to result)
 
--- True if the days of a query to the office agree with the records of all accepted events.
+-- True if the days that a query returns agree with the records of all accepted events.
 abbrev pub ReportsDays : {B S : Type 0} → (S → DayTotal → S → Type 0) → (B → Ledger)
     → (old new : Office B) → (from to : S) → Result (Unit {0}) Refusal
     → (register : Option (List ℕ)) → Type 0
@@ -161,7 +161,7 @@ ReportsDays takes ledger old new from to result register = After ledger old new 
     HandsDays takes (ledger (books_in old)).zone (facts_of past) register
     (failures_of ledger old) (failures_of ledger new) from to result)
 
--- True if the sink received some list of rows, whatever the store returned.
+-- True if a query passed some list of rows to the sink, whatever the store returned.
 abbrev pub TakesRows : {S T : Type 0} → (S → T → S → Type 0) → (from to : S) → Type 0
 TakesRows {S} {T} takes from to = (rows : List T) × TakesAll takes from rows to
 
@@ -172,7 +172,7 @@ CountsCause before after store.NoDay = after ≡ before
 CountsCause before after why = StoreFailed why before after
 
 -- The failure counter after a refused query. The reason is `NotFound`, a failure of the store, that
--- memory ran out, or that the office has stopped.
+-- memory ran out, or that the program has stopped.
 --
 -- Each failure of the store is counted once, whatever the store returned. If memory ran out outside
 -- the store, the failure is not counted.
@@ -183,15 +183,15 @@ CountsWhy before after refusal.Memory = MemoryLacked (Unit {0}) before after
 CountsWhy before after refusal.Stopped = after ≡ before
 CountsWhy before after _ = ⊥
 
--- The failure counter after a query, which is unchanged on `Ok`. After a refusal, it changed as
--- `CountsWhy` defines.
+-- The failure counter after a query. It is unchanged after `Ok`. After a refusal, it counts each
+-- failure of the store once.
 abbrev pub CountsAsked : {T : Type 0} → (before after : Failures) → Result T Refusal → Type 0
 CountsAsked before after (Ok x) = after ≡ before
 CountsAsked before after (Err why) = CountsWhy before after why
 
--- The effect of a query on the store. The records, the records that a crash may leave, and the time
--- zone are unchanged. If the store is clean (no wrong result went undetected) after the query, it
--- was clean before.
+-- The effect of a query on the store. The records, the records that may remain after a crash, and
+-- the time zone are unchanged. If the store is clean (no wrong result went undetected) after the
+-- query, it was clean before.
 pub record Asks {T : Type 0} (old new : Ledger) (result : Result T Refusal) : Type 0 where
   pub keeps : KeepsFacts old new
   pub counts : CountsAsked old.failures new.failures result
@@ -199,9 +199,9 @@ pub record Asks {T : Type 0} (old new : Ledger) (result : Result T Refusal) : Ty
   pub clean : new.is_clean → old.is_clean
   pub zone : new.zone ≡ old.zone
 
--- The effect of a query on the office. The state, the notifications, the bytes to send and the
--- records that a crash may leave are unchanged. The query is refused as stopped if and only if the
--- office has stopped, and never stops the office.
+-- The effect of a query on the program's state. The state, the notifications, the bytes to send and
+-- the records that may remain after a crash are unchanged. The query is refused as stopped if and
+-- only if the program has stopped, and never stops the program.
 pub record OnlyAsks {B T : Type 0} (ledger : B → Ledger) (old new : Office B)
     (result : Result T Refusal) : Type 0 where
   pub stands : (past : History) → Stands ledger past old → Stands ledger past new

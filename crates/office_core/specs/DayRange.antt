@@ -1,4 +1,4 @@
--- The civil days of an accounting register within a range of days.
+-- The civil days of an accounting register (a named energy counter) within a range of days.
 use Rattle.std.specs.Prelude.{◌≡◌, ℕ, ◌*◌, ◌<◌, ◌^◌, ℤ, pos, negsuc, ◌+ℤ◌, ◌-ℤ◌, length, List, map, filter, Option, Some, None, Result, MatchResult, OnOk, OnErr}
 use Rattle.std.specs.Option.{option_and_then}
 use Rattle.std.specs.declared.alloc.Global.{Global}
@@ -26,7 +26,7 @@ use Rattle.office_core.specs.Failing.{IsOutside}
 use Rattle.office_core.specs.Standing.{After, books_in}
 use Rattle.office_core.specs.Taking.{failures_of}
 
--- The given days that lie in the range, in unchanged order.
+-- The given days (energy by civil day) that lie in the range, in unchanged order.
 abbrev pub accounts_within : DayRange → List DayAccount → List DayAccount
 accounts_within range accounts = filter (λ account. has_day range account.day) accounts
 
@@ -50,7 +50,7 @@ span_between None till = span.All
 abbrev pub span_of : DayRange → Span
 span_of range = span_between range.from range.till
 
--- True if `days` are the days of the accounting register with this name that lie in the range.
+-- True if `days` has the energy of the named accounting register on each civil day in the range.
 pub record AreDaysWithin (zone : Zone) (facts : List Fact) (register : Option (List ℕ))
     (range : DayRange) (days : List DayAccount) : Type 0 where
   pub all : List DayAccount
@@ -78,8 +78,9 @@ pub record HandsDaysWithin {S : Type 0} (takes : S → DayTotal → S → Type 0
   pub whole : OnOk result (TakesDaysWithin takes zone facts register range before after)
   pub none : OnErr result (after ≡ before)
 
--- True if the days of a query for a range agree with the store's records. The premises are that the
--- records follow the rules (`AreLawful`), and that no wrong result of the store went undetected.
+-- True if the days that a query for a range of days returns agree with the store's records. The
+-- premises are that the records follow the rules (`AreLawful`), and that no wrong result of the
+-- store went undetected.
 abbrev pub DaysWithinIn : {S : Type 0} → (S → DayTotal → S → Type 0) → (old new : Ledger)
     → (before after : S) → Result (Unit {0}) Refusal → (register : Option (List ℕ))
     → DayRange → Type 0
@@ -100,7 +101,8 @@ ListsDaysWithin old new register range result =
     × (new.failures ≡ old.failures))
     (IsOutside (Unit {0}) old.failures new.failures)
 
--- True if the days of a query for a range agree with the records of all accepted events.
+-- True if the days that a query for a range of days returns agree with the records of all accepted
+-- events.
 abbrev pub ReportsDaysWithin : {B S : Type 0} → (S → DayTotal → S → Type 0) → (B → Ledger)
     → (old new : Office B) → (before after : S) → Result (Unit {0}) Refusal
     → (register : Option (List ℕ)) → DayRange → Type 0

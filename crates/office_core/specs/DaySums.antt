@@ -1,4 +1,5 @@
--- The model of a sink that adds up interval rows by civil day.
+-- The model of a sink that adds up interval rows (energy by quarter hour) by civil day. A sink
+-- receives the rows of a query one by one.
 use Rattle.std.specs.Prelude.{◌≡◌, ◌+◌, ◌≤◌, ◌<◌, ◌^◌, List, [], ◌∷◌, ◌++◌, map, Option, Some, None, MatchOption, Result, Ok, Err, All}
 use Rattle.std.specs.declared.alloc.Global.{Global}
 use Rattle.std.specs.declared.vec.Vec.{Vec}
@@ -22,37 +23,38 @@ pub record MayFollow (rows : List Share) (row : Share) : Type 0 where
   pub moment : row.start ≤ moment_limit
   pub energy : energy_of rows + row.mwh < 2 ^ 128
 
--- True if the sink has the property `P` or has run out of memory. False if a quarter hour had no
--- civil day.
+-- True if the sink, which adds up energy by civil day, has the property `P` or has run out of
+-- memory. False if a quarter hour had no civil day.
 abbrev pub UnlessFailed : Option DayFault → Type 0 → Type 0
 UnlessFailed None P = P
 UnlessFailed (Some fault.Memory) P = Unit {0}
 UnlessFailed (Some fault.Zone) P = ⊥
 
--- True if the sink has added up these interval rows, or has run out of memory.
+-- True if the sums by civil day contain exactly these interval rows (energy by quarter hour), or
+-- memory ran out.
 abbrev pub HasAdded : DaySink → List Share → Type 0
 HasAdded sink rows = UnlessFailed sink.fault (HasTaken sink.zone rows sink.fold)
 
--- The effect of an interval row that may be added. The sink adds the row, or runs out of memory.
--- The time zone stays the same.
+-- The effect of an interval row on sums by civil day, if the row may be added. The row is added, or
+-- memory runs out. The time zone stays the same.
 pub record AddsRow (old : DaySink) (row : Share) (new : DaySink) : Type 0 where
   pub zone : new.zone ≡ old.zone
   pub added : (rows : List Share) → HasTaken old.zone rows old.fold → MayFollow rows row
       → HasAdded new (rows ++ row ∷ [])
 
--- The effect of any interval row on the sink. The sink adds the row, or ignores the row after an
+-- The effect of any interval row on sums by civil day. The row is added, or ignored after an
 -- earlier failure.
 abbrev pub TakesShare : DaySink → Share → DaySink → Type 0
 TakesShare old row new = MatchOption old.fault (AddsRow old row new) (λ fault. new ≡ old)
 
--- The refusal that reports the failure of the sink. Either a quarter hour had no civil day, or
--- memory ran out.
+-- The refusal that reports why the sums by civil day failed. Either a quarter hour had no civil
+-- day, or memory ran out.
 abbrev pub as_refusal : DayFault → Refusal
 as_refusal fault.Zone = refusal.Store store.NoDay
 as_refusal fault.Memory = refusal.Memory
 
 -- True if the result is the list of days with these amounts of energy, or the refusal that reports
--- the sink's failure.
+-- why the sums failed.
 abbrev pub EndsAs : Option DayFault → List DayAccount → Result (Vec DayTotal Global) Refusal
     → Type 0
 EndsAs None accounts (Ok days) = map account_of days.items ≡ accounts

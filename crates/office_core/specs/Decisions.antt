@@ -1,4 +1,4 @@
--- The decision whether an event is accepted, refused, or answered as a retry. The office decides
+-- The decision whether an event is accepted, refused, or answered as a retry. The program decides
 -- before it executes the event.
 use Rattle.std.specs.Prelude.{◌≡◌, ℕ, List, false, Option, Some, None, Result, Ok, Err, IfOk, IfSome, IsOk}
 use Rattle.office_events.specs.declared.answers.Answer.{Answer}
@@ -21,17 +21,17 @@ abbrev pub Decides : History → (at : ℕ) → Event → Option (Result Answer 
 Decides past at e None = IsAccepted past at e
 Decides past at e (Some given) = given ≡ decision_of past at e
 
--- True if the result is the correct decision on the event, computed from the devices' slots and the
--- store. The premise is that no wrong result of the store went undetected.
+-- True if the result is the correct decision on the event, computed from the devices' connections
+-- and the store. The premise is that no wrong result of the store went undetected.
 abbrev pub Decided : (old new : Ledger) → List Slot → (latest at : ℕ) → Event
     → Result (Option (Result Answer Refusal)) BooksFault → Type 0
 Decided old new kept latest at e result =
     (past : History) → latest ≡ latest_of past → KeepsSlots kept (slots_of past)
     → old.holds (facts_of past) → new.is_clean → IfOk result (Decides past at e)
 
--- The guarantees for a device event, which the office decides without a query of the store. The
--- result is `None` if no reason to refuse the event applies. Otherwise it is the answer to the
--- event, and never a failure.
+-- The guarantees for the decision on a device event, which needs no query of the store. The result
+-- is `None` if no reason to refuse the event applies. Otherwise it is the answer to the event, and
+-- never a failure.
 pub record DecidesAlone {B : Type 0} (old new : B) (kept : List Slot) (latest at : ℕ) (e : Event)
     (result : Result (Option (Result Answer Refusal)) BooksFault) : Type 0 where
   pub books : new ≡ old
@@ -40,8 +40,8 @@ pub record DecidesAlone {B : Type 0} (old new : B) (kept : List Slot) (latest at
       → IfOk result (λ given. given ≡ None → refusal_of past at e ≡ None)
   pub answers : IfOk result (λ given. IfSome given (λ r. is_failure r ≡ false))
 
--- True if the answer leaves the office unchanged. Such an answer is the stored answer to a retry,
--- or a refusal.
+-- True if the answer to an event states that the event had no effect. The answer is the stored
+-- answer to a retry, or a refusal.
 abbrev pub IsNoChange : Result Answer Refusal → Type 0
 IsNoChange (Ok (answer.Again kind)) = Unit {0}
 IsNoChange (Ok _) = ⊥

@@ -1,5 +1,4 @@
--- A run of events over an office: the office after the run, the answer to each event, and the final
--- records.
+-- A run of events: the state after the run, the answer to each event, and the final records.
 use Rattle.std.specs.Prelude.{◌≡◌, ◌⊎◌, ◌↔◌, ◌||◌, ℕ, Bool, true, false}
 use Rattle.std.specs.Prelude.{List, [], ◌∷◌, length, Result, Err, IfOk, IfErr, All}
 use Rattle.office_events.specs.declared.answers.Answer.{Answer}
@@ -21,36 +20,36 @@ use Rattle.office_core.specs.Leaving.{BooksStand, Leaves, LeftByEvent, LeftOnceD
 use Rattle.office_core.specs.Standing.{Stands, books_in, notes_in, outgoing_in, is_stopped}
 use Rattle.office_core.specs.Taking.{IsAnswer, IsReported, SettlesNothing}
 
--- An event with its timestamp and its answer.
+-- An event of a run, with its timestamp and the answer to the event.
 pub record Answered : Type 0 where
   pub at : ℕ
   pub event : Event
   pub result : Result Answer Refusal
 
--- The events, each paired with its answer, in order.
+-- The events of a list, each paired with the answer to the event, in order.
 abbrev pub in_turn : List (ℕ × Event) → List (Result Answer Refusal) → List Answered
 in_turn [] results = []
 in_turn (fed ∷ events) [] = []
 in_turn (fed ∷ events) (result ∷ results) =
     record { at = fed.0; event = fed.1; result = result } ∷ in_turn events results
 
--- The events of a run, each paired with its answer from the run, in order.
+-- The events of a run, each paired with the answer of the run to the event, in order.
 abbrev pub events_of : {B : Type 0} → List (ℕ × Event) → Run B → List Answered
 events_of events run = in_turn events run.results.items
 
--- The history after these answered events. It is the history `past` with the accepted ones of the
--- events.
+-- The history of accepted events after these answered events. It is the history `past` with the
+-- accepted ones of these events.
 abbrev pub history_after : History → List Answered → History
 history_after past [] = past
 history_after past (fed ∷ later) =
     history_after (with_answer past fed.at fed.event fed.result) later
 
--- The history after a run of events. It has the given history, the opening of the run, and the
+-- The history after a run of events. It has the given history, the opening of the program, and the
 -- run's accepted events.
 abbrev pub accepted_by : {B : Type 0} → History → (opened : ℕ) → List (ℕ × Event) → Run B → History
 accepted_by past opened events run = history_after (Opened opened ∷ past) (events_of events run)
 
--- True if the event has the answer that `decision_of` defines, or was refused for a failure. An
+-- True if the event has the correct answer, or was refused because the store or memory failed. An
 -- event that ends no poll never fails.
 pub record IsAnswered (past : History) (before after : Failures) (fed : Answered) : Type 0 where
   pub answer : IsAnswer past fed.at fed.event before after fed.result
@@ -63,67 +62,69 @@ AreAnswered past before after (fed ∷ later) =
     (between : Failures) × IsAnswered past before between fed
     × AreAnswered (with_answer past fed.at fed.event fed.result) between after later
 
--- True if the office has the notifications and bytes of the last event, or none if no event was
--- processed.
+-- True if the program has the notifications and bytes to send of the last event, or none if no
+-- event was processed.
 abbrev pub ReportsOfLast : {B : Type 0} → History → List Answered → Office B → Type 0
 ReportsOfLast past [] office = (notes_in office ≡ []) × (outgoing_in office ≡ [])
 ReportsOfLast past (fed ∷ []) office = IsReported past fed.at fed.event fed.result office
 ReportsOfLast past (fed ∷ next ∷ later) office =
     ReportsOfLast (with_answer past fed.at fed.event fed.result) (next ∷ later) office
 
--- True if the office refused with `Stopped` exactly the events that came after it had stopped. The
--- office stops if an event that may end polls fails.
+-- True if exactly the events after the program had stopped were refused with `Stopped`. The program
+-- stops if an event that may end polls fails.
 abbrev pub StopsInTurn : (before after : Bool) → List Answered → Type 0
 StopsInTurn before after [] = after ≡ before
 StopsInTurn before after (fed ∷ later) =
     ((fed.result ≡ Err refusal.Stopped) ↔ (before ≡ true))
     × StopsInTurn (before || stops fed.event fed.result) after later
 
--- True if the failure counter changes with each answer as `Counts` defines.
+-- True if the failure counter changes with each answer as required: each failure of the store is
+-- counted once.
 abbrev pub CountInTurn : (before after : Failures) → List Answered → Type 0
 CountInTurn before after [] = after ≡ before
 CountInTurn before after (fed ∷ later) =
     (between : Failures) × Counts before between fed.result × CountInTurn between after later
 
--- True if the records that a crash may leave change with each answer as `LeftByEvent` defines.
+-- True if the records that may remain after a crash change with each answer to an event as
+-- required.
 abbrev pub LeftInTurn : History → List Answered → (before after : List (List Fact)) → Type 0
 LeftInTurn past [] before after = after ≡ before
 LeftInTurn past (fed ∷ later) before after =
     (between : List (List Fact)) × LeftByEvent past fed.at fed.event fed.result before between
     × LeftInTurn (with_answer past fed.at fed.event fed.result) later between after
 
--- True if the records that a crash may leave change with the accepted opening of a run of events,
--- and then with each answer.
+-- True if the records that may remain after a crash change as required: with the opening of the
+-- program, and then with each answer to an event.
 abbrev pub LeftByRun : History → (opened : ℕ) → List Answered → (before after : List (List Fact))
     → Type 0
 LeftByRun past opened fed before after =
     (between : List (List Fact)) × LeftOnceDone past (Opened opened) before between
     × LeftInTurn (Opened opened ∷ past) fed between after
 
--- True if the property `says` holds for each successful run of events over a store that agrees with
--- a history. The premise is that no wrong result of the store went undetected.
+-- True if the property `says` holds for each successful run of events over a store that has the
+-- records of a history. The premise is that no wrong result of the store went undetected.
 abbrev pub Ran : {B : Type 0} → (B → Ledger) → (books : B)
     → Result (Run B) (B × Refusal) → (History → Run B → Type 0) → Type 0
 Ran ledger books result says = (past : History) → BooksStand (ledger books) past
     → IfOk result (λ run. (ledger (books_in run.office)).is_clean → says past run)
 
--- True if the office after a run of events has processed all accepted events, and reports the last
--- event.
+-- True if after a run of events the program's state is that after all accepted events, and it
+-- reports the last event.
 pub record StandsAfter {B : Type 0} (ledger : B → Ledger)
     (begun : History) (events : List (ℕ × Event)) (run : Run B) : Type 0 where
   pub office : Stands ledger (history_after begun (events_of events run)) run.office
   pub reported : ReportsOfLast begun (events_of events run) run.office
 
 -- True if a run that could not start returns the store with the reason. Either memory for the
--- answers ran out and the store is unchanged, or the office's opening was refused or failed.
+-- answers ran out and the store is unchanged, or the opening of the program was refused or failed.
 abbrev pub HandsBack : {B : Type 0} → (B → Ledger) → (books : B) → (opened : ℕ) → History
     → B × Refusal → Type 0
 HandsBack ledger books opened past back =
     ((back.1 ≡ refusal.Memory) × (back.0 ≡ books))
     ⊎ HandsBackUnopened ledger books opened past back
 
--- True if the records that a crash may leave after a run of events follow from the answers. They
--- also depend on the records that a crash could leave before the run.
+-- True if the records that may remain after a run and a crash follow from the records before the
+-- run and from the answers of the run.
 abbrev pub LeavesInTurn : {B : Type 0} → (B → Ledger) → (books : B) → (opened : ℕ)
     → List (ℕ × Event) → History → Run B → Type 0
 LeavesInTurn ledger books opened events past run =
@@ -138,17 +139,17 @@ AnswersEach ledger books begun events run =
     AreAnswered begun (ledger books).failures
     (ledger (books_in run.office)).failures (events_of events run)
 
--- True if the store has the records of the history, and the promise in `Headline.antt` holds for
--- these records. Voided entries have no effect. If a meter has correct readings and is read often
--- enough, its recorded energy in each quarter hour is its true energy.
+-- True if the store has the records of the history, and each meter's recorded energy agrees with
+-- its readings. Voided (cancelled) entries have no effect. If a meter has correct readings and is
+-- read often enough, its recorded energy in each quarter hour is its true energy.
 pub record BooksRecord (books : Ledger) (history : History) : Type 0 where
   pub accepted : IsPast history
   pub holds : books.holds (facts_of history)
   pub headline : HeadlineHolds history
   pub laws : AreTrue history
 
--- True if the store has the records of all accepted events after a run of events, and the promise
--- in `Headline.antt` holds for these records.
+-- True if after a run of events the store has the records of all accepted events, and each meter's
+-- recorded energy agrees with its readings.
 abbrev pub RecordsAccepted : {B : Type 0} → (B → Ledger) → (opened : ℕ) → List (ℕ × Event)
     → History → Run B → Type 0
 RecordsAccepted ledger opened events past run =

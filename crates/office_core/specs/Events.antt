@@ -12,8 +12,7 @@ is_command (event.Gone given closing) = false
 is_command (event.Command c) = true
 is_command (event.Asked asked) = true
 
--- True if the event may end polls. Such an event is bytes from a device, the end of a connection,
--- or a timer event.
+-- True if the event may end polls: bytes from a device, the end of a connection, or a timer event.
 abbrev pub may_settle : Event → Bool
 may_settle (event.Connected given) = false
 may_settle (event.Bytes given piece) = true

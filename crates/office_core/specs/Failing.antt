@@ -20,60 +20,61 @@ StoreFailed store.Refused before after = after ≡ failed_by (fault.Store kind.R
 StoreFailed store.Damaged before after = after ≡ failed_by (fault.Store kind.Damaged) before
 StoreFailed store.NoDay before after = ⊥
 
--- True if memory ran out in the store, which counted the failure, or outside the store. Memory
--- outside the store is needed only if `takes_memory` holds.
+-- True if memory ran out, either in the store, which counted the failure, or outside the store. It
+-- may run out outside the store only if `takes_memory` holds.
 abbrev pub MemoryLacked : (takes_memory : Type 0) → (before after : Failures) → Type 0
 MemoryLacked takes_memory before after =
     (after ≡ failed_by fault.Memory before) ⊎ (takes_memory × (after ≡ before))
 
--- True if the refusal has a cause outside the request. The cause is that the store failed, that
--- memory ran out, or that the office has stopped.
+-- True if the cause of the refusal is not in the request. The cause is that the store failed, that
+-- memory ran out, or that the program has stopped.
 abbrev pub IsOutside : (takes_memory : Type 0) → (before after : Failures) → Refusal → Type 0
 IsOutside takes_memory before after (refusal.Store why) = StoreFailed why before after
 IsOutside takes_memory before after refusal.Memory = MemoryLacked takes_memory before after
 IsOutside takes_memory before after refusal.Stopped = after ≡ before
 IsOutside takes_memory before after _ = ⊥
 
--- True if the result is a refusal with a cause outside the request.
+-- True if the result is a refusal whose cause is not in the request: a failure of the store or of
+-- memory, or a stop.
 abbrev pub FailsOutside : {T : Type 0} → (takes_memory : Type 0) → (before after : Failures)
     → Result T Refusal → Type 0
 FailsOutside takes_memory before after (Ok x) = ⊥
 FailsOutside takes_memory before after (Err why) = IsOutside takes_memory before after why
 
--- The failure counter after an opening of the office. Each failure that the opening reports was
--- counted, unless memory ran out outside the store.
+-- The store's failure counter after an opening of the program. Each failure that the opening
+-- reports was counted, unless memory ran out outside the store.
 abbrev pub CountsFailures : {T : Type 0} → (before after : Failures) → Result T Refusal → Type 0
 CountsFailures before after (Ok x) = after ≡ before
 CountsFailures before after (Err (refusal.Store why)) = StoreFailed why before after
 CountsFailures before after (Err refusal.Memory) = MemoryLacked (Unit {0}) before after
 CountsFailures before after (Err _) = after ≡ before
 
--- The failure counter after an event was refused with a cause of the store. The failure was counted
--- once. `Refused` may also mean that all poll numbers are used, which is not counted.
+-- The store's failure counter after an event was refused with a cause of the store. The failure was
+-- counted once. `Refused` may also mean that all poll numbers are used, which is not counted.
 abbrev pub StoreCounts : (before after : Failures) → StoreCause → Type 0
 StoreCounts before after store.Refused =
     StoreFailed store.Refused before after ⊎ (after ≡ before)
 StoreCounts before after why = StoreFailed why before after
 
--- The failure counter after an event. Each failure that the answer reports was counted, with two
--- exceptions: memory ran out outside the store, or all poll numbers are used.
+-- The store's failure counter after an event. Each failure that the answer reports was counted,
+-- with two exceptions: memory ran out outside the store, or all poll numbers are used.
 abbrev pub Counts : {T : Type 0} → (before after : Failures) → Result T Refusal → Type 0
 Counts before after (Ok x) = after ≡ before
 Counts before after (Err (refusal.Store why)) = StoreCounts before after why
 Counts before after (Err refusal.Memory) = MemoryLacked (Unit {0}) before after
 Counts before after (Err _) = after ≡ before
 
--- True if the refusal is not `Stopped`.
+-- True if the refusal is not `Stopped`, which reports that the program has stopped.
 abbrev pub IsNotStopped : Refusal → Type 0
 IsNotStopped refusal.Stopped = ⊥
 IsNotStopped _ = Unit {0}
 
--- True if the cause is not that a quarter hour has no civil day.
+-- True if the cause of a failure is another than a quarter hour without a civil day.
 abbrev pub IsOfStore : StoreCause → Type 0
 IsOfStore store.NoDay = ⊥
 IsOfStore _ = Unit {0}
 
--- True if the refusal does not report that a quarter hour has no civil day.
+-- True if the refusal does not report a quarter hour without a civil day.
 abbrev pub IsNotForWantOfDay : Refusal → Type 0
 IsNotForWantOfDay (refusal.Store cause) = IsOfStore cause
 IsNotForWantOfDay _ = Unit {0}
@@ -85,7 +86,7 @@ is_failure (Err (refusal.Store why)) = true
 is_failure (Err refusal.Memory) = true
 is_failure (Err _) = false
 
--- True if the event stops the office. The event may end polls and failed, so some Modbus sessions
+-- True if the event stops the program. The event may end polls and failed, so some Modbus sessions
 -- may have been updated and others not.
 abbrev pub stops : Event → Result Answer Refusal → Bool
 stops e result = may_settle e && is_failure result

@@ -6,7 +6,7 @@
 --   the recorded differences of its resets and rescalings."
 --
 -- The definitions below state this promise for a history of accepted events. Energy is in mWh.
--- Voided readings are not counted.
+-- Voided (cancelled) readings are not counted.
 use Rattle.std.specs.Prelude.{◌≡◌, ℕ, ◌+◌, ◌*◌, ℤ, pos, ◌+ℤ◌, ◌-ℤ◌, List, [], ◌∷◌, All, sum_by}
 use Rattle.energy_core.specs.declared.entries.Last.{Last}
 use Rattle.energy_core.specs.declared.entries.Entry.{Entry}
@@ -21,11 +21,12 @@ use Rattle.office_books.specs.Intervals.{rows_of_opening}
 use Rattle.office_books.specs.History.{History, facts_of}
 use Rattle.office_books.specs.Endings.{EndsOnce}
 
--- The meter's "booked energy over all intervals": the sum over all quarter hours, in mWh.
+-- The meter's "booked energy over all intervals": the sum of its recorded energy over all quarter
+-- hours, in mWh.
 abbrev pub energy_booked : List Fact → Opening → ℕ
 energy_booked facts meter = sum_by (λ row. row.mwh) (rows_of_opening facts meter)
 
--- The meter's "first" accepted reading: the count of the counter at the meter's installation.
+-- The "first" accepted reading of a meter: the counter's value at the meter's installation.
 abbrev pub first_reading : Opening → Last
 first_reading meter = opened meter
 
@@ -38,8 +39,8 @@ last_reading facts meter = last_of (first_reading meter) (entries_of facts meter
 abbrev pub value : Last → ℤ
 value reading = pos (value_of reading)
 
--- The "one full range for each recorded rollover": the energy of the counter's full range at the
--- scale factor of each rollover, in mWh.
+-- The "one full range for each recorded rollover" of a meter: the energy of the counter's full
+-- range at the scale factor of each rollover, in mWh.
 abbrev pub full_ranges : (range : ℕ) → (first : Last) → List Entry → ℕ
 full_ranges range first [] = 0
 full_ranges range first (entry.Step at raw rolls ∷ earlier) =
@@ -47,8 +48,8 @@ full_ranges range first (entry.Step at raw rolls ∷ earlier) =
 full_ranges range first (entry.Change at before after sf ∷ earlier) =
     full_ranges range first earlier
 
--- The "recorded differences of its resets and rescalings": the value that the counter showed minus
--- the value that it was set to, in mWh.
+-- The "recorded differences of its resets and rescalings": the values that the counter showed minus
+-- the values that it was set to, in mWh.
 abbrev pub differences : (first : Last) → List Entry → ℤ
 differences first [] = pos 0
 differences first (entry.Step at raw rolls ∷ earlier) = differences first earlier
@@ -56,8 +57,9 @@ differences first (entry.Change at before after sf ∷ earlier) =
     pos (before * unit_of (last_of first earlier).sf) -ℤ pos (after * unit_of sf)
     +ℤ differences first earlier
 
--- True if the promise holds for one meter. Its booked energy equals its last reading minus its
--- first reading, plus the full ranges and the differences.
+-- True if the promise holds for one meter. Its recorded energy equals its last reading minus its
+-- first reading, plus the full ranges of rollovers and the differences at resets and changes of
+-- scale.
 abbrev pub AddsUp : List Fact → Opening → Type 0
 AddsUp facts meter =
     pos (energy_booked facts meter)
@@ -66,7 +68,7 @@ AddsUp facts meter =
     +ℤ differences (first_reading meter) (entries_of facts meter)
 
 -- True if the complete promise holds. Each started poll has exactly one recorded outcome or is
--- pending, and the booked energy of each installed meter adds up.
+-- pending, and the recorded energy of each installed meter agrees with its readings.
 pub record HeadlineHolds (history : History) : Type 0 where
   pub polls : All (EndsOnce history) (polls_in (facts_of history))
   pub meters : All (AddsUp (facts_of history)) (openings_in (facts_of history))

@@ -10,8 +10,8 @@ use Rattle.office_books.specs.History.{History, Accepted, Opened, Fed, facts_of}
 use Rattle.office_books.specs.Lawfulness.{IsPast}
 use Rattle.office_books.specs.Ledgers.{Ledger}
 
--- True if `facts` are the records of `past` and of one more event or opening. That event may follow
--- a different history, `earlier`, that has the same records as `past`.
+-- True if `facts` are the records after the history `past` and one more event or opening of the
+-- program. The event may follow another history, `earlier`, with the same records as `past`.
 pub record IsOneMore (past : History) (facts : List Fact) : Type 0 where
   pub next : Accepted
   pub earlier : History
@@ -19,13 +19,13 @@ pub record IsOneMore (past : History) (facts : List Fact) : Type 0 where
   pub same : facts_of earlier ≡ facts_of past
   pub are : facts ≡ facts_of (next ∷ earlier)
 
--- True if a crash may leave these records. They are the records of the accepted events, or the
--- records after one more event or opening.
+-- True if the store may have these records after a crash. They are the records of the accepted
+-- events, or the records after one more event or opening of the program.
 abbrev pub MayBeLeft : History → List Fact → Type 0
 MayBeLeft past facts = (facts ≡ facts_of past) ⊎ IsOneMore past facts
 
--- True if a crash leaves the records of the accepted events, with or without one more event or
--- opening. The contract of each call determines which event is possible.
+-- True if after a crash the store has the records of the accepted events, with or without one more
+-- event. The contract of each call determines which event is possible.
 pub record StopLeaves (ledger : Ledger) (past : History) : Type 0 where
   pub left : List (List Fact)
   pub may : ledger.may_leave left
@@ -38,27 +38,28 @@ pub record BooksStand (ledger : Ledger) (past : History) : Type 0 where
   pub holds : ledger.holds (facts_of past)
   pub leaves : StopLeaves ledger past
 
--- A crash may leave the database file in one of several states, each a list of records. In the
--- definitions below, `before` has the states that a crash during a call may leave. `after` has the
--- states that a crash after the call may leave.
+-- A crash may leave the database file in one of several states, each a list of records. Below,
+-- `before` has the states that a crash before a call may leave. `after` has those that a crash
+-- after the call may leave.
 
--- The effect of an accepted event or opening on the records that a crash may leave. A crash leaves
--- exactly the records with this event. If the event added no record, a crash may leave the same
--- lists of records as before.
+-- The effect of an accepted event or opening on the records that may remain after a crash. A crash
+-- leaves exactly the records with this event. If the event added no record, a crash may leave the
+-- same records as before.
 abbrev pub LeftOnceDone : History → Accepted → (before after : List (List Fact)) → Type 0
 LeftOnceDone past next before after =
     (after ≡ facts_of (next ∷ past) ∷ [])
     ⊎ ((facts_of (next ∷ past) ≡ facts_of past) × (after ≡ before))
 
--- The effect of a failed event on the records that a crash may leave. A crash may leave the same
--- lists of records as before the event. If no reason to refuse the event applies, a crash may also
--- leave the complete records of the event. An opening counts as an event.
+-- The effect of a failed event or opening on the records that may remain after a crash. A crash may
+-- leave the same records as before. If no reason to refuse the event applies, a crash may also
+-- leave the complete records of the event.
 abbrev pub LeftOnceFailed : History → Accepted → (before after : List (List Fact)) → Type 0
 LeftOnceFailed past next before after =
     (after ≡ before) ⊎ (IsPast (next ∷ past) × (after ≡ before ++ facts_of (next ∷ past) ∷ []))
 
--- The effect of an event with this answer on the records that a crash may leave. The event was
--- accepted, failed, or changed nothing. A retry or a refusal for another reason changes nothing.
+-- The effect of an event with this answer on the records that may remain after a crash. The event
+-- was accepted, failed, or changed nothing. A retry or a refusal for another reason changes
+-- nothing.
 abbrev pub LeftByEvent : History → (at : ℕ) → Event → Result Answer Refusal
     → (before after : List (List Fact)) → Type 0
 LeftByEvent past at e (Ok (answer.Again kind)) before after = after ≡ before
@@ -69,8 +70,8 @@ LeftByEvent past at e (Err refusal.Memory) before after =
     LeftOnceFailed past (Fed at e) before after
 LeftByEvent past at e (Err why) before after = after ≡ before
 
--- The effect of an opening with this result on the records that a crash may leave. The opening was
--- accepted, failed, or was refused for another reason.
+-- The effect of an opening of the program, with this result, on the records that may remain after a
+-- crash. The opening was accepted, failed, or was refused for another reason.
 abbrev pub LeftByOpening : {T : Type 0} → History → (at : ℕ) → Result T Refusal
     → (before after : List (List Fact)) → Type 0
 LeftByOpening past at (Ok x) before after = LeftOnceDone past (Opened at) before after
@@ -80,8 +81,8 @@ LeftByOpening past at (Err refusal.Memory) before after =
     LeftOnceFailed past (Opened at) before after
 LeftByOpening past at (Err why) before after = after ≡ before
 
--- True if `so` describes how a call changes the lists of records that a crash may leave: `before`
--- the call and `after` it.
+-- True if `so` describes how a call of the store changes the records that may remain after a crash:
+-- `before` the call and `after` it.
 abbrev pub Leaves : (old new : Ledger) → ((before after : List (List Fact)) → Type 0) → Type 0
 Leaves old new so = (before : List (List Fact)) → old.may_leave before
     → (after : List (List Fact)) × so before after × new.may_leave after

@@ -25,7 +25,8 @@ use Rattle.office_core.specs.Failing.{IsOutside}
 use Rattle.office_core.specs.Standing.{After}
 use Rattle.office_core.specs.Taking.{failures_of}
 
--- The interval rows of the named meter in a time span, or `None` if no meter has the name.
+-- The interval rows (energy by quarter hour) of the named meter in a time span, or `None` if no
+-- meter has the name.
 abbrev pub intervals_within : List Fact → (meter : Option (List ℕ)) → Span → Option (List Share)
 intervals_within facts meter span = option_map (rows_within span) (intervals_of facts meter)
 
@@ -48,19 +49,19 @@ entries_within facts meter from most =
     option_map (λ opening. first_from from most (entries_at facts (Some opening)))
     (option_and_then (opening_of facts) meter)
 
--- The meters at the named accounting register with their state (installation), or `None` if no
--- register has the name.
+-- The meters at the named accounting register, each with its installation, last entry and total
+-- energy. `None` if no register has the name.
 abbrev pub meters_at : List Fact → (register : List ℕ) → Option (List Installation)
 meters_at facts register =
     option_map (λ row. installations_of facts register) (register_of facts register)
 
--- The meters at the named accounting register with their state, or `None` if no register has the
--- name or the name is invalid.
+-- The meters at the named accounting register with their state. `None` if no register has the name
+-- or the name is invalid.
 abbrev pub meters_named : List Fact → (register : Option (List ℕ)) → Option (List Installation)
 meters_named facts register = option_and_then (meters_at facts) register
 
--- True if the result of a query is correct. The result is the list, `NotFound` if the list does not
--- exist, or a failure of the store or of memory.
+-- True if the result of a query for a list is correct. The result is the list, `NotFound` if the
+-- list does not exist, or a failure of the store or of memory.
 abbrev pub IsListed : {T : Type 0} → Option (List T) → (before after : Failures)
     → Result (Vec T Global) Refusal → Type 0
 IsListed rows before after (Ok listed) = (rows ≡ Some listed.items) × (after ≡ before)
@@ -68,14 +69,14 @@ IsListed None before after (Err why) =
     ((why ≡ refusal.NotFound) × (after ≡ before)) ⊎ IsOutside ⊥ before after why
 IsListed (Some rows) before after (Err why) = IsOutside ⊥ before after why
 
--- True if the list agrees with the store's records. The premise is that no wrong result of the
--- store went undetected.
+-- True if the list that a query returns agrees with the store's records. The premise is that no
+-- wrong result of the store went undetected.
 abbrev pub ListsIn : {T : Type 0} → (old new : Ledger) → Result (Vec T Global) Refusal
     → (List Fact → Option (List T)) → Type 0
 ListsIn old new result rows = (known : List Fact) → old.holds known → new.is_clean
     → IsListed (rows known) old.failures new.failures result
 
--- True if the list agrees with the records of all accepted events.
+-- True if the list that a query returns agrees with the records of all accepted events.
 abbrev pub ListsAccepted : {B T : Type 0} → (B → Ledger) → (old new : Office B)
     → Result (Vec T Global) Refusal → (List Fact → Option (List T)) → Type 0
 ListsAccepted ledger old new result rows = After ledger old new (λ past.

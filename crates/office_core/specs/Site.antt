@@ -1,4 +1,4 @@
--- The office's answer to the query for all accounting registers with their meters.
+-- The answer to the query for all accounting registers (named energy counters) with their meters.
 use Rattle.std.specs.Prelude.{◌≡◌, List, ◌++◌, map, reverse, Result, MatchResult, OnOk}
 use Rattle.std.specs.List.{flat_map}
 use Rattle.std.specs.declared.alloc.Global.{Global}
@@ -18,51 +18,54 @@ use Rattle.office_core.specs.Failing.{IsOutside}
 use Rattle.office_core.specs.Standing.{After}
 use Rattle.office_core.specs.Taking.{failures_of}
 
--- The row of an accounting register: the register and its latest meter with the meter's state, if
--- any.
+-- The row of an accounting register (a named energy counter): the register and its latest meter
+-- with the meter's state, if any.
 abbrev pub row_at : List Fact → Register → SiteRow
 row_at facts register =
     record { register = register; meter = installation_at facts register.name }
 
--- The rows of these accounting registers, in the same order.
+-- The rows of these accounting registers (named energy counters), in the same order.
 abbrev pub rows_at : List Fact → List Register → List SiteRow
 rows_at facts registers = map (row_at facts) registers
 
--- The rows of a device's accounting registers, in the order in which the registers were added.
+-- The rows of a device's accounting registers (named energy counters), in the order in which the
+-- registers were added.
 abbrev pub rows_of : List Fact → Device → List SiteRow
 rows_of facts device = rows_at facts (registers_of facts device.name)
 
--- The rows of the accounting registers of several devices, in the order of the devices.
+-- The rows of the accounting registers (named energy counters) of several devices, in the order of
+-- the devices.
 abbrev pub rows_of_all : List Fact → List Device → List SiteRow
 rows_of_all facts devices = flat_map (rows_of facts) devices
 
--- The rows of all accounting registers, device by device, in the order in which the devices were
--- added.
+-- The rows of all accounting registers (named energy counters), device by device, in the order in
+-- which the devices were added.
 abbrev pub site_of : List Fact → List SiteRow
 site_of facts = rows_of_all facts (reverse (devices_in facts))
 
--- True if the result is the list of all rows, or a failure. The list needs memory outside the
--- store.
+-- True if the result is the list of all accounting registers (named energy counters) with their
+-- meters, or a failure. The list needs memory outside the store.
 abbrev pub IsSite : List Fact → (before after : Failures) → Result (Vec SiteRow Global) Refusal
     → Type 0
 IsSite facts before after result = MatchResult result
     (λ rows. (rows.items ≡ site_of facts) × (after ≡ before))
     (IsOutside (Unit {0}) before after)
 
--- True if the rows agree with the store's records. The premise is that no wrong result of the store
--- went undetected.
+-- True if the listed accounting registers (named energy counters) and meters agree with the store's
+-- records. The premise is that no wrong result of the store went undetected.
 abbrev pub SiteIn : (old new : Ledger) → Result (Vec SiteRow Global) Refusal → Type 0
 SiteIn old new result = (known : List Fact) → old.holds known → new.is_clean
     → IsSite known old.failures new.failures result
 
--- True if the rows agree with the records of all accepted events.
+-- True if the listed accounting registers (named energy counters) and meters agree with the records
+-- of all accepted events.
 abbrev pub ReportsSite : {B : Type 0} → (B → Ledger) → (old new : Office B)
     → Result (Vec SiteRow Global) Refusal → Type 0
 ReportsSite ledger old new result = After ledger old new (λ past.
     IsSite (facts_of past) (failures_of ledger old) (failures_of ledger new) result)
 
--- True if exactly the expected rows are appended on `Ok`. The premise is that no wrong result of
--- the store went undetected.
+-- True if exactly the expected rows are appended to a list on `Ok`. The premise is that no wrong
+-- result of the store went undetected.
 abbrev pub AddsRows : {T E : Type 0} → (old new : Ledger) → (List Fact → List SiteRow)
     → (before after : List SiteRow) → Result T E → Type 0
 AddsRows old new says before after result = (known : List Fact) → old.holds known → new.is_clean

@@ -1,4 +1,4 @@
--- The office's answer to an event, and the office's state after the event.
+-- The program's answer to an event, and the program's state after the event.
 use Rattle.std.specs.Prelude.{◌≡◌, ◌⊎◌, ◌↔◌, ℕ, true, false, ◌||◌, [], None, Result, Err, IfErr}
 use Rattle.office_events.specs.declared.answers.Answer.{Answer}
 use Rattle.office_events.specs.declared.events.Event.{Event}
@@ -18,44 +18,44 @@ use Rattle.office_core.specs.Failing.{Counts, FailsOutside, IsNotStopped, IsNotF
 use Rattle.office_core.specs.Leaving.{BooksStand, Leaves, LeftByEvent}
 use Rattle.office_core.specs.Standing.{Goes, books_in, is_stopped, notes_in, outgoing_in}
 
--- The failure counter of the office's store.
+-- The failure counter of the program's store.
 abbrev pub failures_of : {B : Type 0} → (B → Ledger) → Office B → Failures
 failures_of ledger office = (ledger office.books).failures
 
--- True if the answer to an event is correct. The answer is the answer that `decision_of` defines,
--- or a failure. Memory outside the store is needed only if the event is accepted.
+-- True if the answer to an event is correct. It is the defined answer, or a failure. Memory outside
+-- the store is needed only if the event is accepted.
 abbrev pub IsAnswer : History → (at : ℕ) → Event → (before after : Failures)
     → Result Answer Refusal → Type 0
 IsAnswer past at e before after result =
     ((result ≡ decision_of past at e) × (after ≡ before))
     ⊎ FailsOutside (IsAccepted past at e) before after result
 
--- True if the office's answer to the event is correct, and the store's failure counter changes as
--- the answer requires.
+-- True if the answer to the event is correct, and the store's failure counter changes as the answer
+-- requires.
 abbrev pub AnswersEvent : {B : Type 0} → (B → Ledger) → (at : ℕ) → Event → (old new : Office B)
     → Result Answer Refusal → History → Type 0
 AnswersEvent ledger at e old new result past =
     IsAnswer past at e (failures_of ledger old) (failures_of ledger new) result
 
--- True if a crash after the event leaves the records that `LeftByEvent` defines for the answer.
+-- True if the records that may remain after a crash change as the answer to the event requires.
 abbrev pub LeavesEvent : {B : Type 0} → (B → Ledger) → (at : ℕ) → Event → (old new : Office B)
     → Result Answer Refusal → History → Type 0
 LeavesEvent ledger at e old new result past =
     Leaves (ledger (books_in old)) (ledger (books_in new)) (LeftByEvent past at e result)
 
--- True if the office has the notifications (outcomes and readings) and the frames of this event,
--- and no others.
+-- True if the program reports the notifications (outcomes and readings) and the frames to send of
+-- this event, and no others.
 pub record IsReported {B : Type 0} (past : History) (at : ℕ) (e : Event)
     (result : Result Answer Refusal) (office : Office B) : Type 0 where
   pub notes : notes_in office ≡ notes_after past at e result
   pub outgoing : outgoing_in office ≡ outgoing_after past at e result
 
--- The guarantees of an event, whatever the store returned. The office refuses the event as stopped
--- if and only if it has stopped, and never because a quarter hour has no civil day.
+-- The guarantees of processing an event, whatever the store returned. The program refuses the event
+-- as stopped if and only if it has stopped, and never because a quarter hour has no civil day.
 --
--- If an event that may end polls fails, the office stops. The office reports exactly the store's
--- failures. If the store is clean (no wrong result went undetected) after the event, it was clean
--- before. The time zone stays the same.
+-- If an event that may end polls fails, the program stops. It reports exactly the store's failures.
+-- If the store is clean (no wrong result went undetected) after the event, it was clean before. The
+-- time zone stays the same.
 pub record Ends {B : Type 0} (ledger : B → Ledger) (old new : Office B) (e : Event)
     (result : Result Answer Refusal) : Type 0 where
   pub stopped : (result ≡ Err refusal.Stopped) ↔ (is_stopped old ≡ true)
@@ -76,9 +76,9 @@ pub record IsQuiet {B : Type 0} (old new : Office B) (result : Result Answer Ref
   pub answer : is_failure result ≡ false
   pub books : books_in new ≡ books_in old
 
--- The preconditions of processing an event. The office is running, and its notifications and bytes
--- to send are cleared. If the event sets a point list, the list has a plan: the Modbus reads that
--- cover it.
+-- The preconditions of processing an event. The program is running, and its notifications and bytes
+-- to send are cleared. If the event sets a point list (the Modbus registers to read), the list has
+-- a plan: the reads that cover it.
 pub record MayTake {B : Type 0} (ledger : B → Ledger) (past : History) (e : Event)
     (office : Office B) : Type 0 where
   pub books : BooksStand (ledger office.books) past
@@ -88,7 +88,8 @@ pub record MayTake {B : Type 0} (ledger : B → Ledger) (past : History) (e : Ev
   pub outgoing : outgoing_in office ≡ []
 
 -- The effect of processing an event. The answer and the notifications are correct, and the store
--- has the records after the event. The office agrees with these records unless it has stopped.
+-- has the records after the event. The program's state agrees with these records unless the program
+-- has stopped.
 pub record Takes {B : Type 0} (ledger : B → Ledger) (past : History) (at : ℕ) (e : Event)
     (old new : Office B) (result : Result Answer Refusal) : Type 0 where
   pub answer : IsAnswer past at e
@@ -98,7 +99,7 @@ pub record Takes {B : Type 0} (ledger : B → Ledger) (past : History) (at : ℕ
   pub goes : stops e result ≡ false → Goes (with_answer past at e result) new
   pub reported : IsReported past at e result new
 
--- True if the office processed the event correctly for every history before the event. The premise
+-- True if the program processed the event correctly for every history before the event. The premise
 -- is that no wrong result of the store went undetected.
 abbrev pub TakesAny : {B : Type 0} → (B → Ledger) → (at : ℕ) → Event → (old new : Office B)
     → Result Answer Refusal → Type 0
@@ -106,8 +107,8 @@ TakesAny ledger at e old new result =
     (past : History) → MayTake ledger past e old → (ledger (books_in new)).is_clean
     → Takes ledger past at e old new result
 
--- True if the office processed the event correctly for every history that accepts the event. This
--- requires that no wrong result of the store went undetected.
+-- True if the program processed the event correctly for every history that accepts the event. The
+-- premise is that no wrong result of the store went undetected.
 abbrev pub TakesAccepted : {B : Type 0} → (B → Ledger) → (at : ℕ) → Event → (old new : Office B)
     → Result Answer Refusal → Type 0
 TakesAccepted ledger at e old new result =
@@ -115,7 +116,7 @@ TakesAccepted ledger at e old new result =
     → (ledger (books_in new)).is_clean
     → Takes ledger past at e old new result
 
--- The guarantees of processing an event, whatever the store returned. The office reports exactly
+-- The guarantees of processing an event, whatever the store returned. The program reports exactly
 -- the store's failures. If the store is clean (no wrong result went undetected) after the event, it
 -- was clean before. The time zone and the stopped flag stay the same.
 --

@@ -1,4 +1,4 @@
-//! Executes the commands that the office accepts, on its store and on the Modbus sessions of its
+//! Executes the commands that the program accepts, on its store and on the Modbus sessions of its
 //! devices.
 
 mod additions;

@@ -44,8 +44,8 @@ fn latest(day: Day) -> u64
     begin_of(day.to_plain().to_unix_epoch_day() + MARGIN)
 }
 
-/// Returns the time span from two days before `from` to two days after `till`, or the span of all
-/// times if an end is open.
+/// Returns the time span from two days before `from` to two days after `till`. If `from` or `till`
+/// is open, the span contains all times.
 fn span_between(from: Option<Day>, till: Option<Day>) -> Span
     ensures { result ≡ range.span_between from till }
 {

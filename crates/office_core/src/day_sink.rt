@@ -1,4 +1,5 @@
-//! A sink that adds up interval rows by civil day.
+//! A sink that adds up interval rows (energy by quarter hour) by civil day. A sink receives the
+//! rows of a query one by one.
 ghost use Rattle.std.specs.Prelude.{◌≡◌};
 ghost use Rattle.std.proofs.Props.{props};
 
@@ -7,8 +8,8 @@ use office_books::RowSink;
 use office_events::{Refusal, StoreCause};
 use std::alloc::Global;
 
-/// A sink that adds up interval rows by civil day. After its first failure, the sink ignores all
-/// further rows.
+/// A sink that adds up interval rows (energy by quarter hour) by civil day. After its first
+/// failure, the sink ignores all further rows.
 #[derive(Drop)]
 pub struct DaySink {
     zone: Zone,
@@ -23,7 +24,8 @@ impl DaySink {
     ghost use Rattle.interval_core.specs.Fold.{HasTaken};
     ghost use Rattle.office_core.specs.DaySums.{AddsRow, EndsAs};
 
-    /// Creates a sink that has received no interval rows, without allocating memory.
+    /// Creates a sink for sums by civil day that has received no interval rows, without allocating
+    /// memory.
     pub fn new(alloc: Global, zone: Zone) -> DaySink
         ensures zone { result.zone ≡ zone }
         ensures works { result.fault ≡ None }
@@ -37,8 +39,8 @@ impl DaySink {
         }
     }
 
-    /// Adds an interval row to its civil day. The sink fails if the row starts before an earlier
-    /// row or after the last timestamp that has a civil day.
+    /// Adds an interval row to the energy of its civil day. The sink fails if the row starts before
+    /// an earlier row or after the last timestamp that has a civil day.
     fn add(&mut self, row: Share)
         requires works { self.old.fault ≡ None }
         ensures { AddsRow self.old row self.new }
@@ -53,7 +55,8 @@ impl DaySink {
         }
     }
 
-    /// Returns the days in order, or the refusal that reports the sink's first failure.
+    /// Returns the energy of each civil day, in order, or the refusal that reports the sink's first
+    /// failure.
     pub fn into_days(self) -> Result<Vec<DayTotal>, Refusal>
         ensures { EndsAs self.fault self.fold.accounts result }
     {

@@ -1,4 +1,4 @@
-//! Decides whether an event is accepted, before the office executes the event.
+//! Decides whether an event is accepted, before the program executes the event.
 ghost use Rattle.std.specs.Prelude.{◌≡◌, None, false, IfOk, IfSome};
 ghost use Rattle.office_books.specs.Sessions.{command_in};
 ghost use Rattle.office_core.specs.Sessions.Places.{AsksOnSlot};
@@ -50,7 +50,7 @@ fn is_failure(given: &Result<Answer, Refusal>) -> bool
     matches!(given, Err(Refusal::Store(_)) | Err(Refusal::Memory))
 }
 
-/// Returns true if the office stops after this answer: the event may end polls, and the store
+/// Returns true if the program stops after this answer: the event may end polls, and the store
 /// failed or memory ran out.
 pub fn stops(event: &Event, given: &Result<Answer, Refusal>) -> bool
     ensures { result ≡ failing.stops event.now given.now }
@@ -58,7 +58,8 @@ pub fn stops(event: &Event, given: &Result<Answer, Refusal>) -> bool
     may_settle(event) && is_failure(given)
 }
 
-/// Proves that a point list in the event has a plan: the Modbus reads that cover the list.
+/// Proves that a point list (the Modbus registers to read) in the event has a plan: the reads that
+/// cover the list.
 pub fn prove_list_is_planned(event: &Event)
     ensures { PutsPlanned (command_in event.now) }
 {

@@ -1,4 +1,4 @@
-//! Opens an office over a store and processes a list of events.
+//! Opens the program over a store and processes a list of events.
 ghost use Rattle.std.specs.Prelude.{◌∷◌, Err, IfOk, IfErr};
 ghost use Rattle.office_books.specs.History.{History, Opened};
 ghost use Rattle.office_core.specs.Leaving.{BooksStand};
@@ -12,13 +12,13 @@ use office_books::{Books, books_are_true};
 use office_events::{Event, Refusal};
 use std::alloc::Global;
 
-/// Opens an office over a store and processes these events, each at its timestamp.
+/// Opens the program over a store and processes these events, each at its timestamp.
 ///
 /// Timestamps are in seconds since 1970-01-01 UTC. Each event has one answer. At the end the store
-/// has the records of the accepted events, and the promise in `Headline.antt` holds for them. The
+/// has the records of the accepted events, and their energy agrees with the meters' readings. The
 /// premise is that no wrong result of the store went undetected.
 ///
-/// The run allocates memory for all answers before it opens the office. If the allocation or the
+/// The run allocates memory for all answers before it opens the store. If the allocation or the
 /// opening fails, the caller gets the store back.
 pub fn run<B: Books>(
     alloc: Global,

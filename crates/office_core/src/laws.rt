@@ -10,8 +10,8 @@ pub fn events_are_left_whole()
     ensures { EventsAreLeftWhole }
 {}
 
-/// Proves the theorem of `events_are_left_whole` for a run of events, which starts with the opening
-/// of the office.
+/// Proves the theorem of `events_are_left_whole` (after a crash the store has all acknowledged
+/// events) for a run that begins with an opening.
 pub fn runs_are_left_whole()
     ensures { RunsAreLeftWhole }
 {}

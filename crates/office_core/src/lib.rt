@@ -1,4 +1,5 @@
-//! The office, which accepts events, polls devices, and records the energy of their meters.
+//! The part of the program that accepts events, polls devices, and records the energy of their
+//! meters.
 #![tactic(auto)]
 
 mod commands;

@@ -1,4 +1,4 @@
-//! The office, with its opening, its events and its queries.
+//! The type `Office`, which accepts events and answers queries, and its opening over a store.
 ghost use Rattle.std.specs.Prelude.{◌≡◌, ◌≤◌, ◌∷◌, true, false, None, Ok, Err};
 ghost use Rattle.std.specs.Prelude.{IfOk, IfErr, MatchResult};
 ghost use Rattle.std.specs.Option.{option_and_then};
@@ -39,7 +39,8 @@ use office_events::{
 };
 use std::alloc::Global;
 
-/// An office, which accepts events, polls devices, and records the energy of their meters.
+/// An office: the part of the program that accepts events, polls devices, and records the energy of
+/// their meters.
 #[derive(Drop)]
 pub struct Office<B: Books> {
     alloc: Global,
@@ -54,8 +55,8 @@ pub struct Office<B: Books> {
 impl<B: Books> Office<B> {
     /// Opens an office over a store, at the timestamp `moment` in seconds since 1970-01-01 UTC.
     ///
-    /// At the opening no device is connected, and the office records each poll that was still
-    /// pending as lost. If the opening is refused, the caller gets the store back.
+    /// At the opening no device is connected, and each poll that was still pending is recorded as
+    /// lost. If the opening is refused, the caller gets the store back.
     pub fn open(alloc: Global, mut books: B, moment: u64) -> Result<Office<B>, (B, Refusal)>
         ensures opened { (past : History) → BooksStand (B.ledger books) past
             → IfOk result (StandsIfClean B.ledger (Opened moment ∷ past)) }
@@ -82,10 +83,11 @@ impl<B: Books> Office<B> {
         }
     }
 
-    /// Opens an office for queries, at the later of `moment` and the latest timestamp in the store.
+    /// Opens the program's store for queries, at the later of `moment` and the latest timestamp in
+    /// the store.
     ///
-    /// A clock that was set back therefore does not prevent queries. The office records each
-    /// pending poll as lost.
+    /// A clock that was set back therefore does not prevent queries. Each pending poll is recorded
+    /// as lost.
     pub fn open_to_ask(alloc: Global, mut books: B, moment: u64) -> Result<Office<B>, (B, Refusal)>
         ensures opened { (past : History) → BooksStand (B.ledger books) past
             → IfOk result (StandsIfClean B.ledger (Opened (asking_moment past moment) ∷ past)) }
@@ -144,7 +146,7 @@ impl<B: Books> Office<B> {
         }
     }
 
-    /// Processes an event while the office is running. A retry gets its stored answer, and an
+    /// Processes an event while the program is running. A retry gets its stored answer, and an
     /// invalid event is refused. Any other event ends polls or executes its command.
     fn process_event(&mut self, moment: u64, event: &Event) -> Result<Answer, Refusal>
         ensures takes { TakesAny B.ledger moment event.now self.old self.new result }
@@ -167,10 +169,10 @@ impl<B: Books> Office<B> {
 
     /// Processes an event at the timestamp `moment`, in seconds since 1970-01-01 UTC.
     ///
-    /// A refused event or a retry only clears `notes` and `outgoing`. If the store fails or memory
-    /// runs out while polls end, the office stops and refuses all events until it is opened again.
-    /// A device event that is refused, or that ends no poll, needs no query of the store and no
-    /// memory.
+    /// A refused event or a retry only clears the notifications and the bytes to send. If the store
+    /// fails or memory runs out while polls end, the office stops and refuses all events until it
+    /// is opened again. A device event that is refused, or that ends no poll, needs no query of the
+    /// store and no memory.
     pub fn feed(&mut self, moment: u64, event: &Event) -> Result<Answer, Refusal>
         ensures answers { After B.ledger self.old self.new
             (AnswersEvent B.ledger moment event.now self.old self.new result) }
@@ -196,7 +198,7 @@ impl<B: Books> Office<B> {
         answer
     }
 
-    /// Returns the device with the name. The name `None` is invalid, and no device has it.
+    /// Returns the device with the name. The name `None` is an invalid name, which no device has.
     pub fn device(&mut self, name: &Option<Name>) -> Result<Device, Refusal>
         ensures found { ReportsRow B.ledger self.old self.new result
             (λ facts. option_and_then (device_of facts) name.now) }
@@ -209,8 +211,8 @@ impl<B: Books> Office<B> {
         questions::device(&mut self.books, name)
     }
 
-    /// Returns the accounting register with the name. The name `None` is invalid, and no register
-    /// has it.
+    /// Returns the accounting register (a named energy counter) with the name. The name `None` is
+    /// invalid, and no register has it.
     pub fn register(&mut self, name: &Option<Name>) -> Result<Register, Refusal>
         ensures found { ReportsRow B.ledger self.old self.new result
             (λ facts. option_and_then (register_of facts) name.now) }
@@ -223,8 +225,8 @@ impl<B: Books> Office<B> {
         questions::register(&mut self.books, name)
     }
 
-    /// Returns the installation of the meter with the name: its opening, last entry and total
-    /// energy. The name `None` is invalid, and no meter has it.
+    /// Returns the meter with the name: its installation, last entry and total energy. The name
+    /// `None` is invalid, and no meter has it.
     pub fn meter(&mut self, name: &Option<Name>) -> Result<Installation, Refusal>
         ensures found { ReportsRow B.ledger self.old self.new result
             (λ facts. option_and_then (meter_of facts) name.now) }
@@ -237,8 +239,8 @@ impl<B: Books> Office<B> {
         questions::meter(&mut self.books, name)
     }
 
-    /// Returns the latest meter at an accounting register, open or closed, with its state. The name
-    /// `None` is invalid, and no register has it.
+    /// Returns the latest meter at an accounting register (a named energy counter), open or closed,
+    /// with its last entry and total energy. The name `None` is invalid, and no register has it.
     pub fn installation(&mut self, register: &Option<Name>) -> Result<Installation, Refusal>
         ensures found { ReportsRow B.ledger self.old self.new result
             (λ facts. option_and_then (installation_at facts) register.now) }
@@ -251,8 +253,8 @@ impl<B: Books> Office<B> {
         questions::installation(&mut self.books, register)
     }
 
-    /// Compares a request with the stored request of the same idempotency key. The result is `Same`
-    /// or `Other`.
+    /// Compares a request with the stored request that has the same idempotency key. The result is
+    /// `Same` or `Other`.
     ///
     /// Returns `NotFound` if the store has no request with this key.
     pub fn repeat(
@@ -343,8 +345,9 @@ impl<B: Books> Office<B> {
         questions::holds(&mut self.books, meter, span, sink)
     }
 
-    /// Returns the meters at an accounting register with their state, in order of installation,
-    /// closed meters included. The name `None` is invalid, and no register has it.
+    /// Returns the meters at an accounting register with their last entries and total energy, in
+    /// order of installation, closed meters included. The name `None` is invalid, and no register
+    /// has it.
     pub fn meters(&mut self, register: &Option<Name>) -> Result<Vec<Installation>, Refusal>
         ensures listed { ListsAccepted B.ledger self.old self.new result
             (λ facts. meters_named facts register.now) }
@@ -358,7 +361,7 @@ impl<B: Books> Office<B> {
     }
 
     /// Returns at most `most` entries of a meter from sequence number `from` on, in order, voided
-    /// entries included. The opening has number 1.
+    /// (cancelled) entries included. The opening, which installs the meter, has number 1.
     pub fn entries(
         &mut self,
         meter: &Option<Name>,
@@ -376,11 +379,11 @@ impl<B: Books> Office<B> {
         questions::entries(&mut self.books, meter, from, most)
     }
 
-    /// Passes the energy of an accounting register to the sink, in mWh: one row for each civil day
-    /// in the store's time zone.
+    /// Passes the energy of an accounting register (a named energy counter) to the sink, in mWh:
+    /// one row for each civil day in the store's time zone.
     ///
-    /// The sink gets the days in order, after all of them are added up. A register without an
-    /// installed meter has no days.
+    /// The sink gets the days in order, after the energy of all days was added up. A register
+    /// without an installed meter has no days.
     pub fn days<K: RowSink<DayTotal>>(
         &mut self,
         register: &Option<Name>,
@@ -401,7 +404,7 @@ impl<B: Books> Office<B> {
     /// Passes the energy of an accounting register on the days of `range` to the sink, one row for
     /// each civil day.
     ///
-    /// If both ends of the range are given, the office reads only the quarter hours of these days,
+    /// If both ends of the range are given, the query reads only the quarter hours of these days,
     /// and of two more days at each end.
     pub fn days_within<K: RowSink<DayTotal>>(
         &mut self,
@@ -421,8 +424,8 @@ impl<B: Books> Office<B> {
         questions::days_within(self.alloc, &mut self.books, register, range, sink)
     }
 
-    /// Returns all accounting registers, each with the latest meter that was installed at it, if
-    /// any.
+    /// Returns all accounting registers (named energy counters), each with the latest meter that
+    /// was installed at it, if any.
     ///
     /// The devices, and the registers of each device, are in the order in which they were added.
     pub fn site(&mut self) -> Result<Vec<SiteRow>, Refusal>
@@ -452,7 +455,7 @@ impl<B: Books> Office<B> {
         &self.notes
     }
 
-    /// Closes the office and returns its store.
+    /// Closes the office (the part of the program that uses the store) and returns its store.
     pub fn into_books(self) -> B
         ensures { result ≡ books_in self }
     {

@@ -1,4 +1,4 @@
-//! Opens an office over an existing store, and records its pending polls as lost.
+//! Opens the program over an existing store, and records the store's pending polls as lost.
 
 mod opened_office;
 

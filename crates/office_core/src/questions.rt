@@ -21,7 +21,7 @@ use office_books::{Books, BooksFault, MeterEntry, Repeat, RowSink, Span, registe
 use office_events::{Device, HeldReading, Installation, Name, PollRow, Refusal, Register};
 use std::alloc::Global;
 
-/// Returns the office's answer for this result of a lookup: the row, `NotFound`, or the refusal
+/// Returns the answer for the result of a lookup in the store: the row, `NotFound`, or the refusal
 /// that reports the store's failure.
 fn found<T: Drop>(answer: Result<Option<T>, BooksFault>) -> Result<T, Refusal>
     ensures { result ≡ answered answer }
@@ -47,7 +47,8 @@ fn last_named(devices: &[Device], name: &Name) -> Option<Device>
     last
 }
 
-/// Returns the device with this name, or `None`. It searches all devices, at most 64.
+/// Returns the device with this name, or `None` if no device has the name. The function searches
+/// all devices, at most 64.
 fn device_in<B: Books>(books: &mut B, name: &Name) -> Result<Option<Device>, BooksFault>
     ensures found { Finds (B.ledger books.old) (B.ledger books.new) result
         (λ known row. row ≡ device_of known name.now) }
@@ -72,7 +73,8 @@ pub fn device<B: Books>(books: &mut B, name: &Option<Name>) -> Result<Device, Re
     found(device_in(books, name))
 }
 
-/// Returns the accounting register with this name, or the refusal `NotFound`.
+/// Returns the accounting register (a named energy counter) with this name, or the refusal
+/// `NotFound`.
 pub fn register<B: Books>(books: &mut B, name: &Option<Name>) -> Result<Register, Refusal>
     ensures found { FoundIn (B.ledger books.old) (B.ledger books.new) result
         (λ known. option_and_then (register_of known) name.now) }
@@ -85,8 +87,7 @@ pub fn register<B: Books>(books: &mut B, name: &Option<Name>) -> Result<Register
     found(books.register(name))
 }
 
-/// Returns the installation of a meter (its opening, last entry and total energy), or the refusal
-/// `NotFound`.
+/// Returns a meter with its installation, last entry and total energy, or the refusal `NotFound`.
 pub fn meter<B: Books>(books: &mut B, name: &Option<Name>) -> Result<Installation, Refusal>
     ensures found { FoundIn (B.ledger books.old) (B.ledger books.new) result
         (λ known. option_and_then (meter_of known) name.now) }
@@ -99,8 +100,8 @@ pub fn meter<B: Books>(books: &mut B, name: &Option<Name>) -> Result<Installatio
     found(books.meter(name))
 }
 
-/// Returns the latest meter at an accounting register with its state (installation), or the refusal
-/// `NotFound`.
+/// Returns the latest meter at an accounting register (a named energy counter) with its last entry
+/// and total energy, or the refusal `NotFound`.
 pub fn installation<B: Books>(
     books: &mut B,
     register: &Option<Name>,
@@ -116,8 +117,8 @@ pub fn installation<B: Books>(
     found(books.installation(name))
 }
 
-/// Compares a request with the stored request of the same idempotency key, or returns the refusal
-/// `NotFound` if the store has no request with this key.
+/// Compares a request with the stored request that has the same idempotency key. Returns the
+/// refusal `NotFound` if the store has no request with this key.
 pub fn repeat<B: Books>(
     books: &mut B,
     caller: &Option<Name>,
@@ -204,8 +205,8 @@ pub fn holds<B: Books, K: RowSink<HeldReading>>(
     Ok(())
 }
 
-/// Returns the meters at an accounting register with their state, in order of installation, closed
-/// meters included.
+/// Returns the meters at an accounting register with their last entries and total energy, in order
+/// of installation, closed meters included.
 pub fn meters<B: Books>(
     books: &mut B,
     register: &Option<Name>,
@@ -223,7 +224,7 @@ pub fn meters<B: Books>(
 }
 
 /// Returns at most `most` entries of a meter from sequence number `from` on, in order, voided
-/// entries included. The opening has number 1.
+/// (cancelled) entries included. The opening, which installs the meter, has number 1.
 pub fn entries<B: Books>(
     books: &mut B,
     meter: &Option<Name>,
@@ -242,7 +243,7 @@ pub fn entries<B: Books>(
     Ok(books.entries(meter, from, most)?)
 }
 
-/// Passes all of these days to the sink, in order.
+/// Passes all of these days, each with its energy, to the sink, in order.
 fn hand_on<K: RowSink<DayTotal>>(days: &[DayTotal], sink: &mut K)
     ensures took { TakesAll K.takes sink.old days.now sink.new }
     ensures few { length days.now < 2 ^ 64 }
@@ -252,7 +253,7 @@ fn hand_on<K: RowSink<DayTotal>>(days: &[DayTotal], sink: &mut K)
     }
 }
 
-/// Returns the civil days of a recorded register's quarter hours in a time span, in order.
+/// Returns the energy of a recorded register in a time span by civil day, in order.
 fn days_of<B: Books>(
     alloc: Global,
     books: &mut B,
@@ -268,8 +269,8 @@ fn days_of<B: Books>(
     days.into_days()
 }
 
-/// Passes the energy of an accounting register to the sink, in mWh: one row for each civil day in
-/// the store's time zone.
+/// Passes the energy of an accounting register (a named energy counter) to the sink, in mWh: one
+/// row for each civil day in the store's time zone.
 pub fn days<B: Books, K: RowSink<DayTotal>>(
     alloc: Global,
     books: &mut B,
@@ -290,7 +291,7 @@ pub fn days<B: Books, K: RowSink<DayTotal>>(
     Ok(())
 }
 
-/// Returns the civil days of a recorded register that are in the range, in order.
+/// Returns the energy of a recorded register on each civil day in the range, in order.
 fn days_in<B: Books>(
     alloc: Global,
     books: &mut B,
@@ -307,8 +308,8 @@ fn days_in<B: Books>(
     Ok(days)
 }
 
-/// Passes the energy of an accounting register on the days of a range to the sink, in mWh: one row
-/// for each civil day.
+/// Passes the energy of an accounting register (a named energy counter) on the days of a range to
+/// the sink, in mWh: one row for each civil day.
 pub fn days_within<B: Books, K: RowSink<DayTotal>>(
     alloc: Global,
     books: &mut B,

@@ -1,10 +1,10 @@
-//! The result of a run of events. The type has its own module, because a module cannot contain both
-//! the type `Run` and the function `run`.
+//! The result of a run of events. The type `Run` has its own module, because a module cannot
+//! contain both `Run` and the function `run`.
 use crate::office::Office;
 use office_books::Books;
 use office_events::{Answer, Refusal};
 
-/// The office after a run of events, and the answer to each event, in order.
+/// The program's state after a run of events, and the answer to each event, in order.
 #[derive(Drop)]
 pub struct Run<B: Books> {
     pub office: Office<B>,

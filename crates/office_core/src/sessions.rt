@@ -1,5 +1,5 @@
-//! Defines the slot of a device, which has the device's session while the device is connected, and
-//! finds slots by device name.
+//! Defines the slot of a device, which has the state of the connection (the session) while the
+//! device is connected. Finds slots by device name.
 
 mod places;
 mod slots;

@@ -1,4 +1,4 @@
-//! Queries the store for all accounting registers with their meters.
+//! Queries the store for all accounting registers (named energy counters) with their meters.
 ghost use Rattle.std.specs.Prelude.{◌≡◌, ◌∷◌, [], IfErr};
 ghost use Rattle.office_books.specs.Ledgers.{Consults, Finds};
 ghost use Rattle.office_core.specs.Asking.{Asks};
@@ -10,14 +10,15 @@ use office_books::{Books, BooksFault};
 use office_events::{Device, Installation, Refusal, Register};
 use std::alloc::Global;
 
-/// An accounting register, with the latest meter that was installed at it, open or closed, if any.
+/// An accounting register (a named energy counter), with the latest meter that was installed at it,
+/// open or closed, if any.
 #[derive(Clone, Copy)]
 pub struct SiteRow {
     pub register: Register,
     pub meter: Option<Installation>,
 }
 
-/// Appends the row of an accounting register to `rows`.
+/// Appends an accounting register (a named energy counter) with its latest meter to `rows`.
 fn add_register<B: Books>(
     rows: &mut Vec<SiteRow>,
     books: &mut B,
@@ -35,7 +36,8 @@ fn add_register<B: Books>(
     Ok(())
 }
 
-/// Appends the rows of these accounting registers to `rows`, in order.
+/// Appends these accounting registers (named energy counters) with their latest meters to `rows`,
+/// in order.
 fn add_registers<B: Books>(
     rows: &mut Vec<SiteRow>,
     books: &mut B,
@@ -51,7 +53,8 @@ fn add_registers<B: Books>(
     Ok(())
 }
 
-/// Appends the rows of a device's accounting registers to `rows`.
+/// Appends a device's accounting registers (named energy counters) with their latest meters to
+/// `rows`.
 fn add_device<B: Books>(
     rows: &mut Vec<SiteRow>,
     books: &mut B,
@@ -65,7 +68,8 @@ fn add_device<B: Books>(
     add_registers(rows, books, &registers)
 }
 
-/// Appends the rows of these devices' accounting registers to `rows`, in order.
+/// Appends these devices' accounting registers (named energy counters) with their latest meters to
+/// `rows`, in order.
 fn add_devices<B: Books>(
     rows: &mut Vec<SiteRow>,
     books: &mut B,
@@ -81,7 +85,8 @@ fn add_devices<B: Books>(
     Ok(())
 }
 
-/// Returns the rows of all accounting registers in the store.
+/// Returns all accounting registers (named energy counters) in the store, each with its latest
+/// meter.
 fn rows_in<B: Books>(alloc: Global, books: &mut B) -> Result<Vec<SiteRow>, BooksFault>
     ensures found { Finds (B.ledger books.old) (B.ledger books.new) result
         (λ known rows. rows.items ≡ site_of known) }
@@ -93,8 +98,8 @@ fn rows_in<B: Books>(alloc: Global, books: &mut B) -> Result<Vec<SiteRow>, Books
     Ok(rows)
 }
 
-/// Returns all accounting registers with their latest meters. The devices, and the registers of
-/// each device, are in the order in which they were added.
+/// Returns all accounting registers (named energy counters) with their latest meters. The devices,
+/// and the registers of each device, are in the order in which they were added.
 pub fn rows<B: Books>(alloc: Global, books: &mut B) -> Result<Vec<SiteRow>, Refusal>
     ensures found { SiteIn (B.ledger books.old) (B.ledger books.new) result }
     ensures asks { Asks (B.ledger books.old) (B.ledger books.new) result }

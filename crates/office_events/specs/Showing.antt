@@ -1,4 +1,4 @@
--- The report that an observer gets of each event that reaches the office.
+-- The report that an observer gets of each event that the program processes.
 use Rattle.std.specs.Prelude.{ℕ, List, Option, Result}
 use Rattle.office_events.specs.declared.answers.Answer.{Answer}
 use Rattle.office_events.specs.declared.answers.Note.{Note}
@@ -6,7 +6,7 @@ use Rattle.office_events.specs.declared.events.Event.{Event}
 use Rattle.office_events.specs.declared.refusals.Refusal.{Refusal}
 
 -- The report of an event: its time, the event, its answer, its notifications and the frames to
--- send. `place` is the index of the device whose polling round (the reads of its plan) caused the
+-- send. `place` is the index of the device whose polling round (all reads of the device) caused the
 -- event, or `None`.
 pub record Shown : Type 0 where
   pub place : Option ℕ

@@ -1,5 +1,6 @@
-//! Commands to the office, which is the program's state over one store. The office checks the
-//! ranges of all numbers in a command. A name is `None` if the caller's text is not a valid name.
+//! Commands that change what the program's store has: devices, registers, meters and entries. The
+//! program checks the ranges of all numbers in a command. A name is `None` if the caller's text is
+//! not a valid name.
 use crate::names::Name;
 use mb_wire::ReadSpan;
 use read_plan::PlannedList;
@@ -12,18 +13,18 @@ pub struct AddDevice {
     pub unit: u64,
     /// The time limit for the device's response to a poll, 1 to 60 seconds.
     pub timeout: u64,
-    /// The maximum number of the device's pending polls, 1 to 16.
+    /// The maximum number of the device's polls that wait for a response at the same time, 1 to 16.
     pub window: u64,
 }
 
-/// The command to set or replace the point list of a device.
+/// The command to set or replace the point list of a device (the Modbus registers to read).
 #[derive(Drop)]
 pub struct PutList {
     pub device: Option<Name>,
     pub list: PlannedList,
 }
 
-/// The source of an accounting register's scale, before the office checks its range.
+/// The source of an accounting register's scale, before the program checks its range.
 #[derive(Clone, Copy, PartialEq, Eq)]
 pub enum GivenScale {
     /// A fixed scale: a power of ten, -3 to 3.
@@ -122,23 +123,23 @@ pub struct StartPoll {
     pub span: ReadSpan,
 }
 
-/// The command to send the reads of a device's plan. `from` is the index of the first read to send,
-/// counted from 0.
+/// The command to send the reads that cover a device's point list. `from` is the index of the first
+/// read to send, counted from 0.
 #[derive(Clone, Copy, PartialEq, Eq)]
 pub struct StartRound {
     pub device: Option<Name>,
     pub from: u64,
 }
 
-/// The command to void an entry. `place` is the entry's sequence number in the meter's journal,
-/// where the opening has number 1.
+/// The command to void (cancel) an entry. `place` is the entry's sequence number among the meter's
+/// entries, where the first entry (the opening) has number 1.
 #[derive(Clone, Copy, PartialEq, Eq)]
 pub struct VoidEntry {
     pub meter: Option<Name>,
     pub place: u64,
 }
 
-/// A command to the office.
+/// A command that the program executes or refuses.
 #[derive(Drop)]
 pub enum Command {
     AddDevice(AddDevice),

@@ -1,4 +1,4 @@
-//! Events that reach the office, which is the program's state over one store.
+//! Events that the program processes: input of devices, timer events and commands.
 use crate::commands::Command;
 use crate::names::Name;
 use poll_core::Closing;
@@ -37,7 +37,7 @@ impl Piece {
 }
 
 /// A command with an idempotency key: the caller's name and a number that the caller chose. The
-/// office executes the command once, and stores its answer with the request's bytes.
+/// program executes the command once, and stores its answer with the request's bytes.
 #[derive(Drop)]
 pub struct Asked {
     pub caller: Option<Name>,
@@ -47,7 +47,8 @@ pub struct Asked {
     pub command: Command,
 }
 
-/// An event that reaches the office. A device name is `None` if the given text is not a valid name.
+/// An event that the program processes. A device name is `None` if the given text is not a valid
+/// name.
 #[derive(Drop)]
 pub enum Event {
     /// A connection to the device was opened.

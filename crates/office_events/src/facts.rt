@@ -1,4 +1,4 @@
-//! The records that the office writes to its store.
+//! The records that the program writes to its store.
 use crate::answers::CommandKind;
 use crate::events::Piece;
 use crate::names::Name;
@@ -9,8 +9,8 @@ use meter_journal::EntryKind;
 use poll_core::Outcome;
 use read_plan::PlannedList;
 
-/// A device of the office: its name, its Modbus unit identifier, its timeout, and its maximum
-/// number of pending polls.
+/// A device that the program polls: its name, its Modbus unit identifier, its timeout, and the
+/// maximum number of polls that wait for a response.
 #[derive(Clone, Copy, PartialEq, Eq)]
 pub struct Device {
     pub name: Name,
@@ -20,7 +20,7 @@ pub struct Device {
     pub window: Window,
 }
 
-/// The point list of a device, with the plan of reads that covers its points.
+/// The point list of a device (the Modbus registers to read), with the reads that cover its points.
 #[derive(Clone, Drop)]
 pub struct DeviceList {
     pub device: Name,
@@ -47,8 +47,8 @@ pub struct Register {
     pub scale: ScaleSource,
 }
 
-/// The opening of a meter: its installation at an accounting register, with the meter's count at
-/// the installation.
+/// The opening of a meter (its first entry): its installation at an accounting register, with the
+/// meter's count at the installation.
 #[derive(Clone, Copy, PartialEq, Eq)]
 pub struct Opening {
     pub meter: Name,
@@ -86,7 +86,7 @@ pub struct EndedPoll {
     pub outcome: Outcome,
 }
 
-/// An entry of a meter other than its opening.
+/// An entry of a meter other than its opening (the first entry).
 #[derive(Clone, Copy, PartialEq, Eq)]
 pub struct BookedEntry {
     pub meter: Name,
@@ -94,8 +94,8 @@ pub struct BookedEntry {
     pub entry: Entry,
 }
 
-/// A rejected reading with the cause of its rejection. It does not change the meter's state or
-/// energy.
+/// A rejected reading with the cause of its rejection. A rejected reading changes no state or
+/// energy of its meter.
 #[derive(Clone, Copy, PartialEq, Eq)]
 pub struct HeldReading {
     pub meter: Name,
@@ -107,7 +107,7 @@ pub struct HeldReading {
     pub cause: Cause,
 }
 
-/// A void: the record that an entry of a meter was wrong and no longer counts.
+/// A void: the record that an entry of a meter was wrong and is cancelled.
 #[derive(Clone, Copy, PartialEq, Eq)]
 pub struct VoidedEntry {
     pub meter: Name,
@@ -127,7 +127,7 @@ pub struct Reply {
     pub at: u64,
 }
 
-/// A record that the office writes to its store.
+/// A record that the program writes to its store.
 #[derive(Drop)]
 pub enum Fact {
     Device(Device),

@@ -1,6 +1,5 @@
-//! The types of the events that reach the office, of its answers, notifications and records. The
-//! office is the program's state over one store: it polls devices and records the energy of their
-//! meters.
+//! The types of the events that the program processes, and of its answers, notifications and
+//! records. The program polls devices, and records the energy of their meters in one store.
 #![tactic(auto)]
 
 mod answers;

@@ -26,8 +26,8 @@ impl Model for Name {
 
     ghost view = { λ n. take n.len n.bytes };
 
-    // The bytes after the name are zero, so derived equality of the arrays is equality of the
-    // names.
+    // The bytes of the array after the name are zero, so derived equality of the arrays is equality
+    // of the names.
     ghost invariant = { λ n. (n.len ≤ MAX_NAME)
         × (take n.len n.bytes ++ replicate (MAX_NAME - length (take n.len n.bytes)) 0 ≡ n.bytes)
         × (length (take n.len n.bytes) ≡ n.len) × (length n.bytes ≡ MAX_NAME)

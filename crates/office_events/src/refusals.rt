@@ -1,4 +1,4 @@
-//! The reasons why the office refuses an event or a query.
+//! The reasons why the program refuses an event or a query.
 use energy_core::Cause;
 use std::error::Error;
 use std::fmt;
@@ -43,12 +43,12 @@ impl Display for StoreCause {
 
 impl Error for StoreCause {}
 
-/// The reason why the office refuses an event or a query. If several reasons apply, the office
+/// The reason why the program refuses an event or a query. If several reasons apply, the program
 /// reports `Stopped` first, then `Reused`, then the reason with the smallest number. `Store` comes
 /// after `NotPlausible`.
 #[derive(Clone, Copy, Debug, PartialEq, Eq)]
 pub enum Refusal {
-    /// The office has no device, accounting register, meter, point list, entry or poll with this
+    /// The store has no device, accounting register, meter, point list, entry or poll with this
     /// name or number.
     NotFound,
     /// A device, accounting register or meter already has this name, or the accounting register
@@ -56,7 +56,7 @@ pub enum Refusal {
     Exists,
     /// The event's timestamp is before the timestamp of the latest accepted event.
     ClockBack,
-    /// A scale factor is not from -3 to 3.
+    /// A scale factor (a power of ten) is not from -3 to 3.
     BadScale,
     /// The count, with its rollovers added, is lower than the meter's last count.
     NegativeStep,
@@ -64,28 +64,30 @@ pub enum Refusal {
     NotLater,
     /// The time since the meter's last entry covers more than 3,000 quarter hours.
     SpanTooLong,
-    /// With this entry the total energy of the meter would pass its limit of 4 * 10^18 mWh.
+    /// With this entry the total energy of the meter would exceed its limit of 4 * 10^18 mWh.
     TotalFull,
     /// The meter at the accounting register is closed.
     Ended,
-    /// The device is not connected or is already connected, or it can start no further poll, for
-    /// example because too many polls are pending.
+    /// The device is not connected or is already connected. Or it can start no further poll, for
+    /// example because too many of its polls wait for responses.
     Busy,
     /// The caller already used this idempotency key for a different request.
     Reused,
-    /// A name, a number or a timestamp is out of range, or a limit of the office is reached.
+    /// A name, a number or a timestamp is out of range, or a limit such as the number of devices is
+    /// reached.
     Limit,
     /// The store failed, all poll numbers are used, or a quarter hour has no civil day.
     Store(StoreCause),
     /// Memory ran out.
     Memory,
-    /// The office stopped earlier, because the store failed or memory ran out while the office
-    /// processed the outcomes of polls.
+    /// The program stopped earlier, because the store failed or memory ran out while it processed
+    /// the outcomes of polls.
     Stopped,
-    /// The entry is already void or is not a reading from the device, or the next valid entry is
-    /// not a reading from the device.
+    /// The entry is already voided (cancelled), or the entry or the next valid entry is not a
+    /// reading from the device.
     NotVoidable,
-    /// Without the entry to void, the office would have rejected the next entry for this cause.
+    /// Without the entry to void (cancel), the program would have rejected the next entry for this
+    /// cause.
     NotPlausible(Cause),
 }
 

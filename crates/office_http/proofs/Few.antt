@@ -1,4 +1,4 @@
--- Lemmas: a meter has fewer interval rows than there are timestamps.
+-- Lemmas: a meter has fewer rows of energy by quarter hours than there are timestamps.
 use Rattle.std.proofs.Common.{◌≡◌, ℕ, ◌+◌, ◌-◌, ◌<◌, ◌≤◌, List, [], ◌∷◌, length, Option, Some, None, refl, sym, subst, arith}
 use Rattle.std.specs.Prelude.{All}
 use Rattle.std.specs.Option.{option_map}
@@ -18,8 +18,8 @@ use Rattle.office_books.proofs.Journals.{IsInstalled, installed_fits, well}
 use Rattle.office_books.proofs.Lookups.{find_passes, same_text}
 use Rattle.office_core.specs.Asking.{intervals_of, rows_in}
 
--- Theorems on the journal of a meter, which is the history of its entries. They bound the number of
--- the meter's interval rows.
+-- Theorems on the history of a meter's entries. They bound the number of the meter's rows of energy
+-- by quarter hours.
 pub record FromJournals : Type 0 where
   pub accounts : IntervalRowsAreAccounts
   pub within : RowsLieWithin
@@ -54,7 +54,8 @@ few_of law facts o h there =
     let few = few_within o.at (last_at facts o) (rows_of_opening facts o) (law.accounts (installed o) lines own fits).in_order (law.within (installed o) lines own fits) in
     omega (arith, few, last_is_recorded law.no_further facts o h there, latest_bounded facts h)
 
--- If the store has an opening entry for a meter name, then a meter with that name is installed.
+-- If the store has a first entry (made at installation) for a meter name, then a meter with that
+-- name is installed.
 named : (facts : List Fact) (name : List ℕ) (o : Opening) → opening_of facts name ≡ Some o → IsInstalled facts o
 named facts name o h =
     let is = same_text o.meter name (find_passes (λ (p : Opening). same p.meter name) (openings_in facts) o h) in

@@ -1,4 +1,4 @@
--- Lemmas on the bytes that one call reads from its link and writes to it.
+-- Lemmas on the bytes that one call reads from a client's connection and writes to the connection.
 use Rattle.std.proofs.Common.{◌≡◌, ◌∙◌, ◌≤◌, ◌+◌, ◌-◌, ◌^◌, min, arith, ℕ, Bool, true, false, not, ◌&&◌, List, [], ◌++◌, Option, Some, None, Result, Ok, Err, inl, inr, refl, sym, ap, subst}
 use Rattle.std.specs.Io.KnownBytes.{Appends, Keeps}
 use Rattle.std.specs.Prelude.{is_err}
@@ -36,14 +36,14 @@ keeps_append None b h = tt
 keeps_append (Some x) None h = absurd h
 keeps_append (Some x) (Some y) h = h ∙ sym (append-nil x)
 
--- If nothing was written between two times, then the bytes written since the earlier time equal the
--- bytes written since the later time.
+-- If nothing was written to the client's connection between two times, then the bytes written since
+-- the earlier time equal the bytes written since the later time.
 pub gives_since : (sent : Result (Unit {0}) LinkFailed) (a b c : Option (List ℕ)) (bytes : List ℕ) → Keeps a b → Gives sent b c bytes → Gives sent a c bytes
 gives_since (Ok x) a b c bytes h gives = Appends-trans a b c [] bytes (keeps_append a b h) gives
 gives_since (Err e) a b c bytes h gives = (gives.0, gives.1, gives.2, Appends-trans a b c [] gives.0 (keeps_append a b h) gives.3)
 
 -- If the input buffer was empty before the call, then its bytes after the call are all bytes that
--- the link delivered.
+-- the client's connection delivered.
 pub came_is : (old new : List ℕ) (r s : Option (List ℕ)) → old ≡ [] → (came : Came old new r s) → new ≡ came.chunk
 came_is old new r s empty came = came.bytes ∙ ap (λ o. o ++ came.chunk) empty
 
@@ -58,14 +58,14 @@ stopped P goes old new was now read empty is (inr some) = inr record {
   size = some.size;
 }
 
--- The bytes of a complete request hold a complete head.
+-- The bytes of a complete request contain a complete request head.
 pub head_of : (table : Table) (head_state : HeadState) (bytes : List ℕ) → Holds table bytes head_state → HasHead bytes
 head_of table Open bytes h = absurd h
 head_of table TooLarge bytes h = record { head_state = TooLarge; finds = h; come = refl }
 head_of table NoHead bytes h = record { head_state = NoHead; finds = h; come = refl }
 head_of table (Whole at) bytes h = record { head_state = Whole at; finds = h.head; come = refl }
 
--- ---- Calls that fail to read their request.
+-- Lemmas on calls that fail to read their request.
 
 pub read_failed : {B : Type 0} (ledger : B → Ledger) (at : ℕ) (office : Office B) (fault : TakeFault) (old new : List ℕ) (remaining later given later_given : Option (List ℕ))
     (last : Option LastTake) → old ≡ [] → ReadsRequest routes (Err fault) old new remaining later → Keeps given later_given
@@ -105,7 +105,7 @@ head_failed take.TurnsUsed old new remaining later given later_given last empty 
   does = record { goes_on = inl (subst IsOpenHead (came_is old new remaining later empty reads.0) reads.1); nothing = keeps };
 }
 
--- ---- Calls that write a response.
+-- Lemmas on calls that write a response.
 
 pub does_reply : {B : Type 0} (ledger : B → Ledger) (at : ℕ) (old new : Office B) (link : Passage) (read : List ℕ) (result : Result (Unit {0}) HandleFault)
     → IsEnd result → Replies ledger at old new link read result → Does ledger at old new link read result
@@ -144,7 +144,7 @@ replied ledger at old new inbox full seen result remaining mid later given given
       });
     }
 
--- ---- Writers whose buffered bytes were all written.
+-- Lemmas on response writers whose buffered bytes were all written.
 
 pub write_first : (base given : Option (List ℕ)) (out : Outgoing) → out.given ≡ given → out.buffered ≡ [] → Keeps base given → HasPut base out []
 write_first base given out is none keeps = record {
@@ -163,8 +163,8 @@ is_end (Ok x) (Some why) = tt
 pub ends_well : (sent : Result (Unit {0}) LinkFailed) (cut : Option Refusal) (result : Result (Unit {0}) HandleFault) → result ≡ ended sent cut → IsEnd result
 ends_well sent cut result is = subst IsEnd (sym is) (is_end sent cut)
 
--- After two consecutive calls, at most one failed write is counted, since no write follows a failed
--- write.
+-- After two consecutive calls of a response writer, at most one failed write is counted, because no
+-- write follows a failed write.
 risen_twice : (a b c : Bool) (count : ℕ) → (a ≡ true → b ≡ true) → (b ≡ true → c ≡ true) → risen (c && not b) (risen (b && not a) count) ≡ risen (c && not a) count
 risen_twice true true true count ab bc = refl
 risen_twice true true false count ab bc = refl
@@ -182,7 +182,8 @@ fault_sent (Err e) cut = refl
 fault_sent (Ok x) None = refl
 fault_sent (Ok x) (Some why) = refl
 
--- A response was sent through a writer, whose buffered bytes were then written to the link.
+-- True if a response was sent through a buffered writer, and the buffered bytes were then written
+-- to the client's connection.
 pub record IsFinished (first put last : Outgoing) (sent : Result (Unit {0}) LinkFailed) : Type 0 where
   pub works : first.failed ≡ false
   pub puts : OnlyGives first put
@@ -212,10 +213,10 @@ pub finished_takes : (first put last : Outgoing) (sent : Result (Unit {0}) LinkF
     → IsFinished first put last sent → first.takes ≡ before → after ≡ last.takes → after ≡ before
 finished_takes first put last sent before after done from to = to ∙ done.finish.takes ∙ done.puts.takes ∙ from
 
--- ---- The number of reads from the link.
+-- Lemmas on the number of reads from the client's connection.
 
--- A new input buffer reads at most 100,000 times from its link. The link's count of reads rises by
--- at most that number.
+-- A new input buffer reads at most 100,000 times from the client's connection. The connection's
+-- count of reads rises by at most that number.
 pub few_takes : {X : Type 0} (result : Result X TakeFault) (old new : Inbox) (taken later : ℕ) → old.takes ≡ 0 → CountsTakes result old new taken later
     → (count : ℕ) → taken ≡ min count (2 ^ 64 - 1) → later ≤ min (count + MOST_TAKES) (2 ^ 64 - 1)
 few_takes result old new taken later none takes count is =
@@ -225,7 +226,7 @@ few_takes result old new taken later none takes count is =
     let few = new.few in
     omega (arith, ended, few)
 
--- ---- Calls in which no memory for the request can be allocated.
+-- Lemmas on calls in which no memory for the request can be allocated.
 
 bare_on : {B : Type 0} (office : Office B) (link : Passage) (read : List ℕ) → ReadsOnBare link read → ReadsOn office office link read
 bare_on office link read h = record { goes_on = h.goes_on; nothing = h.nothing; unchanged = refl }
@@ -258,8 +259,8 @@ bare_does : (link : Passage) (read : List ℕ) (sent : Result (Unit {0}) LinkFai
 bare_does link read (Ok x) h = h
 bare_does link read (Err e) h = h
 
--- If a call had no memory for a request and read a head, then it wrote the response that memory ran
--- out.
+-- If a call had no memory for a request and read a request head, then it wrote the response that
+-- memory ran out.
 pub bare_replied : (inbox full : Inbox) (head_state : HeadState) (sent : Result (Unit {0}) LinkFailed) (result : Result (Unit {0}) HandleFault)
     (remaining mid later given given_mid later_given : Option (List ℕ)) (was between last : Option LastTake)
     → bytes_in inbox ≡ [] → ReadsHead (Ok head_state) (bytes_in inbox) (bytes_in full) remaining mid → StopsAtOnce IsOpenHead inbox full was between → Keeps given given_mid

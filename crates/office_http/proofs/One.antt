@@ -63,8 +63,8 @@ to_requests bodies office bytes one other a b =
     ∙ ap (λ (s : Start). reply_bytes (reply_of office routes s a.body b.given)) same.one_start
     ∙ ap (λ t. reply_bytes (reply_of office routes b.start t b.given)) same.one_body ∙ sym b.is
 
--- If bytes begin with an invalid head, then they hold no request. Their only response is the
--- response to the invalid head.
+-- If received bytes begin with an invalid head, then they contain no request. Their only response
+-- is the response to the invalid head.
 not_both : {A : Type 0} → (office : Office) (bytes one other : List ℕ) → RepliesToBadHead bytes one → RepliesToRequest office routes bytes other → A
 not_both office bytes one other bad asked = absurd (bad.bad.none asked.holds.len asked.holds.head asked.holds.begins)
 

@@ -1,4 +1,4 @@
--- Lemmas on reports that are streamed row by row as HTTP responses.
+-- Lemmas on energy reports that are streamed row by row as HTTP responses.
 use Rattle.std.proofs.Common.{◌≡◌, ◌∙◌, ◌⊎◌, true, ℕ, zero, suc, ◌+◌, ◌<◌, ◌≤◌, List, [], ◌∷◌, ◌++◌, length, take, drop, Option, Some, None, Result, Ok, Err, inl, inr, refl, sym, ap, subst, arith, append_assoc}
 use Rattle.std.specs.Prelude.{flat_map}
 use Rattle.std.specs.Option.{option_and_then}
@@ -38,11 +38,11 @@ use Rattle.office_http.proofs.Served.{StandsStill}
 abbrev most : ℕ
 most = 18446744073709551615
 
--- The text lines of a report's rows, followed by the line with the number of rows.
+-- The text lines of a report's rows, followed by the last line, which has the number of rows.
 abbrev pub report_text : {T : Type 0} → (line : T → List ℕ) → List T → List ℕ
 report_text line rows = flat_map line rows ++ end_line (length rows)
 
--- The row visitor writes each row as one line of the report.
+-- True if the row visitor writes a row as one line of the report.
 abbrev pub takes_lines : {T : Type 0} → (line : T → List ℕ) → Report → T → Report → Type 0
 takes_lines line old row new = PutsLine (line row) old new
 
@@ -80,8 +80,8 @@ ended_refused start lines why out cut same none ends =
     let end = ends.0 (ap (λ (r : Report). r.count) same ∙ none) in
     (subst (λ (r : Report). sending.Puts r.out out (reply_bytes (refused why))) same end.0, end.1)
 
--- If a report was cut off, then it lacks the lines of the remaining rows and the line with the
--- number of rows.
+-- If a report was cut off, then it lacks the lines of the remaining rows and the last line, which
+-- has the number of rows.
 missing_is : {T : Type 0} (line : T → List ℕ) (rows first : List T) (n : ℕ) (row : T) (rest : List T) → first ≡ take n rows → first ≡ row ∷ rest
     → text_head ++ report_text line rows ≡ (text_head ++ flat_map line first) ++ (flat_map line (drop n rows) ++ end_line (length rows))
 missing_is line rows first n row rest is some =
@@ -99,7 +99,7 @@ some_rows n count is = grind (arith, nat_tests)
 below : {n : ℕ} → n < 18446744073709551616 → n ≤ most
 below h = omega (arith, h)
 
--- The result of a query that succeeded, without its rows.
+-- The Ok result of a query whose rows were reported.
 abbrev whole_answer : Unit {0} → Result (Unit {0}) Refusal
 whole_answer x = Ok x
 
@@ -126,14 +126,15 @@ nil_take zero = refl
 nil_take (suc n) = refl
 
 module _ {B : Type 0} (ledger : B → Ledger) (past : History) (at : ℕ) (read : List ℕ) (old new : Run B) where
-  -- If the refusal is Stopped, then the program already refused all events before the call.
+  -- States that if the reason of a refusal is `Stopped`, then the program already refused all
+  -- events before the call.
   abbrev Reported : Refusal → Type 0
   Reported why = why ≡ refusal.Stopped → is_stopped old ≡ true
 
   abbrev Answers : Result (Unit {0}) Refusal → Type 0
   Answers answer = answer ≡ Err refusal.Stopped → is_stopped old ≡ true
 
-  -- If a report ended with success, then it is the complete response.
+  -- If a report ended without a failure, then it is the complete response.
   whole_served : (text : List ℕ) (from out : Outgoing) (cut : Option Refusal) → failures_of ledger new ≡ failures_of ledger old → AsksNothing routes read
       → ((office : Office) → AnswersAt (ledger (books_in old)).zone past at office → IsReply office routes read (text_head ++ text))
       → StandsStill ledger past old new → sending.Puts from out (text_head ++ text) × (cut ≡ None) → Puts ledger past at read old new from out cut
@@ -151,7 +152,8 @@ module _ {B : Type 0} (ledger : B → Ledger) (past : History) (at : ℕ) (read 
         puts = put.0;
       })
 
-  -- If no object has the name in a query, then the response reports that the name is unknown.
+  -- If the store has no object with the name in a query, then the response reports that the name is
+  -- unknown.
   unknown_served : (why : Refusal) (from out : Outgoing) (cut : Option Refusal) → failures_of ledger new ≡ failures_of ledger old → AsksNothing routes read
       → ((office : Office) → AnswersAt (ledger (books_in old)).zone past at office → IsReply office routes read (reply_bytes (refused why)))
       → StandsStill ledger past old new → sending.Puts from out (reply_bytes (refused why)) × (cut ≡ None) → Puts ledger past at read old new from out cut
@@ -187,7 +189,7 @@ module _ {B : Type 0} (ledger : B → Ledger) (past : History) (at : ℕ) (read 
         puts = put.0;
       })
 
-  -- If the store fails after a row of a report, then the response is cut off.
+  -- If the store fails after a row of a report, then the HTTP response is cut off.
   cut_served : (why : Refusal) (text put rows : List ℕ) (count : ℕ) (from to out : Outgoing) (cut : Option Refusal) → IsOutside ⊥ (failures_of ledger old) (failures_of ledger new) why
       → AsksNothing routes read
       → ((office : Office) → AnswersAt (ledger (books_in old)).zone past at office → IsReply office routes read text)
@@ -206,7 +208,7 @@ module _ {B : Type 0} (ledger : B → Ledger) (past : History) (at : ℕ) (read 
         puts = subst (λ o. sending.Puts from o put) (sym ends.0) puts;
       })
 
-  -- If the store fails after some rows, the written bytes are the lines of these rows.
+  -- If the store fails after some rows of a report, the written bytes are the lines of these rows.
   after_rows : {T : Type 0} (line : T → List ℕ) (rows first : List T) (n : ℕ) (start lines : Report) (why : Refusal) (out : Outgoing) (cut : Option Refusal)
       → first ≡ take n rows → TakesAll (takes_lines line) start first lines → start.count ≡ 0 → EndsReport lines (Err why) out cut
       → IsOutside ⊥ (failures_of ledger old) (failures_of ledger new) why → Reported why → AsksNothing routes read
@@ -221,8 +223,8 @@ module _ {B : Type 0} (ledger : B → Ledger) (past : History) (at : ℕ) (read 
       cut_served why (text_head ++ report_text line rows) (text_head ++ flat_map line first) (flat_map line (drop n rows)) (length rows)
       start.out lines.out out cut outside nothing replies stands (missing_is line rows first n row rest is refl) begun.puts (ends.1 some)
 
-  -- The response to a query for the rows of a meter is the report, a refusal, or a report that was
-  -- cut off.
+  -- The response to a query for the rows of a meter is the complete report, a refusal, or a report
+  -- that was cut off.
   pub rows_reported : {T : Type 0} (line : T → List ℕ) (rows : Option (List T)) (start lines : Report) (answer : Result (Unit {0}) Refusal) (out : Outgoing) (cut : Option Refusal)
       → HandsRows (takes_lines line) rows (failures_of ledger old) (failures_of ledger new) start lines answer → start.count ≡ 0 → EndsReport lines answer out cut
       → length (rows_in rows) ≤ most → AsksNothing routes read
@@ -248,8 +250,8 @@ module _ {B : Type 0} (ledger : B → Ledger) (past : History) (at : ℕ) (read 
     | inr fails ↦ after_rows line rows (take hands.begun.0 rows) hands.begun.0 start lines why out cut refl hands.begun.1 none ends fails (λ is. reported (ap Err is)) nothing replies stands
   ]
 
-  -- If an accounting register exists, then the response to a query for its days is the complete
-  -- report.
+  -- If an accounting register (a named energy counter) exists, then the response to a query for its
+  -- daily energy is the complete report.
   days_whole : (name : Option (List ℕ)) (start lines : Report) (x : Unit {0}) (out : Outgoing) (cut : Option Refusal)
       → HandsDays (takes_lines day_line) (ledger (books_in old)).zone (facts_of past) name (failures_of ledger old) (failures_of ledger new) start lines (Ok x)
       → start.count ≡ 0 → EndsReport lines (Ok x) out cut → AsksNothing routes read
@@ -293,7 +295,7 @@ zero_or_more : (n : ℕ) → (n ≡ 0) ⊎ (0 < n)
 zero_or_more zero = inl refl
 zero_or_more (suc n) = inr (omega arith)
 
--- However a report ends, the call only appends some text to the response.
+-- A call that writes a report only appends text to the response, also if the report is cut off.
 ended_gives : (lines : Report) (answer : Result (Unit {0}) Refusal) (out : Outgoing) (cut : Option Refusal) → EndsReport lines answer out cut
     → (text : List ℕ) × sending.Puts lines.out out text
 ended_gives lines (Ok x) out cut ends = (_, ends.0)

@@ -24,12 +24,13 @@ use Rattle.office_http.specs.Wants.Wanting.{AsksNothing, IsAskedFor, IsNoCommand
 use Rattle.office_http.specs.Answering.{AnswersAt, reported}
 use Rattle.office_http.specs.Serving.{Lasts, Serves}
 
--- If the call executed nothing, then the store has the same records as before the call.
+-- If a call executed neither a query nor a command, then the store has the same records as before
+-- the call.
 keeps_same : {B : Type 0} (ledger : B → Ledger) (old new : Run B) → new ≡ old → KeepsFacts (ledger (books_in old)) (ledger (books_in new))
 keeps_same {B} ledger old new same =
     subst (λ (o : Run B). KeepsFacts (ledger (books_in old)) (ledger (books_in o))) (sym same) (record { facts = λ known h. h; left = λ left may. may })
 
--- After a query, the program's state still results from the events that it accepted earlier
+-- True if the program's state after a query still follows from the events that it accepted earlier
 -- (`past`). After a crash, the store has the records from before the query.
 pub record StandsStill {B : Type 0} (ledger : B → Ledger) (past : History) (old new : Run B) : Type 0 where
   pub stands : Stands ledger past new
@@ -39,8 +40,8 @@ pub still : {B T : Type 0} (ledger : B → Ledger) (past : History) (old new : R
     → Stands ledger past old → StandsStill ledger past old new
 still ledger past old new answer asks stands = record { stands = asks.stands past stands; keeps = asks.keeps }
 
--- If the call executed nothing, and the response does not depend on the program's state, then the
--- call served the request as `Serves` states.
+-- If a call executed nothing, and the response does not depend on the program's state, then the
+-- call satisfies the contract `Serves` of serving a request.
 pub reported_off : {B : Type 0} (ledger : B → Ledger) (past : History) (at : ℕ) (read : List ℕ) (old new : Run B) (text : List ℕ)
     → new ≡ old → AsksNothing routes read → ((office : Office) → IsReply office routes read text) → Stands ledger past old
     → Serves ledger past at read old new None text
@@ -57,7 +58,7 @@ not_stopped : refusal.Memory ≡ refusal.Stopped → ⊥
 not_stopped is = cc is
 
 -- If memory ran out before anything was executed, then the response that reports the lack of memory
--- satisfies `Serves`.
+-- satisfies `Serves`, the contract of serving a request.
 pub no_memory : {B : Type 0} (ledger : B → Ledger) (past : History) (at : ℕ) (read : List ℕ) (old new : Run B)
     → new ≡ old → Stands ledger past old → Serves ledger past at read old new None (reply_bytes (refused refusal.Memory))
 no_memory ledger past at read old new same stands = record {
@@ -69,8 +70,8 @@ no_memory ledger past at read old new same stands = record {
   leaves = inr (refl, keeps_same ledger old new same);
 }
 
--- If a query for one object got an answer, then the response with that object or with the refusal
--- satisfies `Serves`.
+-- If the program answered a query for one object, then the response with that object, or with the
+-- refusal, satisfies `Serves`, the contract of serving a request.
 pub row_reported : {B T : Type 0} (ledger : B → Ledger) (past : History) (at : ℕ) (read : List ℕ) (old new : Run B) (text : T → List ℕ)
     (found : Option T) (answer : Result T Refusal) → IsRowFound found (failures_of ledger old) (failures_of ledger new) answer
     → AsksNothing routes read → ((office : Office) → AnswersAt (ledger (books_in old)).zone past at office → IsReply office routes read (reply_bytes (row_reply text (or_not_found found))))
@@ -102,7 +103,8 @@ row_reported ledger past at read old new text found (Err why) (inr fails) nothin
   leaves = inr (refl, stands.keeps);
 }
 
--- If the program answered a command, then the response with that answer satisfies `Serves`.
+-- If the program answered a command, then the response with that answer satisfies `Serves`, the
+-- contract of serving a request.
 pub command_reported : {B : Type 0} (ledger : B → Ledger) (past : History) (at : ℕ) (read : List ℕ) (old new : Run B) (asked : Asked)
     (answer : Result Answer Refusal) → IsAskedFor routes read asked
     → IsAnswer past at (event.Asked asked) (failures_of ledger old) (failures_of ledger new) answer
@@ -152,8 +154,8 @@ lasts_asked ledger old new answer asks = record { stopped = asks.stays; clean = 
 pub lasts_same : {B : Type 0} (ledger : B → Ledger) (office : Run B) → Lasts ledger office office
 lasts_same ledger office = record { stopped = refl; clean = λ x. x; zone = refl }
 
--- If the body of a request contains no valid command, then the response that reports the fault of
--- the body satisfies `Serves`.
+-- If the body of a request contains no valid command, then the response that reports the body's
+-- fault satisfies `Serves`, the contract of serving a request.
 pub no_command_reported : {B : Type 0} (ledger : B → Ledger) (past : History) (at : ℕ) (read : List ℕ) (office : Run B) (why : CommandFault)
     → IsNoCommand routes read why → Stands ledger past office → Serves ledger past at read office office None (reply_bytes (fault_said why))
 no_command_reported ledger past at read office why (inl memory) stands =

@@ -21,23 +21,24 @@ use Rattle.office_core.specs.Asking.{AreDaysNamed, intervals_of, or_not_found}
 use Rattle.office_http.specs.Messages.Kinds.{kind_answered}
 use Rattle.office_http.specs.Messages.Offices.{Office}
 
--- The result of an executed command: its kind. A command's answer lacks the kind only if the store
--- returned wrong data, so the result is then a damaged store.
+-- The kind of an executed command, or a damaged store if the program's answer has no kind. An
+-- answer without a kind means that the store returned wrong data.
 abbrev pub or_damaged : Option CommandKind → Result CommandKind Refusal
 or_damaged None = Err (refusal.Store store.Damaged)
 or_damaged (Some kind) = Ok kind
 
--- The result of a command, converted from the program's answer.
+-- The kind of an executed command, or the reason for its refusal, from the program's answer.
 abbrev pub reported : Result Answer Refusal → Result CommandKind Refusal
 reported (Ok answer) = or_damaged (kind_answered answer)
 reported (Err why) = Err why
 
--- The store has an accounting register with this name. A missing name matches no register.
+-- True if the store has an accounting register (a named energy counter) with this name. A missing
+-- name matches no register.
 abbrev pub IsRegister : List Fact → (name : Option (List ℕ)) → Type 0
 IsRegister facts name = option_and_then (register_of facts) name ≡ None → ⊥
 
--- The answer to a query for days: the daily energy of the accounting register, in the configured
--- time zone. If the store has no such register, the query is refused.
+-- States the answer to a query for days: the daily energy of an accounting register (a named energy
+-- counter), in the configured time zone. If the store has no such register, the query is refused.
 pub record AnswersDays (zone : Zone) (facts : List Fact)
     (answer : Option (List ℕ) → Result (List DayTotal) Refusal) : Type 0 where
   pub known : (name : Option (List ℕ)) (days : List DayTotal) → IsRegister facts name
@@ -45,8 +46,8 @@ pub record AnswersDays (zone : Zone) (facts : List Fact)
   pub unknown : (name : Option (List ℕ)) → option_and_then (register_of facts) name ≡ None
       → answer name ≡ Err refusal.NotFound
 
--- The program's answers at the time `at`. Answers to queries follow from the records of the events
--- that the program accepted earlier. Answers to commands follow from the rules for commands.
+-- States the program's answers at the time `at`. Answers to queries follow from the records of the
+-- events that the program accepted earlier. Answers to commands follow from the rules for commands.
 pub record AnswersAt (zone : Zone) (past : History) (at : ℕ) (office : Office) : Type 0 where
   pub meter : (name : Option (List ℕ))
       → office.meter name ≡ or_not_found (option_and_then (meter_of (facts_of past)) name)

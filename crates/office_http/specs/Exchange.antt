@@ -32,13 +32,13 @@ fault_number Short = 3
 fault_number TurnsUsed = 4
 fault_number Cut = 5
 
--- The fault of a call that could not read its request, by the cause that ended the reading.
+-- The reason why a call could not read its request, from the cause that ended the reading.
 abbrev pub as_fault : TakeFault → HandleFault
 as_fault take.Read = Read
 as_fault take.Short = Short
 as_fault take.TurnsUsed = TurnsUsed
 
--- True if a read or a write of the link failed.
+-- True if a read from a client's connection or a write to the connection failed.
 abbrev pub is_link_fault : Result (Unit {0}) HandleFault → Bool
 is_link_fault (Ok x) = false
 is_link_fault (Err Read) = true
@@ -55,8 +55,8 @@ ended (Err failed) cut = Err Write
 ended (Ok x) None = Ok x
 ended (Ok x) (Some why) = Err Cut
 
--- A possible result of a call that wrote a response: success, a failed write, or a response that
--- was cut off.
+-- True if the result is that of a call that wrote a response: success, a failed write, or a
+-- response that was cut off.
 abbrev pub IsEnd : Result (Unit {0}) HandleFault → Type 0
 IsEnd (Ok x) = Unit {0}
 IsEnd (Err Write) = Unit {0}
@@ -65,7 +65,8 @@ IsEnd (Err Read) = ⊥
 IsEnd (Err Short) = ⊥
 IsEnd (Err TurnsUsed) = ⊥
 
--- The bytes that a link still delivers and those that it has received, before and after a call.
+-- The bytes that a client's connection still delivers and those that it has received, before and
+-- after a call.
 pub record Passage : Type 0 where
   pub remaining : Option (List ℕ)
   pub later_remaining : Option (List ℕ)
@@ -73,7 +74,7 @@ pub record Passage : Type 0 where
   pub later_given : Option (List ℕ)
   pub last : Option LastTake
 
--- The model of a link (a client's connection) before and after a call, from its five parts.
+-- The model of a client's connection before and after a call, from its five parts.
 abbrev pub passage : (remaining later_remaining given later_given : Option (List ℕ))
     → Option LastTake
     → Passage
@@ -85,19 +86,19 @@ passage remaining later_remaining given later_given last = record {
   last = last;
 }
 
--- The call made no unnecessary read from the link. Before the last read, the bytes held neither a
--- complete request nor an invalid head. Also true if the call read nothing.
+-- True if the call made no unnecessary read from the client's connection. Before the last read, the
+-- bytes had neither a complete request nor an invalid head. Also true if the call read nothing.
 abbrev pub StopsReading : (read : List ℕ) → Option LastTake → Type 0
 StopsReading read last = (read ≡ []) ⊎ TakesWhatLacks (IsUnfinished routes) [] read last
 
--- The bytes hold a complete request head or an invalid head.
+-- True if the received bytes have a complete request head or an invalid head.
 pub record HasHead (read : List ℕ) : Type 0 where
   pub head_state : HeadState
   pub finds : Looks read head_state
   pub come : is_open head_state ≡ false
 
--- The call wrote the response to the bytes in `read`. If a write failed, the link received only a
--- prefix of the response.
+-- True if the call wrote the response to the bytes `read`. If a write failed, the client received
+-- only a prefix of the response.
 pub record GivesReply {B : Type 0} (ledger : B → Ledger) (past : History) (at : ℕ)
     (old new : Office B)
     (given later_given : Option (List ℕ)) (read : List ℕ) (result : Result (Unit {0}) HandleFault)
@@ -109,16 +110,16 @@ pub record GivesReply {B : Type 0} (ledger : B → Ledger) (past : History) (at 
   pub serves : Serves ledger past at read old new cut put
   pub gives : Gives sent given later_given put
 
--- The call wrote the response to the bytes in `read`, if `past` is the history of events that the
--- program accepted earlier.
+-- True if the call wrote the response to the bytes `read`, given the history `past` of the events
+-- that the program accepted earlier.
 abbrev pub GivesReplyTo : {B : Type 0} → (read : List ℕ) → (B → Ledger) → (at : ℕ)
     → (old new : Office B) → (given later_given : Option (List ℕ)) → Result (Unit {0}) HandleFault
     → History → Type 0
 GivesReplyTo read ledger at old new given later_given result past =
     GivesReply ledger past at old new given later_given read result
 
--- The bytes hold a complete or an invalid head, and the call wrote a response. It read nothing
--- after a complete request or an invalid head.
+-- True if the received bytes have a complete or an invalid head, and the call wrote a response. The
+-- call read nothing after a complete request or an invalid head.
 pub record Replies {B : Type 0} (ledger : B → Ledger) (at : ℕ) (old new : Office B) (link : Passage)
     (read : List ℕ) (result : Result (Unit {0}) HandleFault) : Type 0 where
   pub head : HasHead read
@@ -126,14 +127,14 @@ pub record Replies {B : Type 0} (ledger : B → Ledger) (at : ℕ) (old new : Of
   pub replies : After ledger old new
       (GivesReplyTo read ledger at old new link.given link.later_given result)
 
--- The bytes hold neither a complete request nor an invalid head, so the call failed. It wrote
--- nothing and left the program's state unchanged.
+-- True if the received bytes have neither a complete request nor an invalid head, so the call
+-- failed. The call wrote nothing and left the program's state unchanged.
 pub record ReadsOn {B : Type 0} (old new : Office B) (link : Passage) (read : List ℕ) : Type 0 where
   pub goes_on : IsUnfinished routes read
   pub nothing : Keeps link.given link.later_given
   pub unchanged : new ≡ old
 
--- The effect of a call of `handle` that read the bytes in `read`, for each result of the call.
+-- States the effect of a call of `handle` that read the bytes `read`, for each result of the call.
 abbrev pub Does : {B : Type 0} → (B → Ledger) → (at : ℕ) → (old new : Office B) → Passage
     → (read : List ℕ) → Result (Unit {0}) HandleFault → Type 0
 Does ledger at old new link read (Ok x) = Replies ledger at old new link read (Ok x)
@@ -144,15 +145,15 @@ Does ledger at old new link read (Err Short) =
     ReadsOn old new link read × IsAtEnd link.later_remaining
 Does ledger at old new link read (Err TurnsUsed) = ReadsOn old new link read
 
--- The call of `handle` read the bytes in `read` from the link. `Does` states the effect of the call
--- for these bytes and its result.
+-- True if the call of `handle` read the bytes `read` from the client's connection. `Does` states
+-- the effect of the call for these bytes and its result.
 pub record Handles {B : Type 0} (ledger : B → Ledger) (at : ℕ) (old new : Office B) (link : Passage)
     (result : Result (Unit {0}) HandleFault) : Type 0 where
   pub read : List ℕ
   pub takes : Consumes link.remaining link.later_remaining read
   pub does : Does ledger at old new link read result
 
--- The link's count of failures rises by one exactly if a read or a write of the link failed. The
+-- True if the connection's count of failures rises by one exactly if a read or a write failed. The
 -- call made at most 100,000 reads, and exactly that many after the fault TurnsUsed. The counts stop
 -- at 2^64 - 1.
 pub record CountsLink (result : Result (Unit {0}) HandleFault)
@@ -164,8 +165,8 @@ pub record CountsLink (result : Result (Unit {0}) HandleFault)
   pub few : (count : ℕ) → taken ≡ min count (2 ^ 64 - 1)
       → later_taken ≤ min (count + MOST_TAKES) (2 ^ 64 - 1)
 
--- The call had no memory for a request. After a complete or invalid head, it wrote the response
--- that memory ran out, and executed nothing.
+-- True if the call had no memory for a request. After a complete or invalid head, the call wrote
+-- the response that memory ran out, and executed nothing.
 pub record RepliesBare (link : Passage) (read : List ℕ) (result : Result (Unit {0}) HandleFault)
     : Type 0 where
   pub sent : Result (Unit {0}) LinkFailed
@@ -174,13 +175,13 @@ pub record RepliesBare (link : Passage) (read : List ℕ) (result : Result (Unit
   pub stops : StopsReading read link.last
   pub gives : Gives sent link.given link.later_given (reply_bytes (refused refusal.Memory))
 
--- The call had no memory for a request, and read neither a complete request nor an invalid head. It
--- wrote nothing.
+-- True if the call had no memory for a request, and read neither a complete request nor an invalid
+-- head. The call wrote nothing.
 pub record ReadsOnBare (link : Passage) (read : List ℕ) : Type 0 where
   pub goes_on : IsUnfinished routes read
   pub nothing : Keeps link.given link.later_given
 
--- The effect of a call that had no memory for a request, for each result of the call.
+-- States the effect of a call that had no memory for a request, for each result of the call.
 abbrev pub DoesBare : Passage → (read : List ℕ) → Result (Unit {0}) HandleFault → Type 0
 DoesBare link read (Ok x) = RepliesBare link read (Ok x)
 DoesBare link read (Err Write) = RepliesBare link read (Err Write)
@@ -189,8 +190,8 @@ DoesBare link read (Err Read) = ReadsOnBare link read
 DoesBare link read (Err Short) = ReadsOnBare link read × IsAtEnd link.later_remaining
 DoesBare link read (Err TurnsUsed) = ReadsOnBare link read
 
--- The call of `handle` had no memory for a request. `DoesBare` states the effect of the call for
--- the bytes that it read.
+-- True if the call of `handle` had no memory for a request. `DoesBare` states the effect of the
+-- call for the bytes that it read.
 pub record HandlesBare (link : Passage) (result : Result (Unit {0}) HandleFault) : Type 0 where
   pub read : List ℕ
   pub takes : Consumes link.remaining link.later_remaining read

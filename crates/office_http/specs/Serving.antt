@@ -25,8 +25,8 @@ use Rattle.office_http.specs.Messages.WholeResponses.{IsReply}
 use Rattle.office_http.specs.Wants.Wanting.{AsksNothing, AsksOffice}
 use Rattle.office_http.specs.Answering.{AnswersAt}
 
--- The bytes hold a request for the given command. For None, the bytes hold no request for any
--- command.
+-- True if the bytes have a request for the given command. For None, the bytes have no request for
+-- any command.
 abbrev pub Asks : (read : List ℕ) → Option Asked → Type 0
 Asks read None = AsksNothing routes read
 Asks read (Some asked) = AsksOffice routes read asked
@@ -37,8 +37,9 @@ with_asked past at None = past
 with_asked past at (Some asked) =
     with_answer past at (event.Asked asked) (decision_of past at (event.Asked asked))
 
--- The response has the program's answer, which follows from the events that it accepted earlier
--- (`past`). If the bytes hold a command, then `later` is this history with the command added.
+-- True if the response has the program's answer, which follows from the events that it accepted
+-- earlier (`past`). If the bytes have a command, then `later` is this history with the command
+-- added.
 pub record IsAnswered (zone : Zone) (past : History) (at : ℕ) (read reply : List ℕ)
     (later : History)
     : Type 0 where
@@ -47,9 +48,9 @@ pub record IsAnswered (zone : Zone) (past : History) (at : ℕ) (read reply : Li
   pub asks : Asks read asked
   pub accepts : later ≡ with_asked past at asked
 
--- The response reports that the store or memory failed, or that the program refuses all events
--- since an earlier failure. No event is accepted. The response reports an earlier failure only if
--- there was one.
+-- True if the response reports that the store or memory failed, or that the program refuses all
+-- events since an earlier failure. No event is accepted. The response reports an earlier failure
+-- only if there was one.
 pub record IsUnavailable (past : History) (had_stopped : Bool) (before after : Failures)
     (reply : List ℕ) (later : History) : Type 0 where
   pub why : Refusal
@@ -58,8 +59,8 @@ pub record IsUnavailable (past : History) (had_stopped : Bool) (before after : F
   pub reports : reply ≡ reply_bytes (refused why)
   pub unchanged : later ≡ past
 
--- The response to the bytes in `read`, given the counts of failures before and after the call. If
--- the store fails while rows are written, then the response is cut off.
+-- True if the response belongs to the bytes `read`, given the counts of failures before and after
+-- the call. If the store fails while rows are written, then the response is cut off.
 abbrev pub IsServed : Zone → (past : History) → (at : ℕ) → (read : List ℕ) → (had_stopped : Bool)
     → (before after : Failures) → (cut : Option Refusal) → (reply : List ℕ) → (later : History)
     → Type 0
@@ -69,22 +70,22 @@ IsServed zone past at read had_stopped before after None reply later =
 IsServed zone past at read had_stopped before after (Some why) reply later =
     IsAnswered zone past at read reply later × IsOutside ⊥ before after why
 
--- The written bytes `put` lack the last line of the response `reply`, which contains the number of
--- rows. They may also lack rows.
+-- True if the written bytes `put` lack the last line of the response `reply`, which contains the
+-- number of rows. The bytes may also lack rows.
 pub record IsCutOff (put reply : List ℕ) : Type 0 where
   pub rows : List ℕ
   pub count : ℕ
   pub lacks : reply ≡ put ++ (rows ++ end_line count)
 
--- The written bytes `put` are the complete response `reply`, or a prefix of it if the response was
--- cut off.
+-- True if the written bytes `put` are the complete response `reply`, or a prefix of it if the
+-- response was cut off.
 abbrev pub IsPut : (cut : Option Refusal) → (put reply : List ℕ) → Type 0
 IsPut None put reply = reply ≡ put
 IsPut (Some why) put reply = IsCutOff put reply
 
--- The program executed the command in the bytes, and `answer` is its answer to that command. After
--- a crash, the store has all earlier records. It has the records of this command completely or not
--- at all.
+-- True if the program executed the command in the bytes, and `answer` is the program's answer.
+-- After a crash, the store has all earlier records. It has the records of this command completely
+-- or not at all.
 pub record IsFed (old new : Ledger) (past : History) (at : ℕ) (read : List ℕ) (later : History) :
     Type 0 where
   pub asked : Asked
@@ -93,16 +94,16 @@ pub record IsFed (old new : Ledger) (past : History) (at : ℕ) (read : List ℕ
   pub accepts : later ≡ with_answer past at (event.Asked asked) answer
   pub leaves : Leaves old new (LeftByEvent past at (event.Asked asked) answer)
 
--- Either the program executed the command in the bytes, or it executed nothing. In the second case,
+-- True if the program executed the command in the bytes, or executed nothing. In the second case,
 -- the store has all earlier records after a crash.
 abbrev pub LeavesServed : (old new : Ledger) → (past : History) → (at : ℕ) → (read : List ℕ)
     → (later : History) → Type 0
 LeavesServed old new past at read later =
     IsFed old new past at read later ⊎ ((later ≡ past) × KeepsFacts old new)
 
--- The call wrote the response to the bytes, or a part of the response. The program's state results
--- from the accepted events in `later`. After a crash, the store has all earlier records, perhaps
--- with those of the command in the bytes.
+-- True if the call wrote the response to the bytes, or a part of the response. The program's state
+-- follows from the accepted events in `later`. After a crash, the store has all earlier records,
+-- perhaps with those of the command in the bytes.
 pub record Serves {B : Type 0} (ledger : B → Ledger) (past : History) (at : ℕ) (read : List ℕ)
     (old new : Run B) (cut : Option Refusal) (put : List ℕ) : Type 0 where
   pub reply : List ℕ
@@ -113,43 +114,47 @@ pub record Serves {B : Type 0} (ledger : B → Ledger) (past : History) (at : �
   pub stands : Stands ledger later new
   pub leaves : LeavesServed (ledger (books_in old)) (ledger (books_in new)) past at read later
 
--- The call wrote its response through a writer, which had the state `from` before and `to` after.
+-- True if the call wrote its response through a writer, which had the state `from` before and `to`
+-- after.
 pub record Puts {B : Type 0} (ledger : B → Ledger) (past : History) (at : ℕ) (read : List ℕ)
     (old new : Run B) (from to : Outgoing) (cut : Option Refusal) : Type 0 where
   pub put : List ℕ
   pub serves : Serves ledger past at read old new cut put
   pub puts : sending.Puts from to put
 
--- For any content of the store, no request makes the program refuse further events or changes its
--- time zone. A store that has returned wrong data stays marked as not clean (`is_clean`).
+-- States that, for any content of the store, no request makes the program refuse further events or
+-- changes its time zone. A store that has returned wrong data stays marked as not clean
+-- (`is_clean`).
 pub record Lasts {B : Type 0} (ledger : B → Ledger) (old new : Run B) : Type 0 where
   pub stopped : is_stopped new ≡ is_stopped old
   pub clean : (ledger (books_in new)).is_clean → (ledger (books_in old)).is_clean
   pub zone : (ledger (books_in new)).zone ≡ (ledger (books_in old)).zone
 
--- The call served the request in the bytes, and wrote only the response to its link.
+-- True if the call served the request in the bytes, and wrote only the response to the client's
+-- connection.
 pub record PutsReply {B : Type 0} (ledger : B → Ledger) (at : ℕ) (read : List ℕ) (old new : Run B)
     (from to : Outgoing) (cut : Option Refusal) : Type 0 where
   pub serves : After ledger old new (λ past. Puts ledger past at read old new from to cut)
   pub gives : OnlyGives from to
   pub lasts : Lasts ledger old new
 
--- The bytes are a query for the poll with this number, or with an invalid number. The program's
--- answer is the response.
+-- True if the bytes are a query for the poll with this number, or with an invalid number. The
+-- program's answer is the response.
 pub record IsPollAsked (read : List ℕ) (number : Option ℕ) : Type 0 where
   pub nothing : AsksNothing routes read
   pub replies : (office : Office)
       → IsReply office routes read (reply_bytes (poll_reply office number))
 
--- The bytes are a query for the interval rows of a meter, and the program's answer is the response.
+-- True if the bytes are a query for a meter's energy by quarter hours, and the program's answer is
+-- the response.
 pub record AreIntervalsAsked (read : List ℕ) (meter : Option (List ℕ)) : Type 0 where
   pub nothing : AsksNothing routes read
   pub replies : (office : Office)
       → IsReply office routes read
       (reply_bytes (lines_reply intervals_text (office.intervals meter)))
 
--- The bytes are a query for the daily energy of an accounting register, and the program's answer is
--- the response.
+-- True if the bytes are a query for the daily energy of an accounting register (a named energy
+-- counter), and the program's answer is the response.
 pub record AreDaysAsked (read : List ℕ) (register : Option (List ℕ)) : Type 0 where
   pub nothing : AsksNothing routes read
   pub replies : (office : Office)

@@ -18,7 +18,7 @@ use office_core::Office;
 use office_events::{Answer, Asked, CommandKind, Event, Name, Refusal, StoreCause};
 
 // Converts the program's answer to a command into the command's kind. The answer `Noted` belongs to
-// no command, so it is reported as a damaged store.
+// no command, so this function reports it as a damaged store.
 fn command_result(answer: Result<Answer, Refusal>) -> Result<CommandKind, Refusal>
     ensures { result ≡ answering.reported answer }
 {
@@ -28,7 +28,7 @@ fn command_result(answer: Result<Answer, Refusal>) -> Result<CommandKind, Refusa
     }
 }
 
-// Executes a command, and writes the response to a link.
+// Executes a command, and writes the response to the client's connection.
 fn write_asked<'l, L: Link, B: Books>(
     bytes: &[u8],
     asked: Asked,
@@ -45,7 +45,8 @@ fn write_asked<'l, L: Link, B: Books>(
     Replied { writer, cut: None }
 }
 
-// Queries the poll with this number from the store, and writes the response to a link.
+// Queries the poll with this number from the store, and writes the response to the client's
+// connection.
 fn write_poll_asked<'l, L: Link, B: Books>(
     bytes: &[u8],
     number: Option<u64>,
@@ -70,7 +71,8 @@ fn write_poll_asked<'l, L: Link, B: Books>(
     }
 }
 
-// Queries the interval rows of a meter, and writes them to the response one after another.
+// Queries the energy of a meter by quarter hours, and writes the rows to the response one after
+// another.
 fn write_intervals<'l, L: Link, B: Books>(
     bytes: &[u8],
     meter: &Option<Name>,
@@ -91,7 +93,8 @@ fn write_intervals<'l, L: Link, B: Books>(
     lines.finish_report(answer)
 }
 
-// Queries the daily energy of an accounting register, and writes one line a day to the response.
+// Queries the daily energy of an accounting register (a named energy counter), and writes one line
+// a day to the response.
 fn write_days<'l, L: Link, B: Books>(
     bytes: &[u8],
     register: &Option<Name>,

@@ -1,4 +1,4 @@
-//! Reads one HTTP request from a link, and writes one response.
+//! Reads one HTTP request from a client's connection, and writes one response.
 ghost use Rattle.std.specs.Prelude.{◌≡◌, ◌≤◌, length};
 ghost use Rattle.std.specs.Io.KnownBytes.{Keeps};
 ghost use Rattle.mb_wire.specs.Links.{risen};
@@ -53,7 +53,7 @@ pub(crate) fn refuse<L: Link>(link: &mut L) -> Result<(), HandleFault>
     ended(sent, None)
 }
 
-/// Executes a request that was read, and writes the response to the link.
+/// Executes a request that was read, and writes the response to the client's connection.
 pub(crate) fn reply<L: Link, B: Books>(
     bytes: &[u8],
     want: Want<'_>,
@@ -101,7 +101,8 @@ fn serve<L: Link, B: Books>(
     reply(inbox.bytes(), want, link, office, moment)
 }
 
-/// Serves one HTTP/1.1 request: reads it from the link, executes it, and writes the response.
+/// Serves one HTTP/1.1 request: reads the request from a client's connection, executes it, and
+/// writes the response.
 ///
 /// `moment` is in seconds since 1970-01-01 UTC. If the response to an accepted command cannot be
 /// written, the command stays executed. A retry with the same idempotency key gets the stored

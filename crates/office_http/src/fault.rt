@@ -9,22 +9,23 @@ use std::fmt::{Display, Formatter};
 /// The reason why a request was not served.
 #[derive(Clone, Copy, Debug, PartialEq, Eq)]
 pub enum HandleFault {
-    /// A read from the link failed.
+    /// A read from the client's connection failed.
     Read,
-    /// A write to the link failed.
+    /// A write to the client's connection failed.
     Write,
-    /// The input ended inside the request.
+    /// The client's input ended inside the request.
     Short,
-    /// The request was still incomplete after 100,000 reads from the link.
+    /// The request was still incomplete after 100,000 reads from the client's connection.
     TurnsUsed,
-    /// The store failed after the first row of the response, so the response is cut off.
+    /// The store of metering records failed after the first row of the response, so the response is
+    /// cut off.
     Cut,
 }
 
 impl HandleFault {
     ghost use Rattle.office_http.specs.Exchange.{fault_number};
 
-    /// Returns the number of the fault, which no output of the program contains.
+    /// Returns the number of the reason. No output of the program contains this number.
     pub fn number(self) -> u8
         ensures { result ≡ fault_number self }
     {

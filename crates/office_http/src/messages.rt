@@ -1,5 +1,5 @@
-//! Reads HTTP requests from a link, tests their heads in a fixed order, and writes the responses of
-//! an office.
+//! Reads HTTP requests from a client's connection, tests their heads in a fixed order, and writes
+//! the responses.
 
 mod ask;
 mod commands;

@@ -1,4 +1,4 @@
-//! Streams reports row by row as HTTP responses. No function in this module allocates.
+//! Streams the rows of energy reports as HTTP responses. No function in this module allocates.
 
 mod lines;
 

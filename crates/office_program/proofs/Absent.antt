@@ -20,8 +20,8 @@ use Rattle.office_core.specs.Failing.{FailsOutside}
 use Rattle.office_core.specs.Taking.{IsAnswer}
 use Rattle.office_program.specs.Rounds.{NoneWaits}
 
--- True if the slot does not belong to the device `given`, or has no session because the device is
--- disconnected.
+-- True if the table entry (slot) belongs to another device than `given`, or has no polling session
+-- because its device is disconnected.
 abbrev IsLeft : Option (List ℕ) → Slot → Type 0
 IsLeft given slot = is_named given slot.device.name ≡ true → slot.present ≡ None
 
@@ -42,7 +42,8 @@ first_or_later : (named : Bool) (first slot : Slot) (later : Option Slot) → co
 first_or_later true first slot later h = let same : first ≡ slot = cc in inl (refl, same)
 first_or_later false first slot later h = inr h
 
--- True if no slot of the device `given` has a session, since the device is disconnected.
+-- True if no table entry (slot) of the device `given` has a polling session, since the device is
+-- disconnected.
 abbrev AreLeft : Option (List ℕ) → List Slot → Type 0
 AreLeft given slots = (slot : Slot) → slot_of slots given ≡ Some slot → slot.present ≡ None
 
@@ -109,8 +110,8 @@ gone_or_absent history at given c None reply is on_time within reported =
 gone_or_absent history at given c (Some why) reply is on_time within reported =
     rw reported (none_waits given history (λ slot found. absent_by history at given c why slot slot.present refl on_time within found is))
 
--- If the event `Gone` (the device is disconnected) is not refused for its timestamp, then no poll
--- of the device is pending after it, or the store or memory failed.
+-- Suppose that the event `Gone` (the device is disconnected) is not refused for its timestamp. Then
+-- afterwards no poll of the device is pending, or the store or memory failed.
 pub gone : (history : History) (at : ℕ) (given : Option (List ℕ)) (c : Closing) (before after : Failures) (reply : Result Answer Refusal)
     → nat_lt at (latest_of history) ≡ false → nat_lt moment_limit at ≡ false → IsAnswer history at (event.Gone given c) before after reply
     → NoneWaits given (with_answer history at (event.Gone given c) reply) ⊎ FailsOutside (IsAccepted history at (event.Gone given c)) before after reply

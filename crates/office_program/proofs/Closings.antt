@@ -74,8 +74,8 @@ settled_or d c history office was takes_memory before after at reply stops (inr 
 abbrev pub gone_one : (device : Option (List ℕ)) → (at : ℕ) → Result Answer Refusal → Answered
 gone_one device at reply = record { at = at; event = event.Gone device closing.Failed; result = reply }
 
--- If a fault ended a polling round, and its last event was fed and reported, then the round
--- satisfies `Closes`.
+-- If a fault ended a polling round, and its last event was fed and reported, then the contract
+-- `Closes` for ending the round holds.
 pub closes : {B : Type 0} (ledger : B → Ledger) (device : Option (List ℕ)) (past : History) (begun was now : RoundState) (before office : Office B)
     (earlier : List Answered) (round : Progress) (cause fault : RoundFault) (moment at : ℕ) (reply : Result Answer Refusal)
     → Broken ledger device past begun was before earlier round cause → ReportsMoment was.moments now.moments moment
@@ -140,8 +140,8 @@ reported_after ledger device past begun was now before office earlier round caus
     (closes ledger device past begun was now before office earlier round cause Output moment at reply broken reports is taken stops (inr refl)
     (part_printed cause (text_after past earlier) _ begun.printed was.printed now.printed other broken.printed reported.1))
 
--- If a fault other than a failed write ended a polling round, and its last event was fed and
--- printed, then the round satisfies `Closes`.
+-- Suppose that a fault other than a failed write ended a polling round. If its last event was fed
+-- and printed, then the contract `Closes` for ending the round holds.
 pub closes_printed : {B : Type 0} (ledger : B → Ledger) (device same : Option (List ℕ)) (past : History) (begun was now : RoundState)
     (before office : Office B) (earlier : List Answered) (round : Progress) (cause fault : RoundFault) (moment at : ℕ) → same ≡ device
     → Broken ledger device past begun was before earlier round cause → (cause ≡ Output → ⊥) → ReportsMoment was.moments now.moments moment
@@ -154,8 +154,8 @@ closes_printed ledger device same past begun was now before office earlier round
     let mine = subst P equal ends in
     reported_after ledger device past begun was now before office earlier round cause fault moment at mine.reply broken other reports is mine.taken mine.stops mine.printed
 
--- If a failed write ended a polling round, and its last event was fed but not printed, then the
--- round satisfies `Closes`.
+-- Suppose that a failed write ended a polling round. If its last event was fed but not printed,
+-- then the contract `Closes` for ending the round holds.
 pub closes_unprinted : {B : Type 0} (ledger : B → Ledger) (device same : Option (List ℕ)) (past : History) (begun was now : RoundState)
     (before office : Office B) (earlier : List Answered) (round : Progress) (moment at : ℕ) → same ≡ device
     → Broken ledger device past begun was before earlier round Output → ReportsMoment was.moments now.moments moment

@@ -28,8 +28,8 @@ use Rattle.office_program.specs.PortRound.{PollsPort, ReportsPolling}
 use Rattle.office_program.specs.declared.port_round.PollEnd.{PollEnd}
 use Rattle.office_program.specs.declared.port_round.PollEnd.TheVariants as polling
 
--- If the returned store is clean (no wrong result of it was used), then the store of the final
--- office is clean.
+-- If the store that a command returns is clean (no wrong result of it was used), then the store was
+-- clean after the command's action.
 kept : {B : Type 0} (ledger : B → Ledger) (left : Office B) (back : B) → back ≡ books_in left → (ledger back).is_clean
     → (ledger (books_in left)).is_clean
 kept {B = B} ledger left back is clean = let P : B → Type 0 = λ b. (ledger b).is_clean in subst P is clean

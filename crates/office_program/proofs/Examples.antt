@@ -1,5 +1,5 @@
--- Worked examples of doubted entries. An entry by hand is requested if its energy is within the
--- meter's ceiling, and doubted if its energy is above the ceiling.
+-- Worked examples of manual entries. If an entry adds more energy than the meter's greatest power
+-- gives in the time since the last entry, then the entry needs a confirmation.
 use Rattle.std.proofs.Common.{◌≡◌, ℕ, ℤ, pos, negsuc, true, false, List, [], ◌∷◌, Option, Some, None, refl}
 use Rattle.std.specs.Prelude.{codes}
 use Rattle.energy_core.specs.Value.{unit_of}
@@ -25,7 +25,8 @@ m1 = codes "m1"
 abbrev desk : List ℕ
 desk = codes "desk"
 
--- ---- Example: a meter that counts Wh, with at most 100 kW at its register: 100,000 counts an hour
+-- Example: a meter that counts Wh, at an accounting register with at most 100 kW. This is 100,000
+-- counts an hour.
 
 abbrev opening : (sf : ℤ) → (raw range : ℕ) → Opening
 opening sf raw range = record { meter = m1; register = main; ceiling = 100000; range = range; at = 1000; raw = raw; sf = sf }
@@ -56,8 +57,8 @@ exchange last rolls = command.Exchange (record {
   range = 4294967296;
 })
 
--- After an hour, an entry of 100,001 counts is not doubted. When the hour began, the counter may
--- have been about to advance, so the first count may need no energy.
+-- After an hour, an entry of 100,001 counts needs no confirmation. When the hour began, the counter
+-- may have been about to advance, so the first count may need no energy.
 the_most_in_an_hour : doubted_at 4600 (manual 105001 0 None) wh ≡ None
 unfolding unit_of
 the_most_in_an_hour = refl
@@ -70,8 +71,8 @@ a_second_later : doubted_at 4601 (manual 105002 0 None) wh ≡ None
 unfolding unit_of
 a_second_later = refl
 
--- If the meter's last reading is from half an hour ago, then an entry above 50,001 counts is
--- doubted.
+-- If the meter's last reading is from half an hour ago, then an entry above 50,001 counts needs a
+-- confirmation.
 the_most_half_an_hour_ago : doubted_at 4600 (manual 55001 0 (Some 2800)) wh ≡ None
 unfolding unit_of
 the_most_half_an_hour_ago = refl
@@ -80,8 +81,8 @@ one_more_half_an_hour_ago : doubted_at 4600 (manual 55002 0 (Some 2800)) wh ≡ 
 unfolding unit_of
 one_more_half_an_hour_ago = refl
 
--- A closing, the end of an exchanged meter and the reading before a reset or rescaling are doubted
--- under the same rule as a manual reading.
+-- The rule for manual readings also applies to a closing, the last reading of an exchanged meter,
+-- and the reading before a reset or rescaling. They may need a confirmation.
 the_most_before_an_exchange : doubted_at 4600 (exchange 105001 0) wh ≡ None
 unfolding unit_of
 the_most_before_an_exchange = refl
@@ -118,7 +119,7 @@ one_more_before_another_scale = refl
 
 -- An entry after a rollover counts the full range of the rollover.
 --
--- The meter's counter rolls over at 65,536 and counts thousandths of a Wh. A second ago it showed
+-- The example's counter rolls over at 65,536 and counts thousandths of a Wh. A second ago it showed
 -- 65,000.
 the_most_over_a_turn : doubted_at 1001 (manual 27242 1 None) (meter (negsuc 2) 65000 65536) ≡ None
 unfolding unit_of
@@ -132,8 +133,8 @@ another_turn : doubted_at 1001 (manual 27242 2 None) (meter (negsuc 2) 65000 655
 unfolding unit_of
 another_turn = refl
 
--- If the office refuses an entry because it is not later or decreases the counter, then the entry
--- is not doubted. Other commands are not doubted either.
+-- If the office (the event engine) refuses an entry because it is not later or decreases the
+-- counter, then the entry needs no confirmation. Commands without a manual entry need none either.
 no_later : doubted_at 1000 (manual 4000000000 0 None) wh ≡ None
 unfolding unit_of
 no_later = refl
@@ -146,7 +147,7 @@ an_installation : doubted_at 1001
     (command.Install (record { register = Some main; meter = Some (codes "m2"); raw = 4000000000; sf = pos 0; ceiling = 1; range = 4294967296 })) wh ≡ None
 an_installation = refl
 
--- ---- Examples: requests with doubted entries
+-- Examples of requests whose manual entries need a confirmation.
 
 abbrev asked : (request : List ℕ) → Asked
 asked request = record { caller = Some desk; number = 5; request = request; command = manual 105002 0 None }
@@ -185,7 +186,7 @@ one_where_no_meter_is : doubt_of [] 4600 (asked line) ≡ None
 unfolding unit_of
 one_where_no_meter_is = refl
 
--- ---- Examples: the mark ` !` at the end of an input line
+-- Examples of the mark ` !` at the end of an input line, which confirms a manual entry.
 
 a_mark : is_marked (codes "5 close main 6000 0 !") ≡ true
 a_mark = refl

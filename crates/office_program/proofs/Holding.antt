@@ -1,5 +1,5 @@
--- Proof that after each event the type `Round` is in the state that the definition `Holds`
--- requires, so its next action is the defined one.
+-- Proof that after each event a value of the type `Round` has the state that the definition `Holds`
+-- requires, and so the defined next action.
 use Rattle.std.proofs.Common.{◌≡◌, ◌⊎◌, inl, inr, ℕ, zero, suc, ◌+◌, ◌-◌, ◌^◌, min, ◌<◌, ◌≤◌, ◌==◌, nat_le, nat_lt, not, Bool, true, false, cond, List, [], ◌∷◌, ◌++◌, length, map, Option, Some, None, Ok, refl, sym, ap, ◌∙◌, subst, arith}
 use Rattle.std.specs.List.{count_by, filter}
 use Rattle.std.specs.Option.{is_none, option_and_then}
@@ -56,8 +56,8 @@ use Rattle.office_program.proofs.Starts.{can_be_started, ends_kept, few_sent, na
 use Rattle.office_program.proofs.Timely.{connected_noted}
 use Rattle.office_program.proofs.Reported.{ends_settled, reported, waits_reported}
 
--- The theorems that the proof on polling rounds uses: on the polls since a connection, on accepted
--- events, and on the store's records.
+-- The earlier theorems that the proof on polling rounds uses. They concern the polls since a
+-- connection, accepted events, and the store's records.
 pub record Laws : Type 0 where
   pub session : SessionLaws
   pub once : (history : History) → AreAccepted history → PollsEndOnce history
@@ -74,8 +74,9 @@ round_at device stage polls started planned sum = record {
   sum = sum;
 }
 
--- The stage of a waiting polling round after notifications. The round still waits if no poll ended.
--- Otherwise it starts the remaining Modbus reads, or ends.
+-- The stage of a waiting polling round after the office (the event engine) reported outcomes of
+-- polls. If none of its polls ended, it still waits. Otherwise it starts the remaining Modbus
+-- reads, or ends.
 abbrev stage_by : (none start leave : Bool) → Stage
 stage_by none start leave = cond none Waiting (cond start Starting (cond leave (Leaving closing.Gone) Waiting))
 
@@ -153,8 +154,8 @@ quiet_note first (note.Outcome poll outcome) h = absurd (let no = h poll in let 
 quiet_note first (note.Reading meter raw rolls step) h = refl
 quiet_note first (note.Held meter raw cause) h = refl
 
--- If no outcome is reported for a poll after the round's last one, then each outcome from the
--- round's first poll on belongs to one of its started polls.
+-- Suppose that no outcome is reported for a poll after the polling round's last one. Then each
+-- outcome from its first poll on belongs to one of its polls.
 ends_reported : (first : Option ℕ) (number started : ℕ) (notes : List Note) → IsFirst first number started
     → ((n : ℕ) → number + started ≤ n → reported n notes ≡ 0) → count_by (is_ending first) notes ≡ reported_from number started notes
 ends_reported None number started notes is beyond =
@@ -165,7 +166,7 @@ ends_reported (Some first) number started notes is beyond =
     ∙ counts_from number started (is_ending (Some number)) notes (λ p o. refl) (λ one h. quiet_note number one h) beyond
 
 -- True if the event may end polls: the store records the outcomes of the ended polls, and the
--- office reports them in notifications.
+-- event engine reports them in notifications.
 pub record Settles (history : History) (at : ℕ) (e : Event) : Type 0 where
   pub facts : facts_of (Fed at e ∷ history)
       ≡ with_settled (next_poll (facts_of history)) at e (slots_of history) (facts_of history)
@@ -272,7 +273,7 @@ given_by : (refused : Option Refusal) (reported given : Answer) → Ok given ≡
 given_by None reported given h = cc
 given_by (Some why) reported given h = absurd (cc)
 
--- If a device is connected, then the device has a slot in the office.
+-- If a device is connected, then the device has an entry in the event engine's table of devices.
 slot_there : (o : Option Slot) → is_none o ≡ false → (slot : Slot) × (o ≡ Some slot)
 slot_there None h = absurd (cc)
 slot_there (Some slot) h = (slot, refl)
@@ -467,8 +468,8 @@ noted_by history at device (event.Gone d cause) before after given taken (inr fa
 noted_by history at device (event.Command c) before after given taken reported = absurd taken
 noted_by history at device (event.Asked asked) before after given taken reported = absurd taken
 
--- True if the polling round is in its defined state after an event that the office accepted with
--- the answer `given`.
+-- True if the polling round has the defined state after the next event, which the event engine
+-- accepted with the answer `given`.
 abbrev HoldsAfter : (device : Option (List ℕ)) → History → List Answered → (at : ℕ) → Event → Round → Answer → Type 0
 HoldsAfter device past fed at e round given =
     Holds device past (fed_one at e (Ok given) ∷ fed) (round_after e given (notes_after (history_with past fed) at e (Ok given)) round)
@@ -524,8 +525,8 @@ by_stage laws device past fed at e before after given (Leaving cause) polls star
     subst (λ x. HoldsAfter device past fed at x (round_at device (Leaving cause) polls started planned sum) given) (sym does)
     (record { device_is = refl; next = refl; stands = tt })
 
--- If a polling round is in its defined state, and the office accepts the round's next event, then
--- the round is in its defined state after this event.
+-- Suppose that a polling round is in its defined state, and the event engine accepts the round's
+-- next event. Then the round is in its defined state after this event.
 pub holds_on : (laws : Laws) (device : Option (List ℕ)) (past : History) (fed : List Answered) (round : Round) (at : ℕ) (e : Event) (before after : Failures)
     (given : Answer) → Holds device past fed round → Does device (next_in past fed) e
     → IsAnswer (history_with past fed) at e before after (Ok given) → IsPast (Fed at e ∷ history_with past fed)

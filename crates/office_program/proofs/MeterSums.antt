@@ -37,7 +37,7 @@ module _ (zone : Zone) (range : DayRange) where
   abbrev adds : Share → DayAccount → ℕ
   adds row account = cond (asked account.day) (cond (int_eq (day_of row) account.day) row.mwh 0) 0
 
-  -- ---- The energy of a day after one more interval
+  -- Lemmas on the energy of a day after one more quarter-hour interval.
 
   one_day : (p b : Bool) (row : Share) (rows : List Share)
       → cond p (energy_of (cond b (row ∷ rows) rows)) 0 ≡ cond p (cond b row.mwh 0) 0 + cond p (energy_of rows) 0
@@ -53,7 +53,7 @@ module _ (zone : Zone) (range : DayRange) where
       let rest = one_row row rows accounts in
       omega (arith, here, rest, sum_by-cons (on_day (row ∷ rows)) account accounts, sum_by-cons (adds row) account accounts, sum_by-cons (on_day rows) account accounts)
 
-  -- ---- An interval adds energy only to its day
+  -- Lemmas: an interval adds energy only to its day.
 
   nothing : (p : Bool) → ◌≡◌ {A = ℕ} (cond p 0 0) 0
   nothing true = refl
@@ -106,7 +106,7 @@ module _ (zone : Zone) (range : DayRange) where
             omega (arith, here, rest, sum_by-cons (adds row) account accounts)
       ]
 
-  -- ---- The energy of all intervals in the range
+  -- Lemmas on the energy of all intervals in a range of days.
 
   abbrev in_range : Share → Bool
   in_range row = asked (day_of row)
@@ -142,7 +142,7 @@ module _ (zone : Zone) (range : DayRange) where
       let day = day_of (get_or rows k d) in
       longer (int_eq (day_of row) day) row (rows_on zone rows day) (some_on rows k d (omega (arith, less)))
 
-  -- ---- The days of a register's report in the range
+  -- Lemmas on the days of a register's report that are in a range of days.
 
   is_in_number : (total : DayTotal) → is_in range total.day ≡ has_day range (account_of total).day
   is_in_number total =
@@ -175,7 +175,7 @@ module _ (zone : Zone) (range : DayRange) where
       let rest = of_days rows days (All-tail P account (map account_of days) each) in
       omega (arith, here, rest, one_total (is_in range total.day) total (days_in range days), sum_by-cons (on_day rows) account (map account_of days))
 
-  -- ---- The energy of all meters of a register
+  -- Lemmas on the energy of all meters of an accounting register in a range of days.
 
   abbrev IsOfSomeDay : Share → Type 0
   IsOfSomeDay row = row.start ≤ LAST_MOMENT

@@ -128,8 +128,8 @@ counts_from first count test (note.Held meter raw cause ∷ notes) ended other b
     ∙ counts_from first count test notes ended other beyond
     ∙ reported_same first count notes (one ∷ notes) (λ n. refl)
 
--- A poll without a recorded outcome counts as one open poll. A poll with a recorded outcome counts
--- as none.
+-- A poll without a recorded outcome counts as one pending poll. A poll with a recorded outcome
+-- counts as none.
 one_open : (x n : ℕ) → length (cond (n == 0) (x ∷ []) []) ≡ 1 - n
 one_open x zero = refl
 one_open x (suc n) = ap length (cond-false (suc n == 0) (x ∷ []) [] (ne_eqb (suc n) 0 (λ e. absurd (omega (arith, e))))) ∙ omega arith

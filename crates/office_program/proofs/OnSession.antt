@@ -28,8 +28,8 @@ use Rattle.office_books.proofs.Lookups.{find_passes}
 use Rattle.office_books.proofs.SessionLaws.{SessionLaws, number_by, numbers-push}
 use Rattle.office_program.specs.Polling.{IsOnSession, is_open}
 
--- If a change of the slots keeps the names of their devices, then a lookup of a device finds its
--- changed slot.
+-- If a change of the device table keeps the devices' names, then a lookup of a device finds its
+-- changed table entry.
 found_step : (b : Bool) (f : Slot → Slot) (one slot : Slot) (later after : Option Slot) → (later ≡ Some slot → after ≡ Some (f slot))
     → cond b (Some one) later ≡ Some slot → cond b (Some (f one)) after ≡ Some (f slot)
 found_step true f one slot later after rest h = let same : one ≡ slot = cc in ap (λ s. Some (f s)) same
@@ -121,7 +121,7 @@ sent_on laws at device before (send ∷ sends) =
     ∙ ap (λ ns. ns ++ sent_numbers sends) (numbers_more laws device before (start_by at device send))
     ∙ append_assoc (numbers_in (polls_on device false before)) (send.number ∷ []) (sent_numbers sends)
 
--- True if `after` is the slot of a device after Modbus reads were started on its session.
+-- True if `after` is the table entry of a device after Modbus reads were started on its session.
 pub record IsAfterStart (at : ℕ) (slot : Slot) (before : List session.Event) (sends : List Send) (after : Slot) : Type 0 where
   pub device : after.device ≡ slot.device
   pub present : after.present ≡ Some (before ++ map (start_by at slot.device) sends)

@@ -88,8 +88,8 @@ is_round ledger device past begun now from to office fed round going wired over 
   settled = inr (over_settled device past fed begun.failures now.failures over going.next going.leaves.answered);
 }
 
--- If a fault ended a polling round, and the round fed its last event, then the round's result
--- satisfies `IsBrokenOff`.
+-- If a fault ended a polling round, and the round fed its last event, then its result satisfies
+-- `IsBrokenOff`, the contract for such an end.
 pub is_broken_off : {B : Type 0} (ledger : B → Ledger) (device : Option (List ℕ)) (past : History) (begun was now : RoundState) (from to : Wire)
     (before office : Office B) (earlier : List Answered) (round : Progress) (cause fault : RoundFault)
     → Broken ledger device past begun was before earlier round cause → IsWired {X = Unit {0}} past from to earlier (Err cause)

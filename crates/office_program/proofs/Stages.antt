@@ -33,7 +33,8 @@ use Rattle.office_program.proofs.Goings.{part_more}
 use Rattle.office_program.proofs.Nexts.{connection_next, end_next, start_next}
 use Rattle.office_program.proofs.Wires.{appends_nothing, consumes_nothing, part_of_all}
 
--- If a running polling round has a fault, then the round ends early and satisfies `Broken`.
+-- If a running polling round has a fault, then the round ends early, in the state that the
+-- definition `Broken` requires.
 pub broken : {B : Type 0} (ledger : B → Ledger) (device : Option (List ℕ)) (past : History) (begun now : RoundState) (office : Office B)
     (fed : List Answered) (round : Progress) (cause : RoundFault) → Going ledger device past begun now office fed round
     → BreaksOff device past cause fed → IsPrinted {X = Unit {0}} (Err cause) (text_after past fed) begun.printed now.printed
@@ -55,8 +56,8 @@ given_broken Link h at e result a b frames unsent got = absurd unsent
 given_broken Output h at e result a b frames unsent got = (frames, outgoing_after h at e result, refl, got)
 given_broken TurnsUsed h at e result a b frames unsent got = absurd unsent
 
--- If no frames were sent for the event that ended a polling round early, then the bytes on the link
--- are those of `IsWired`.
+-- If no frames were sent for the event that ended a polling round early, then the bytes read and
+-- written are those that `IsWired` requires.
 pub wired_broken : (past : History) (from to : Wire) (fed : List Answered) (one : Answered) (e : Event) (cause : RoundFault)
     → Consumes from.remaining to.remaining (pieces_after fed ++ piece_in e) → Appends from.given to.given (frames_after past fed)
     → one.event ≡ e → IsUnsent cause one.result → IsWired {X = Unit {0}} past from to (one ∷ fed) (Err cause)
@@ -67,8 +68,8 @@ wired_broken past from to fed one e cause taken given is unsent = record {
   given = given_broken cause (history_with past fed) one.at one.event one.result from.given to.given (frames_after past fed) unsent given;
 }
 
--- If a polling round wrote all frames of an event, then the bytes on the link are those of
--- `IsWired`.
+-- If a polling round wrote all frames of an event, then the bytes read and written are those that
+-- `IsWired` requires.
 pub wired_sent : (past : History) (from mid to : Wire) (fed : List Answered) (one : Answered) (e : Event) (frames : List ℕ)
     → Consumes from.remaining mid.remaining (pieces_after fed ++ piece_in e) → Appends from.given mid.given (frames_after past fed) → one.event ≡ e
     → frames ≡ outgoing_after (history_with past fed) one.at one.event one.result → Keeps mid.remaining to.remaining
@@ -141,7 +142,8 @@ rests_at device Starting started wish = absurd (cc)
 rests_at device Waiting started wish = refl
 rests_at device (Leaving cause) started wish = absurd (cc)
 
--- If a polling round requests no event, then settling its next action changes nothing.
+-- If a polling round requests no event, then its next action is a read of the link, or the round is
+-- over.
 pub rests : (device : Option (List ℕ)) (past : History) (fed : List Answered) (round : Round) (now : Next) → Holds device past fed round
     → wish_of round ≡ None → next_in past fed ≡ now → next_in past fed ≡ settled now
 rests device past fed round now holds wish is =
@@ -201,8 +203,8 @@ kept_wire past from old new fed wired taken kept = (
 pub of_device : (device same : Option (List ℕ)) (e : Event) → same ≡ device → IsTaken same e → IsTaken device e
 of_device device same e equal taken = let P : Option (List ℕ) → Type 0 = λ d. IsTaken d e in subst P equal taken
 
--- If one action of a polling round is followed by a second action, then both together satisfy
--- `StepsFrom` with the result of the second.
+-- If one action of a polling round is followed by a second action, then both together satisfy the
+-- contract `StepsFrom` with the second action's result.
 pub compose : {B X Y : Type 0} (ledger : B → Ledger) (old mid new : Scene B) (now : Next) (x : X) (after : X → Next) (next : Next)
     (result : Result Y RoundFault) (final : Y → Next) → StepsFrom ledger old mid now (Ok x) after → after x ≡ next
     → StepsFrom ledger mid new next result final
@@ -269,8 +271,8 @@ not_taken ledger device past begun now from to office fed round same Link before
 not_taken ledger device past begun now from to office fed round same Output before after last brings going taken given = absurd brings
 not_taken ledger device past begun now from to office fed round same TurnsUsed before after last brings going taken given = absurd brings
 
--- If a turn's result says whether the polling round is over, then the next action is known: none if
--- it is over, otherwise a read of the link.
+-- If the result of an action says whether the polling round is over, then the next action is known:
+-- none if it is over, otherwise a read of the link.
 pub as_turn : {B : Type 0} (ledger : B → Ledger) (old new : Scene B) (now : Next) (over b : Bool)
     → StepsFrom ledger old new now (Ok over) over_or_take → over ≡ b
     → StepsFrom {X = Unit {0}} ledger old new now (Ok tt) (λ done. over_or_take b)

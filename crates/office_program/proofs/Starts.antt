@@ -35,8 +35,8 @@ use Rattle.office_books.proofs.Lists.{reverse_cons}
 use Rattle.office_books.proofs.StartedPolls.{command_adds, numbers}
 use Rattle.office_program.specs.Polling.{from_on}
 
--- The conditions under which the office accepts a start of Modbus reads, such as a connected device
--- and a read that remains.
+-- The conditions under which the office (the event engine) accepts a start of Modbus reads, such as
+-- a connected device and a read that remains.
 pub record CanStart (history : History) (at : ℕ) (c : StartRound) : Type 0 where
   pub slot : Slot
   pub before : List session.Event

@@ -1,4 +1,5 @@
--- Properties of the office's answers to the queries for a meter's statement.
+-- Properties of the event engine's answers to the queries for a meter's statement (the numbers
+-- against which a bill is checked).
 use Rattle.std.proofs.Common.{◌≡◌, inl, inr, ℕ, zero, suc, ◌+◌, ◌-◌, ◌^◌, ◌<◌, Bool, true, false, cond, Option, Some, None, List, [], ◌∷◌, ◌++◌, map, reverse, take, drop, length, get_or, refl, sym, ap, subst, ◌∙◌, append-nil, append_assoc, arith}
 use Rattle.std.specs.Prelude.{Result, Ok, Err, ◌&&◌, All, filter, is_ok, is_some, min, nat_le, sum_by}
 use Rattle.command_io.specs.declared.status.ExitStatus.{ExitStatus}
@@ -80,7 +81,7 @@ listed_err None before after why (inl is) = inl (ap (λ w. Err w) is.0, is.1)
 listed_err None before after why (inr out) = inr out
 listed_err (Some rows) before after why out = inr out
 
--- ---- Filtering a list by two tests
+-- Lemmas on filtering a list by two tests.
 
 fails_too : (p q : Bool) → (p ≡ true → q ≡ true) → q ≡ false → p ≡ false
 fails_too true q implies isnt = absurd (let e : false ≡ true = sym isnt ∙ implies refl in cc e)
@@ -110,7 +111,8 @@ and_second true b is = is
 and_second false b is = absurd (cc is)
 
 module _ {B : Type 0} (ledger : B → Ledger) (zone : Zone) (range : DayRange) where
-  -- ---- The tally of a meter's entries
+  -- Lemmas on the tally of a meter's entries in a range of days: the first and last entry, and the
+  -- corrections.
 
   abbrev pub IsTallied : (a b : Office B) → (meter : Option (List ℕ)) → (n : ℕ) → EntryTally → Type 0
   IsTallied a b meter n tally = After ledger a b (λ past. (opening : Opening)
@@ -165,7 +167,7 @@ module _ {B : Type 0} (ledger : B → Ledger) (zone : Zone) (range : DayRange) w
       (nothing (from_place facts n) (λ (x : Opening). tally_of zone range (entries_at facts (Some x))) o) kept.failures
       (listed_err (option_map (from_place facts n) o) (failures_of ledger b) (failures_of ledger d) why (lists past (kept.stands past stands) clean))
 
-  -- ---- The energy of a meter in a range of days
+  -- Lemmas on the energy of a meter in a range of days.
 
   -- True if the span of quarter hours contains every quarter hour of the range of days.
   abbrev pub IsAround : Span → Type 0
@@ -208,7 +210,7 @@ module _ {B : Type 0} (ledger : B → Ledger) (zone : Zone) (range : DayRange) w
       refused_on ⊥ (Unit {0}) (is_there (intervals_within facts meter span)) (energy_in zone range facts meter)
       (failures_of ledger a) (failures_of ledger a) (failures_of ledger d) why (λ none. tt) (no_rows span (intervals_of facts meter)) refl hands.answer
 
-  -- ---- The counts of a meter's rejected readings
+  -- Lemmas on the counts of a meter's rejected readings.
 
   abbrev holds_if : List Fact → (name : List ℕ) → Opening → List HeldReading
   holds_if facts name opening = holds_within span.All (holds_of facts name)
@@ -252,7 +254,7 @@ module _ {B : Type 0} (ledger : B → Ledger) (zone : Zone) (range : DayRange) w
       refused_on ⊥ (Unit {0}) (is_there (holds_named facts meter span.All)) (held_in zone range facts meter)
       (failures_of ledger a) (failures_of ledger a) (failures_of ledger d) why (λ none. tt) (no_holds facts meter) refl hands.answer
 
-  -- ---- The statement of one meter
+  -- Lemmas on the statement of one meter, against which its bill is checked.
 
   abbrev by_opening : List Fact → (meter : List ℕ) → Opening → MeterStatement
   by_opening facts meter opening = reported_of zone range facts meter (Some opening)
@@ -328,7 +330,7 @@ module _ {B : Type 0} (ledger : B → Ledger) (zone : Zone) (range : DayRange) w
       (gone (held_if facts meter) (by_opening facts meter) (opening_of facts meter)) kept.failures
       (reported past (kept.stands past stands) clean)
 
-  -- ---- The statements of the meters at a register, one by one
+  -- Lemmas on the statements of the meters at an accounting register, one by one.
 
   pub not_there : (a : Office B) (row : Installation) (before : List MeterStatement) → was_installed zone range row ≡ false
       → States ledger zone range (row ∷ []) a a before before (Ok tt)
@@ -384,7 +386,8 @@ module _ {B : Type 0} (ledger : B → Ledger) (zone : Zone) (range : DayRange) w
       ap (map (λ (r : Installation). statement_of zone range facts r.opening.meter)) (filter-append (was_installed zone range) xs ys)
       ∙ map-append (λ (r : Installation). statement_of zone range facts r.opening.meter) (filter (was_installed zone range) xs) (filter (was_installed zone range) ys)
 
-  -- True if the statements of the first `i` meters were appended to the list of statements.
+  -- True if the statements (reports to check a bill) of the first `i` meters were appended to a
+  -- list.
   abbrev pub AreStated : (a b : Office B) → List Installation → (before after : List MeterStatement) → (i : ℕ) → Type 0
   AreStated a b rows before after i = After ledger a b (λ past. AreRecorded (facts_of past) rows
       → after ≡ before ++ statements_of zone range (facts_of past) (take i rows))
@@ -418,7 +421,7 @@ module _ {B : Type 0} (ledger : B → Ledger) (zone : Zone) (range : DayRange) w
   all_stated a b rows i before after is kept reported = λ past stands clean recorded.
       (reported past stands clean recorded ∙ ap (λ (those : List Installation). before ++ statements_of zone range (facts_of past) those) is, kept.failures)
 
-  -- ---- Installed meters are in the store's records
+  -- Lemmas: the store has a record of each installed meter.
 
   some_or : {X : Type 0} (b : Bool) (x : X) (o : Option X) → is_some o ≡ true → is_some (cond b (Some x) o) ≡ true
   some_or true x o some = refl
@@ -456,7 +459,7 @@ module _ {B : Type 0} (ledger : B → Ledger) (zone : Zone) (range : DayRange) w
       let found = mapped (λ r. installations_of facts register) (register_of facts register) rows is in
       subst (AreRecorded facts) found.2 (are_recorded facts register)
 
-  -- ---- The statements of all meters at a register
+  -- Lemmas on the statements of all meters at an accounting register.
 
   pub statements_reported : (a b d : Office B) (register : Option (List ℕ)) (v : Vec Installation Global) (listed : List Installation) (rows : List MeterStatement)
       → listed ≡ v.items → OnlyAsks ledger a b (Ok v) → Keeps ledger b d
@@ -497,14 +500,14 @@ module _ {B : Type 0} (ledger : B → Ledger) (zone : Zone) (range : DayRange) w
       (failures_of ledger a) (failures_of ledger a) (failures_of ledger b) why (λ none. tt) (gone_meters facts (meters_named facts register)) refl
       (listed_err (meters_named facts register) (failures_of ledger a) (failures_of ledger b) why (lists past stands clean))
 
--- If the write of a statement succeeded, then the complete statement was printed. If the write
--- failed, then a part of the statement was printed.
+-- If the write of a meter's statement (a report to check a bill) succeeded, then the complete
+-- statement was printed. If it failed, a part was printed.
 pub written_so : {E : Type 0} (written : Result (Unit {0}) E) (text : List ℕ) (meant status : ExitStatus) (old new : Option (List ℕ))
     → status ≡ cond (is_ok written) meant Failed → GotText written text old new → IsReported text meant status old new
 written_so (Ok done) text meant status old new ends got = inl (ends, got)
 written_so (Err error) text meant status old new ends got = inr (ends, got)
 
--- If a command prints a report, then it only queries the office.
+-- If a command prints a report, then it only queries the office (the event engine).
 pub only_asked : {B T : Type 0} (ledger : B → Ledger) (a b : Office B) (result : Result T Refusal) → OnlyAsks ledger a b result → Asks ledger a b
 only_asked ledger a b (Ok x) asks = record { reply = Ok tt; only = now_as ledger a b x tt asks }
 only_asked ledger a b (Err why) asks = record { reply = Err why; only = refused_as ledger a b why asks }

@@ -1,5 +1,5 @@
--- Properties of the timestamps of a polling round's events, and of the office's answers to the
--- events.
+-- Properties of the timestamps of a polling round's events, and of the event engine's answers to
+-- the events.
 use Rattle.std.proofs.Common.{◌≡◌, inl, inr, ℕ, nat_lt, Bool, true, false, ◌||◌, cond, List, [], ◌∷◌, Option, None, Some, Ok, refl, sym, subst, arith}
 use Rattle.std.proofs.lemmas.Bool.{or_parts}
 use Rattle.office_events.specs.declared.answers.Answer.{Answer}
@@ -38,8 +38,8 @@ latest_within (Fed at e ∷ past) h =
 not_below_itself : (n : ℕ) → nat_lt n n ≡ false
 not_below_itself n = grind arith
 
--- The timestamp of the event `Gone` is neither earlier than the latest event nor past the largest
--- supported timestamp.
+-- The timestamp of the event `Gone` (the device is disconnected) is neither earlier than the latest
+-- event nor past the largest supported timestamp.
 gone_by : (back beyond : Bool) (latest moment : ℕ) → nat_lt moment latest ≡ back → nat_lt moment_limit moment ≡ beyond
     → nat_lt moment_limit latest ≡ false
     → (nat_lt (cond (back || beyond) latest moment) latest ≡ false) × (nat_lt moment_limit (cond (back || beyond) latest moment) ≡ false)
@@ -118,7 +118,8 @@ started_one history at (command.StartRound c) before after given start (inl repo
     started history at _ given _ _ _ (given_is (refusal_of history at (event.Command (command.StartRound c))) _ given reported.0)
 started_one history at (command.StartRound c) before after given start (inr fails) = absurd fails
 
--- If an event of a polling round is accepted, then the history is longer by this event.
+-- If an event of a polling round is accepted, then the history of accepted events is longer by this
+-- event.
 pub one_accepted : (history : History) (at : ℕ) (e : Event) (before after : Failures) (given : Answer) → IsOfRound e
     → IsAnswer history at e before after (Ok given) → with_answer history at e (Ok given) ≡ Fed at e ∷ history
 one_accepted history at (event.Connected d) before after given kind (inl reported) = noted history at _ given (given_is (refusal_of history at (event.Connected d)) _ given reported.0)

@@ -22,7 +22,8 @@ use Rattle.office_program.specs.declared.progress.Progress.{Progress}
 use Rattle.office_program.proofs.Overs.{is_broken_off}
 use Rattle.office_program.proofs.Wires.{appends_nothing, part_of_all}
 
--- If an event is a connection, then the office sends no Modbus frames for the event.
+-- If an event is a connection, then the office (the event engine) sends no Modbus frames for the
+-- event.
 no_frames : (h : History) (at : ℕ) (d : Option (List ℕ)) (given : Answer) → outgoing_after h at (event.Connected d) (Ok given) ≡ []
 no_frames h at d answer.Noted = refl
 no_frames h at d (answer.Done kind) = refl
@@ -42,8 +43,8 @@ wired_unprinted past at device given w =
     let wired = wired_connected past at device given w in
     record { taken = wired.taken; given = part_of_all w.given w.given _ wired.given }
 
--- If the office refused the event `Connected` of a polling round, then the round's result satisfies
--- `IsNotConnected`.
+-- If the event engine refused the event `Connected` of a polling round, then the round's result
+-- satisfies `IsNotConnected`, the contract for this case.
 pub unconnected : {B : Type 0} (ledger : B → Ledger) (device : Option (List ℕ)) (past : History) (begun now : RoundState) (w : Wire)
     (office : Office B) (round : Progress) (why : Refusal) → Connects ledger device past begun now office round (Err (Refused why))
     → Rounds ledger device past (passage begun now w w) office (Err (Refused why))

@@ -1,5 +1,6 @@
 -- The next event of a polling round, as a function of the events that the round has already fed to
--- the office. A polling round makes one poll for each Modbus read of a device's plan.
+-- the office (the event engine). A polling round makes one poll for each Modbus read of a device's
+-- plan.
 --
 -- Lists have the latest event first.
 use Rattle.std.specs.Prelude.{◌≡◌, ℕ, ◌+◌, ◌==◌, nat_lt, nat_le, Bool, false, List, [], ◌∷◌, Option, None, Some, Result, Ok, Err, IsOk, if◌then◌else◌}
@@ -19,7 +20,7 @@ use Rattle.office_core.specs.EventRun.{Answered}
 use Rattle.office_program.specs.FedEvents.{history_with}
 
 -- The number of the polling round's first poll: `first` if it is known, otherwise the number that
--- the office's answer reports.
+-- the event engine's answer reports.
 abbrev pub first_by : Option ℕ → Answer → Option ℕ
 first_by (Some first) given = Some first
 first_by None answer.Noted = None
@@ -27,7 +28,7 @@ first_by None (answer.Done kind) = None
 first_by None (answer.Again kind) = None
 first_by None (answer.Started first count of) = Some first
 
--- The number of polls that the office's answer reports as started, or 0 if the answer is not
+-- The number of polls that the event engine's answer reports as started, or 0 if the answer is not
 -- `Started`.
 abbrev pub started_by : Answer → ℕ
 started_by answer.Noted = 0
@@ -35,27 +36,27 @@ started_by (answer.Done kind) = 0
 started_by (answer.Again kind) = 0
 started_by (answer.Started first count of) = count
 
--- The number of Modbus reads in the device's plan. If the office's answer does not report it, the
--- number `planned` that is known so far.
+-- The number of Modbus reads in the device's plan. If the event engine's answer does not report it,
+-- the number `planned` that is known so far.
 abbrev pub planned_by : ℕ → Answer → ℕ
 planned_by planned answer.Noted = planned
 planned_by planned (answer.Done kind) = planned
 planned_by planned (answer.Again kind) = planned
 planned_by planned (answer.Started first count of) = of
 
--- The number of the polling round's first poll after the office answered one more event. A refusal
--- leaves the number unchanged.
+-- The number of the polling round's first poll after the event engine answered one more event. A
+-- refusal leaves the number unchanged.
 abbrev pub first_after : Option ℕ → Result Answer Refusal → Option ℕ
 first_after first (Ok given) = first_by first given
 first_after first (Err why) = first
 
--- The number of started Modbus reads after the office answered one more event. A refusal adds no
--- read.
+-- The number of started Modbus reads after the event engine answered one more event. A refusal adds
+-- no read.
 abbrev pub started_after : ℕ → Result Answer Refusal → ℕ
 started_after started (Ok given) = started + started_by given
 started_after started (Err why) = started
 
--- The number of Modbus reads in the device's plan after the office answered one more event. A
+-- The number of Modbus reads in the device's plan after the event engine answered one more event. A
 -- refusal leaves the number unchanged.
 abbrev pub planned_after : ℕ → Result Answer Refusal → ℕ
 planned_after planned (Ok given) = planned_by planned given
@@ -71,8 +72,8 @@ abbrev pub reads_started : List Answered → ℕ
 reads_started [] = 0
 reads_started (one ∷ earlier) = started_after (reads_started earlier) one.result
 
--- The number of Modbus reads in the plan that the office's answers have reported, or 0 if no answer
--- has reported a number.
+-- The number of Modbus reads in the plan that the event engine's answers have reported, or 0 if no
+-- answer has reported a number.
 abbrev pub reads_planned : List Answered → ℕ
 reads_planned [] = 0
 reads_planned (one ∷ earlier) = planned_after (reads_planned earlier) one.result
@@ -101,7 +102,7 @@ polls_ended past [] = 0
 polls_ended past (one ∷ earlier) = polls_ended past earlier + endings_of past earlier one
 
 -- The next action of a polling round:
--- - `Connect`: feed the event `Connected` to the office;
+-- - `Connect`: feed the event `Connected` to the event engine;
 -- - `StartFrom`: start the Modbus reads of the plan from index `read` on;
 -- - `Leave`: feed the event `Gone` (the device is disconnected);
 -- - `Take`: read an event from the link;
@@ -124,7 +125,7 @@ next_left started ended planned =
     else Take
 
 -- The next action after an event. If the event ended no poll of the polling round, read from the
--- link. If it did, the result of `next_left`.
+-- link. Otherwise start the remaining reads or disconnect, as `next_left` gives.
 abbrev pub next_after : (endings started ended planned : ℕ) → Next
 next_after endings started ended planned =
     if endings == 0 then Take else next_left started ended planned
@@ -139,7 +140,7 @@ next_by (event.Gone given closing) next = Over
 next_by (event.Command c) next = next
 next_by (event.Asked asked) next = next
 
--- The next action of a polling round after the events that it fed to the office.
+-- The next action of a polling round after the events that it fed to the event engine.
 abbrev pub next_in : (past : History) → List Answered → Next
 next_in past [] = Connect
 next_in past (one ∷ earlier) = next_by one.event (next_after (endings_of past earlier one)
@@ -169,8 +170,8 @@ Does device Leave e = e ≡ event.Gone device closing.Gone
 Does device Take e = IsTaken device e
 Does device Over e = ⊥
 
--- True if each event was the next action after the earlier events, and the office accepted each
--- event.
+-- True if each event was the next action after the earlier events, and the event engine accepted
+-- each event.
 abbrev pub AreNext : (device : Option (List ℕ)) → (past : History) → List Answered → Type 0
 AreNext device past [] = Unit {0}
 AreNext device past (one ∷ earlier) =

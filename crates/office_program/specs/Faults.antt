@@ -51,7 +51,8 @@ OnlyLink (Err Link) = Unit {0}
 OnlyLink (Err Output) = ⊥
 OnlyLink (Err TurnsUsed) = ⊥
 
--- True if the result is a success, a refusal of the office, or a failed write of the output.
+-- True if the result is a success, a refusal of the office (the event engine), or a failed write of
+-- the output.
 abbrev pub OfOffice : {X : Type 0} → Result X RoundFault → Type 0
 OfOffice (Ok x) = Unit {0}
 OfOffice (Err (Refused why)) = Unit {0}

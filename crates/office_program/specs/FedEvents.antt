@@ -14,8 +14,8 @@ use Rattle.office_books.specs.declared.failures.Failures.{Failures}
 use Rattle.office_core.specs.EventRun.{Answered}
 use Rattle.office_core.specs.Taking.{IsAnswer}
 
--- The history of the office after a list of events. `past` is the office's history before these
--- events.
+-- The events that the event engine has accepted after a list of events. `past` are the events that
+-- it accepted before them.
 abbrev pub history_with : (past : History) → List Answered → History
 history_with past [] = past
 history_with past (one ∷ earlier) =
@@ -42,8 +42,8 @@ text_after past [] = []
 text_after past (one ∷ earlier) =
     text_after past earlier ++ reported_text (history_with past earlier) one.at one.event one.result
 
--- The bytes of the frames that the office sends for a list of events, in the order in which they
--- were fed.
+-- The bytes of the frames that the event engine sends for a list of events, in the order in which
+-- they were fed.
 abbrev pub frames_after : (past : History) → List Answered → List ℕ
 frames_after past [] = []
 frames_after past (one ∷ earlier) =

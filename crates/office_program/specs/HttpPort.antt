@@ -17,11 +17,11 @@ pub record Port : Type 0 where
   pub names : List (List ℕ)
   pub connections : ℕ
 
--- The `Port` with these fields.
+-- The `Port` (the settings of an HTTP port) with these fields.
 abbrev pub port : (names : List (List ℕ)) → (connections : ℕ) → Port
 port names connections = record { names = names; connections = connections }
 
--- The state of an office after it served HTTP on a port. The office answered at most
+-- The state of an event engine after it served HTTP on a port. The engine answered at most
 -- `at.connections` connections, each at the clock's time. If the command can't listen on the port,
 -- nothing changed.
 abbrev pub ServesPort : {B : Type 0} → Port → (then later : Option (List ℕ)) → (B → Ledger)
@@ -33,15 +33,15 @@ ServesPort at then later ledger past opened left Broken =
     ServesUpTo at.names at.connections then later ledger past left
 ServesPort at then later ledger past opened left (Unopened status) = ⊥
 
--- True if the opened office served HTTP on the port, and nothing was printed.
+-- True if the opened event engine served HTTP on the port, and nothing was printed.
 pub record Serves {B : Type 0} (ledger : B → Ledger) (at : Port)
     (later had holds : Option (List ℕ)) (end : ServeEnd)
     (following : History) (then : Option (List ℕ)) (opened left : Office B) : Type 0 where
   pub serves : ServesPort at then later ledger following opened left end
   pub silent : holds ≡ had
 
--- True if the office was opened and served HTTP on the port. If opening the office was refused,
--- only the refusal was printed.
+-- True if the event engine was opened and served HTTP on the port. If opening the engine was
+-- refused, only the refusal was printed.
 abbrev pub ReportsServing : {B : Type 0} → (B → Ledger) → (past : History) → Port
     → (moments later : Option (List ℕ)) → (books back : B) → (had holds : Option (List ℕ))
     → ServeEnd → Type 0
@@ -57,12 +57,12 @@ pub record Scene (B : Type 0) : Type 0 where
   pub moments : Option (List ℕ)
   pub written : Option (List ℕ)
 
--- The `Scene` with these fields.
+-- The `Scene` (the state before or after a command) with these fields.
 abbrev pub scene : {B : Type 0} → B → (moments written : Option (List ℕ)) → Scene B
 scene books moments written = record { books = books; moments = moments; written = written }
 
--- The contract of the command that serves HTTP. It promises `ReportsServing` for any history that
--- the store records at the start, if the command used no wrong result of the store.
+-- The contract of the command that serves HTTP, for any accepted events that the store records. If
+-- the command used no wrong result of the store, then `ReportsServing` states the result.
 abbrev pub ServesBooks : {B : Type 0} → (B → Ledger) → Port → ServeEnd → (old new : Scene B)
     → Type 0
 ServesBooks ledger at end old new =

@@ -1,5 +1,5 @@
--- The state of a polling round (one poll for each Modbus read of a device's plan) after the events
--- that it fed to the office: its pending polls, and its next action.
+-- The state of a polling round (one poll for each Modbus read of a device's plan) after its events:
+-- its pending polls, and its next action.
 use Rattle.std.specs.Prelude.{◌≡◌, ℕ, zero, suc, ◌+◌, ◌≤◌, ◌==◌, Bool, true, false, List, [], ◌∷◌, ◌++◌, map, length, Option, Some, None, Ok}
 use Rattle.std.specs.List.{filter}
 use Rattle.poll_core.specs.declared.outcome.Closing.TheVariants as closing
@@ -86,8 +86,8 @@ pub record IsUnfed (fed : List Answered) (round : Round) : Type 0 where
   pub started : round.started ≡ 0
   pub planned : round.planned ≡ 0
 
--- The state of a polling round at each stage, after the events that it fed to the office. It is the
--- invariant of the type `Round`.
+-- The state of a polling round at each stage, after the events that it fed to the office (the event
+-- engine). It is the invariant of the type `Round`.
 abbrev pub StandsAt : Stage → (device : Option (List ℕ)) → History → List Answered → Round → Type 0
 StandsAt Off device past fed round = Unit {0}
 StandsAt Joining device past fed round = IsUnfed fed round
@@ -113,13 +113,13 @@ ended_by (event.Gone given cause) round = leaving cause round
 ended_by (event.Command c) round = round
 ended_by (event.Asked asked) round = round
 
--- The polling round after an event that the office accepted with the given answer and
+-- The polling round after an event that the event engine accepted with the given answer and
 -- notifications.
 abbrev pub round_after : Event → Answer → List Note → Round → Round
 round_after e given notes round = heard notes (answered (Ok given) (ended_by e round))
 
--- The next action after a polling round has performed an action. This assumes that none of its
--- polls ended by the action.
+-- The next action of a polling round after it has performed an action. This assumes that none of
+-- its polls ended by the action.
 abbrev pub settled : Next → Next
 settled Connect = StartFrom 0
 settled (StartFrom read) = Take
@@ -137,8 +137,8 @@ is_over (Leaving cause) = false
 
 -- The theorem that a polling round requests exactly the events that the definition `next_in` gives.
 --
--- If a round in the state after its events feeds the next event, and the office accepts this event,
--- then the round is in the state after this event too.
+-- Suppose that a round in the state after its events feeds the next event, and the event engine
+-- accepts it. Then the round is also in the state after this event.
 abbrev pub RoundsHold : Type 0
 RoundsHold = (device : Option (List ℕ)) (past : History) (fed : List Answered) (round : Round)
     (at : ℕ) (e : Event) (before after : Failures) (given : Answer)

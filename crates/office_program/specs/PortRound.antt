@@ -28,15 +28,15 @@ pub record IsPolled {B : Type 0} (ledger : B → Ledger) (device : List ℕ)
       (passage (round_state had then (failures_of ledger opened))
       (round_state holds later (failures_of ledger left)) from to) left done
 
--- True if the device was not polled, because the connection failed. Then the office is unchanged,
--- and nothing was printed.
+-- True if the device was not polled, because the connection failed. Then the event engine is
+-- unchanged, and nothing was printed.
 pub record IsLeft {B : Type 0} (had holds : Option (List ℕ)) (opened left : Office B)
     : Type 0 where
   pub same : left ≡ opened
   pub silent : holds ≡ had
 
--- The state of the office after the command. If the device was connected, it is the state after a
--- polling round. If no connection was established, the office is unchanged.
+-- The state of the event engine after the command. If the device was connected, it is the state
+-- after a polling round. If no connection was established, the engine is unchanged.
 abbrev pub PollsPort : {B : Type 0} → (B → Ledger) → (device : List ℕ)
     → (later had holds : Option (List ℕ)) → PollEnd
     → (following : History) → (then : Option (List ℕ)) → (opened left : Office B) → Type 0
@@ -46,8 +46,8 @@ PollsPort ledger device later had holds Unconnected following then opened left =
     IsLeft had holds opened left
 PollsPort ledger device later had holds (Unopened status) following then opened left = ⊥
 
--- The contract of polling a device once over TCP. It promises `PollsPort` for any history of the
--- office, and names the clock and the writer before and after the polling round.
+-- The contract of polling a device once over TCP. `PollsPort` states the result, whatever events
+-- the event engine accepted before.
 abbrev pub PollsPortOf : {B C W : Type 0} → stores.Ghosts B → clocks.Ghosts C → writers.Ghosts W
     → (device : List ℕ) → (old new : Office B) → (before after : C) → (had holds : W) → PollEnd
     → Type 0
@@ -55,8 +55,8 @@ PollsPortOf b c w device old new before after had holds end =
     After b.ledger old new (λ past. PollsPort b.ledger device (c.moments after) (w.contents had)
     (w.contents holds) end past (c.moments before) old new)
 
--- True if the office was opened and the device was polled. If opening the office was refused, only
--- the refusal was printed.
+-- True if the event engine was opened and the device was polled. If opening the engine was refused,
+-- only the refusal was printed.
 abbrev pub ReportsPolling : {B : Type 0} → (B → Ledger) → (past : History) → (device : List ℕ)
     → (moments later : Option (List ℕ)) → (books back : B) → (had holds : Option (List ℕ))
     → PollEnd → Type 0
@@ -65,8 +65,8 @@ ReportsPolling ledger past device moments later books back had holds (Unopened s
 ReportsPolling ledger past device moments later books back had holds end =
     WithOffice ledger past moments back (PollsPort ledger device later had holds end)
 
--- The contract of the command that polls a device once. It promises `ReportsPolling` for any
--- history that the store records, and names the clock and the writer before and after.
+-- The contract of the command that polls a device once, for any accepted events that the store
+-- records. `ReportsPolling` states the result.
 abbrev pub PollsOver : {B C W : Type 0} → stores.Ghosts B → clocks.Ghosts C → writers.Ghosts W
     → (device : List ℕ) → (books back : B) → (before after : C) → (had holds : W) → PollEnd → Type 0
 PollsOver b c w device books back before after had holds end =

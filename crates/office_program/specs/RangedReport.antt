@@ -1,5 +1,5 @@
 -- The result of a command that reports an accounting register (a named counter of a device) on a
--- range of days, from an office that is opened over a store.
+-- range of days. The command opens an office (the event engine) over a store.
 use Rattle.std.specs.Prelude.{◌⊎◌, ℕ, List, Option}
 use Rattle.std.specs.declared.io.Write as writers
 use Rattle.mb_wire.specs.declared.sockets.clock.Clock as clocks
@@ -18,7 +18,7 @@ use Rattle.office_program.specs.Texts.EndTexts.{ReportsEnd}
 use Rattle.office_program.specs.Opened.{OverStanding, WithAsked}
 
 -- True if the register's days in the range were printed in the requested form, or the reason for a
--- refusal was printed. The office was only queried.
+-- refusal was printed. The event engine was only queried.
 pub record ReportsRange {B : Type 0} (ledger : B → Ledger) (register : Option (List ℕ))
     (form : ReportForm) (had holds : Option (List ℕ)) (status : ExitStatus) (following : History)
     (opened left : Office B) : Type 0 where
@@ -26,8 +26,8 @@ pub record ReportsRange {B : Type 0} (ledger : B → Ledger) (register : Option 
       (failures_of ledger opened) (failures_of ledger left)) status had holds
   pub stands : Stands ledger following left
 
--- True if the office was opened for queries and the report was printed. If opening the office was
--- refused, only the refusal was printed.
+-- True if the event engine was opened for queries and the report was printed. If opening the engine
+-- was refused, only the refusal was printed.
 abbrev pub AnswersRange : {B : Type 0} → (B → Ledger) → (past : History) → (register : List ℕ)
     → ReportForm → (moments later : Option (List ℕ)) → (books back : B)
     → (had holds : Option (List ℕ)) → ExitStatus → Type 0
@@ -36,8 +36,8 @@ AnswersRange ledger past register form moments later books back had holds status
     ⊎ WithAsked ledger past moments later back
     (ReportsRange ledger (named register) form had holds status)
 
--- The contract of the command that reports a range of days. It promises `AnswersRange` for any
--- history that the store records, and names the clock and the writer before and after.
+-- The contract of the command that reports a range of days, for any accepted events that the store
+-- records. `AnswersRange` states the result.
 abbrev pub RangeOver : {B C W : Type 0} → stores.Ghosts B → clocks.Ghosts C → writers.Ghosts W
     → (register : List ℕ) → ReportForm → (books back : B) → (before after : C) → (had holds : W)
     → ExitStatus → Type 0

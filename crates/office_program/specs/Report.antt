@@ -1,5 +1,5 @@
 -- The result of a command that reports an accounting register (a named counter of a device) by
--- civil day, from an office that is opened over a store.
+-- civil day. The command opens an office (the event engine) over a store.
 use Rattle.std.specs.Prelude.{◌⊎◌, ℕ, List, Option}
 use Rattle.std.specs.declared.io.Write as writers
 use Rattle.mb_wire.specs.declared.sockets.clock.Clock as clocks
@@ -17,15 +17,15 @@ use Rattle.office_program.specs.Texts.EndTexts.{ReportsEnd}
 use Rattle.office_program.specs.Opened.{OverStanding, WithAsked}
 
 -- True if all days of the register were printed, or the reason for a refusal was printed. The
--- office was only queried.
+-- event engine was only queried.
 pub record Reports {B : Type 0} (ledger : B → Ledger) (register had holds : Option (List ℕ))
     (status : ExitStatus) (following : History) (opened left : Office B) : Type 0 where
   pub prints : ReportsEnd (ReportPrints (ledger (books_in opened)).zone following register
       (failures_of ledger opened) (failures_of ledger left)) status had holds
   pub stands : Stands ledger following left
 
--- True if the office was opened for queries and the report was printed. If opening the office was
--- refused, only the refusal was printed.
+-- True if the event engine was opened for queries and the report was printed. If opening the engine
+-- was refused, only the refusal was printed.
 abbrev pub ReportsReport : {B : Type 0} → (B → Ledger) → (past : History) → (register : List ℕ)
     → (moments later : Option (List ℕ)) → (books back : B) → (had holds : Option (List ℕ))
     → ExitStatus → Type 0
@@ -33,8 +33,8 @@ ReportsReport ledger past register moments later books back had holds status =
     ReportsUnasked past moments later (ledger books) (ledger back) status had holds
     ⊎ WithAsked ledger past moments later back (Reports ledger (named register) had holds status)
 
--- The contract of the command that reports all days. It promises `ReportsReport` for any history
--- that the store records, and names the clock and the writer before and after.
+-- The contract of the command that reports all days, for any accepted events that the store
+-- records. `ReportsReport` states the result.
 abbrev pub ReportsOver : {B C W : Type 0} → stores.Ghosts B → clocks.Ghosts C → writers.Ghosts W
     → (register : List ℕ) → (books back : B) → (before after : C) → (had holds : W) → ExitStatus
     → Type 0

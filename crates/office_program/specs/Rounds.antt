@@ -1,5 +1,5 @@
 -- The result of a polling round (one poll for each Modbus read of a device's plan): the state of
--- the office, and the bytes that were read, written and printed.
+-- the office (the event engine), and the bytes that were read, written and printed.
 use Rattle.std.specs.Prelude.{◌≡◌, ◌⊎◌, ℕ, nat_lt, true, ◌||◌, List, [], ◌∷◌, Option, Some, Result, Ok, Err, if◌then◌else◌}
 use Rattle.std.specs.Io.KnownBytes.{Appends, Consumes}
 use Rattle.mb_wire.specs.Sockets.Clocks.{ReportsMoment}
@@ -28,7 +28,7 @@ pub record RoundState : Type 0 where
   pub moments : Option (List ℕ)
   pub failures : Failures
 
--- The `RoundState` with these fields.
+-- The `RoundState` (the known state of the output, the clock and the store) with these fields.
 abbrev pub round_state : (printed moments : Option (List ℕ)) → (failures : Failures) → RoundState
 round_state printed moments failures =
     record { printed = printed; moments = moments; failures = failures }
@@ -39,7 +39,7 @@ pub record Wire : Type 0 where
   pub remaining : Option (List ℕ)
   pub given : Option (List ℕ)
 
--- The `Wire` with these fields.
+-- The `Wire` (the known bytes on a link to a device) with these fields.
 abbrev pub wire : (remaining given : Option (List ℕ)) → Wire
 wire remaining given = record { remaining = remaining; given = given }
 
@@ -51,12 +51,12 @@ pub record Passage : Type 0 where
   pub from : Wire
   pub to : Wire
 
--- The `Passage` with these fields.
+-- The `Passage` (the known states at the start and the end of a polling round) with these fields.
 abbrev pub passage : (begun ended : RoundState) → (from to : Wire) → Passage
 passage begun ended from to = record { begun = begun; ended = ended; from = from; to = to }
 
--- True if the office is in the state after the fed events. Each event has the defined answer, or
--- was refused because of a failure.
+-- True if the event engine is in the state after the fed events. Each event has the defined answer,
+-- or was refused because of a failure.
 pub record IsFed {B : Type 0} (ledger : B → Ledger) (past : History) (begun now : RoundState)
     (office : Office B)
     (fed : List Answered) : Type 0 where
@@ -68,16 +68,16 @@ abbrev pub NoneWaits : (device : Option (List ℕ)) → History → Type 0
 NoneWaits device history = (slot : Slot) → slot_of (slots_of history) device ≡ Some slot
     → pending_on slot ≡ []
 
--- True if none of the device's polls is pending, or the office has stopped because the store or
--- memory failed.
+-- True if none of the device's polls is pending, or the event engine has stopped because the store
+-- or memory failed.
 abbrev pub IsSettled : {B : Type 0} → (device : Option (List ℕ)) → History → Office B → Type 0
 IsSettled device history office = (is_stopped office ≡ true) ⊎ NoneWaits device history
 
 -- True if the polling round ended without a fault: it fed each next event, and last the event
 -- `Gone` (the device is disconnected).
 --
--- The bytes read from the link are those in the fed events, the bytes written are the office's
--- frames, and the office's reports were printed.
+-- The bytes read from the link are those in the fed events, and the bytes written are the event
+-- engine's frames. The engine's reports were printed.
 pub record IsRound {B : Type 0} (ledger : B → Ledger) (device : Option (List ℕ)) (past : History)
     (through : Passage)
     (office : Office B) : Type 0 where
@@ -91,8 +91,8 @@ pub record IsRound {B : Type 0} (ledger : B → Ledger) (device : Option (List �
   pub printed : Appends through.begun.printed through.ended.printed (text_after past fed)
   pub settled : IsSettled device (history_with past fed) office
 
--- True if the office refused the event `Connected` of a polling round. Then no other event was fed,
--- and nothing was read, written or printed.
+-- True if the event engine refused the event `Connected` of a polling round. Then no other event
+-- was fed, and nothing was read, written or printed.
 pub record IsNotConnected {B : Type 0} (ledger : B → Ledger) (device : Option (List ℕ))
     (past : History) (through : Passage)
     (office : Office B) (why : Refusal) : Type 0 where
@@ -103,8 +103,8 @@ pub record IsNotConnected {B : Type 0} (ledger : B → Ledger) (device : Option 
   pub same : through.to ≡ through.from
   pub printed : Appends through.begun.printed through.ended.printed []
 
--- True if the latest event in a list was the next action after the earlier events, and the office
--- refused this event.
+-- True if the latest event in a list was the next action after the earlier events, and the event
+-- engine refused this event.
 abbrev pub IsRefused : (device : Option (List ℕ)) → (past : History) → Refusal → List Answered
     → Type 0
 IsRefused device past why [] = ⊥
@@ -113,9 +113,9 @@ IsRefused device past why (one ∷ earlier) =
     × (one.result ≡ Err why)
 
 -- True if these events were fed before a fault ended a polling round. Each of them was the next
--- event, and the last one is the refused event if the office refused one.
+-- event, and the last one is the refused event if the event engine refused one.
 --
--- If memory for received bytes ran out, the fault is a refusal although the office refused no
+-- If memory for received bytes ran out, the fault is a refusal although the engine refused no
 -- event.
 abbrev pub BreaksOff : (device : Option (List ℕ)) → (past : History) → RoundFault → List Answered
     → Type 0
@@ -128,7 +128,7 @@ BreaksOff device past TurnsUsed fed = AreNext device past fed
 -- The timestamp of the event `Gone` (the device is disconnected): the clock's time `moment`.
 --
 -- If the clock was set back or is past the largest supported timestamp, the timestamp `latest` of
--- the latest event. So the office never refuses `Gone` for its timestamp.
+-- the latest event. So the event engine never refuses `Gone` for its timestamp.
 abbrev pub gone_at : (latest moment : ℕ) → ℕ
 gone_at latest moment =
     if nat_lt moment latest || nat_lt moment_limit moment then latest else moment
@@ -148,7 +148,8 @@ pub record IsGoneAt (past : History) (begun now : Option (List ℕ)) (earlier : 
 abbrev pub IsReportedOf : (cause fault : RoundFault) → Type 0
 IsReportedOf cause fault = (fault ≡ cause) ⊎ (fault ≡ Output)
 
--- True if a fault ended the polling round after the round had fed some of its events to the office.
+-- True if a fault ended the polling round after the round had fed some of its events to the event
+-- engine.
 --
 -- Its last event reports a failed connection (`Gone` with `Failed`). The reported fault does not
 -- depend on the answer to this event.
@@ -170,7 +171,7 @@ pub record IsBrokenOff {B : Type 0} (ledger : B → Ledger) (device : Option (Li
       through.begun.printed through.ended.printed
   pub settled : IsSettled device (history_with past (gone ∷ earlier)) office
 
--- True if the fault is that the office refused the polling round's event `Connected`.
+-- True if the fault is that the event engine refused the polling round's event `Connected`.
 abbrev pub IsNotConnectedBy : {B : Type 0} → (B → Ledger) → (device : Option (List ℕ)) → History
     → Passage → Office B
     → RoundFault → Type 0
@@ -181,7 +182,7 @@ IsNotConnectedBy ledger device past through office Output = ⊥
 IsNotConnectedBy ledger device past through office TurnsUsed = ⊥
 
 -- True for the result of a polling round. On `Ok` the round ended without a fault. Otherwise the
--- office refused its event `Connected`, or another fault ended the round.
+-- event engine refused its event `Connected`, or another fault ended the round.
 abbrev pub Rounds : {B : Type 0} → (B → Ledger) → (device : Option (List ℕ)) → (past : History)
     → Passage → Office B
     → Result (Unit {0}) RoundFault → Type 0

@@ -1,5 +1,5 @@
--- The result of a command that prints the statements of a register's meters, from an office that is
--- opened over a store. A statement lists what a bill of the meter is checked against.
+-- The result of a command that prints the statements of a register's meters, from an office (the
+-- event engine) that is opened over a store. A statement is a report on one meter, to check a bill.
 use Rattle.std.specs.Prelude.{◌⊎◌, ℕ, List, Option}
 use Rattle.std.specs.declared.io.Write as writers
 use Rattle.mb_wire.specs.declared.sockets.clock.Clock as clocks
@@ -18,8 +18,8 @@ use Rattle.office_program.specs.Texts.EndTexts.{ReportsEnd}
 use Rattle.office_program.specs.Texts.Statements.{StatementPrints}
 use Rattle.office_program.specs.Opened.{OverStanding, WithAsked}
 
--- True if the statements of the register's meters were printed, or the reason for a refusal was
--- printed. The office was only queried.
+-- True if the statements of the register's meters (reports to check a bill) were printed, or the
+-- reason for a refusal was printed. The event engine was only queried.
 pub record StatesMeters {B : Type 0} (ledger : B → Ledger) (zone : Zone)
     (register : Option (List ℕ)) (form : StatementForm) (had holds : Option (List ℕ))
     (status : ExitStatus) (following : History) (opened left : Office B) : Type 0 where
@@ -27,8 +27,9 @@ pub record StatesMeters {B : Type 0} (ledger : B → Ledger) (zone : Zone)
       (failures_of ledger opened) (failures_of ledger left)) status had holds
   pub stands : Stands ledger following left
 
--- True if the office was opened for queries and the statements were printed, in the time zone of
--- the store. If opening the office was refused, only the refusal was printed.
+-- True if the event engine was opened for queries and the meters' statements (reports to check a
+-- bill) were printed, in the store's time zone. If opening was refused, only the refusal was
+-- printed.
 abbrev pub ReportsStatement : {B : Type 0} → (B → Ledger) → (past : History) → (register : List ℕ)
     → StatementForm → (moments later : Option (List ℕ)) → (books back : B)
     → (had holds : Option (List ℕ)) → ExitStatus → Type 0
@@ -37,8 +38,8 @@ ReportsStatement ledger past register form moments later books back had holds st
     ⊎ WithAsked ledger past moments later back
     (StatesMeters ledger (ledger books).zone (named register) form had holds status)
 
--- The contract of the command that prints statements. It promises `ReportsStatement` for any
--- history that the store records, and names the clock and the writer before and after.
+-- The contract of the command that prints statements (reports on single meters), for any accepted
+-- events that the store records. `ReportsStatement` states the result.
 abbrev pub StatementOver : {B C W : Type 0} → stores.Ghosts B → clocks.Ghosts C → writers.Ghosts W
     → (register : List ℕ) → StatementForm → (books back : B) → (before after : C) → (had holds : W)
     → ExitStatus → Type 0

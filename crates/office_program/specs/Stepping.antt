@@ -28,13 +28,13 @@ use Rattle.office_program.specs.declared.fault.RoundFault.{RoundFault}
 use Rattle.office_program.specs.declared.fault.RoundFault.TheVariants.{Refused, Link, Output, TurnsUsed}
 use Rattle.office_program.specs.declared.progress.Progress.{Progress}
 
--- The first event of a polling round, with the office's answer. The event is `Connected` for the
--- round's device at timestamp `at`.
+-- The first event of a polling round, with the event engine's answer. The event is `Connected` for
+-- the round's device at timestamp `at`.
 abbrev pub connection : (device : Option (List ℕ)) → (at : ℕ) → Result Answer Refusal → Answered
 connection device at result = record { at = at; event = event.Connected device; result = result }
 
--- True if the office answered the event `e` with `reply`, is in the state after this event, and has
--- the notifications and frames of this event.
+-- True if the office (the event engine) answered the event `e` with `reply`. The engine is in the
+-- state after this event, and has its notifications and frames.
 pub record IsTaken {B : Type 0} (ledger : B → Ledger) (past : History) (at : ℕ) (e : Event)
     (reply : Result Answer Refusal)
     (begun now : RoundState) (office : Office B) : Type 0 where
@@ -42,8 +42,8 @@ pub record IsTaken {B : Type 0} (ledger : B → Ledger) (past : History) (at : �
   pub answer : IsAnswer past at e begun.failures now.failures reply
   pub reported : IsReported past at e reply office
 
--- True if the office accepted the event, but a write of its report failed. Then at most a part of
--- the report was printed.
+-- True if the event engine accepted the event, but a write of its report failed. Then at most a
+-- part of the report was printed.
 pub record IsUnprinted {B : Type 0} (ledger : B → Ledger) (past : History) (at : ℕ) (e : Event)
     (begun now : RoundState)
     (office : Office B) : Type 0 where
@@ -52,8 +52,8 @@ pub record IsUnprinted {B : Type 0} (ledger : B → Ledger) (past : History) (at
   pub printed : IsPrinted {X = Unit {0}} (Err Output) (reported_text past at e (Ok given)) begun.printed
       now.printed
 
--- True if the event was fed to the office. If the event was accepted, its report was printed, or a
--- part of the report if the write failed.
+-- True if the event was fed to the event engine. If the event was accepted, its report was printed,
+-- or a part of the report if the write failed.
 abbrev pub Feeds : {B : Type 0} → (B → Ledger) → History → (at : ℕ) → Event
     → (begun now : RoundState) → Office B
     → Result Answer RoundFault → Type 0
@@ -66,17 +66,17 @@ Feeds ledger past at e begun now office (Err Output) = IsUnprinted ledger past a
 Feeds ledger past at e begun now office (Err Link) = ⊥
 Feeds ledger past at e begun now office (Err TurnsUsed) = ⊥
 
--- The rule for when the office stops: it then refuses every event until a restart.
+-- The rule for when the event engine stops: it then refuses every event until a restart.
 --
--- The office refuses an event as `Stopped` only if it was stopped before. It stops if the store or
--- memory fails during an event that may end polls.
+-- The engine refuses an event with the fault `Stopped` only if it was stopped before. It stops if
+-- the store or memory fails during an event that may end polls.
 pub record Stops (was : Bool) (e : Event) (reply : Result Answer Refusal) (now : Bool) : Type 0
   where
     pub before : reply ≡ Err refusal.Stopped → was ≡ true
     pub after : now ≡ (was || stops e reply)
 
--- True if the office followed the rule `Stops` when it refused the event. Any other result claims
--- nothing.
+-- True if the event engine followed the rule `Stops` (when it may stop) in refusing the event. For
+-- any other result than a refusal, nothing is claimed.
 abbrev pub FeedStops : (was : Bool) → Event → Result Answer RoundFault → (now : Bool) → Type 0
 FeedStops was e (Ok given) now = Unit {0}
 FeedStops was e (Err (Refused why)) now = Stops was e (Err why) now
@@ -84,7 +84,8 @@ FeedStops was e (Err Link) now = Unit {0}
 FeedStops was e (Err Output) now = Unit {0}
 FeedStops was e (Err TurnsUsed) now = Unit {0}
 
--- True if the office followed the rule `Stops`, provided that its answer is a refusal.
+-- True if the event engine followed the rule `Stops` (when it may stop), provided that its answer
+-- is a refusal.
 abbrev pub RefusedStops : (was : Bool) → Event → Result Answer Refusal → (now : Bool) → Type 0
 RefusedStops was e reply now = (why : Refusal) → reply ≡ Err why → Stops was e reply now
 
@@ -150,7 +151,7 @@ abbrev pub IsNew : Progress → Type 0
 IsNew progress = progress.round ≡ joined (unconnected progress.round.device)
 
 -- The state of a running polling round. The round fed each event in the defined order, and the
--- office accepted and printed each of them.
+-- event engine accepted and printed each of them.
 pub record Going {B : Type 0} (ledger : B → Ledger) (device : Option (List ℕ)) (past : History)
     (begun now : RoundState)
     (office : Office B) (fed : List Answered) (progress : Progress) : Type 0 where
@@ -162,7 +163,7 @@ pub record Going {B : Type 0} (ledger : B → Ledger) (device : Option (List ℕ
   pub latest : progress.latest ≡ latest_of (history_with past fed)
 
 -- The state of a polling round that was ended early for `cause`, and has yet to feed its last
--- event, `Gone`.
+-- event, `Gone` (the device is disconnected).
 pub record Broken {B : Type 0} (ledger : B → Ledger) (device : Option (List ℕ)) (past : History)
     (begun now : RoundState)
     (office : Office B) (fed : List Answered) (progress : Progress) (cause : RoundFault) : Type 0
@@ -176,13 +177,13 @@ pub record Broken {B : Type 0} (ledger : B → Ledger) (device : Option (List �
     pub latest : progress.latest ≡ latest_of (history_with past fed)
 
 -- True if the bytes read from the link are those in the fed events. The bytes written to the link
--- are the office's frames, or a part of the frames after a fault.
+-- are the event engine's frames, or a part of the frames after a fault.
 pub record IsWired {X : Type 0} (past : History) (from to : Wire) (fed : List Answered)
     (result : Result X RoundFault) : Type 0 where
   pub taken : Consumes from.remaining to.remaining (pieces_after fed)
   pub given : AreGiven result (frames_after past fed) from.given to.given
 
--- True if the running polling round fed its next event, and the frames that the office is about to
+-- True if the running polling round fed its next event, and the frames that the event engine will
 -- send are those of this event.
 pub record RoundGoesOn {B : Type 0} (ledger : B → Ledger) (device : Option (List ℕ))
     (past : History) (begun now : RoundState)
@@ -191,8 +192,8 @@ pub record RoundGoesOn {B : Type 0} (ledger : B → Ledger) (device : Option (Li
   pub reported : outgoing_in office
       ≡ outgoing_after (history_with past fed) one.at one.event one.result
 
--- True if no frames were sent for the event, because the office refused the event or printing its
--- report failed.
+-- True if no frames were sent for the event, because the event engine refused the event or printing
+-- its report failed.
 abbrev pub IsUnsent : RoundFault → Result Answer Refusal → Type 0
 IsUnsent (Refused why) result = result ≡ Err why
 IsUnsent Link result = ⊥
@@ -222,21 +223,21 @@ Steps ledger device past begun now from to office fed progress (Err cause) next 
     Broken ledger device past begun now office fed progress cause
     × IsWired {X = Unit {0}} past from to fed (Err cause)
 
--- The state of a polling round before or after an action: the office, the writer and clock, the
--- link, and the progress.
+-- The state of a polling round before or after an action: the event engine, the writer and clock,
+-- the link, and the progress.
 pub record Scene (B : Type 0) : Type 0 where
   pub office : Office B
   pub round_state : RoundState
   pub wire : Wire
   pub progress : Progress
 
--- The `Scene` of a polling round with these fields.
+-- The `Scene` (the state before or after an action) of a polling round with these fields.
 abbrev pub scene : {B : Type 0} → Office B → RoundState → Wire → Progress → Scene B
 scene office round_state wire progress =
     record { office = office; round_state = round_state; wire = wire; progress = progress }
 
--- The contract of an action `now` of a polling round. It promises `Steps` for any running polling
--- round with this progress whose next action is `now`.
+-- The contract of an action `now` of a polling round, for any running round with this progress
+-- whose next action is `now`. `Steps` states the result.
 --
 -- This assumes that no wrong result of the store was used so far.
 abbrev pub StepsFrom : {B X : Type 0} → (B → Ledger) → (old new : Scene B) → (now : Next)
@@ -251,8 +252,8 @@ StepsFrom ledger old new now result next =
     × Steps ledger device past begun new.round_state from new.wire new.office later new.progress
     result next
 
--- The result of feeding the event `Connected` of a device to the office. Then the polling round is
--- running, the office refused the event, or printing failed.
+-- The result of feeding the event `Connected` of a device to the event engine. Then the polling
+-- round is running, the engine refused the event, or printing failed.
 abbrev pub Connects : {B : Type 0} → (B → Ledger) → (device : Option (List ℕ)) → History
     → (begun now : RoundState) → Office B → Progress
     → Result (Unit {0}) RoundFault → Type 0

@@ -11,11 +11,11 @@ use std::fmt::{Display, Formatter};
 /// The reason why the polling round of a device ended early.
 #[derive(Clone, Copy, Debug, PartialEq, Eq)]
 pub enum RoundFault {
-    /// The office refused an event that the polling round fed.
+    /// The office (the event engine) refused an event that the polling round fed.
     Refused(Refusal),
     /// A read or a write of the link to the device failed, or a write accepted no bytes.
     Link,
-    /// The office's report of an event could not be printed.
+    /// The event engine's report of an event could not be printed.
     Output,
     /// The polling round used all of its 100,000 reads of the link.
     TurnsUsed,

@@ -34,8 +34,8 @@ fn print<B: Books, W: Write>(
     }
 }
 
-/// Feeds an event to the office. If the office accepts the event, prints its notifications, frames
-/// and answer.
+/// Feeds an event to the event engine. If the engine accepts the event, prints its notifications,
+/// frames and answer.
 pub(crate) fn feed<B: Books, W: Write>(
     office: &mut Office<B>,
     at: u64,
@@ -67,7 +67,8 @@ pub(crate) fn latest_after(fault: RoundFault, at: u64, latest: u64) -> u64
     }
 }
 
-/// Feeds the next event of a polling round to the office, with the clock's time as its timestamp.
+/// Feeds the next event of a polling round to the event engine, with the clock's time as its
+/// timestamp.
 pub(crate) fn feed_next<B: Books, C: Clock, W: Write>(
     progress: &mut Progress,
     event: &Event,

@@ -22,7 +22,7 @@ use std::net::{Net, TcpListener};
 pub enum ServeEnd {
     /// The requested number of connections was served.
     Served,
-    /// The office was not opened. The command ends with this exit status.
+    /// The event engine was not opened. The command ends with this exit status.
     Unopened(ExitStatus),
     /// The command can't listen on the port.
     NoPort,
@@ -61,10 +61,11 @@ fn serve_port<R: Net + std::rt::Clock, B: Books, C: Clock>(
     }
 }
 
-/// Opens an office over a store at the clock's time, and serves requests by HTTP/1.1 on a port.
+/// Opens an event engine over a store at the clock's time, and serves requests by HTTP/1.1 on a
+/// port.
 ///
 /// The command serves `connections` connections on the port of a host, under the given host names,
-/// as `serve_connections` does. If opening the office is refused, the command prints only `refused
+/// as `serve_connections` does. If opening the engine is refused, the command prints only `refused
 /// N` and does not open the port. Returns the store.
 pub fn serve_books<R: Net + std::rt::Clock, B: Books, C: Clock, W: Write>(
     rt: &R,

@@ -1,5 +1,5 @@
-//! Polls devices in rounds, and runs the program's commands that open an office over a store, for
-//! any store, clock, sockets and writer.
+//! Polls devices in rounds, and runs the commands that open an office (the event engine) over a
+//! store. Works with any store, clock, sockets and writer.
 #![tactic(auto)]
 
 mod command_end;

@@ -25,7 +25,7 @@ pub const PATIENCE: u64 = 5;
 pub enum PollEnd {
     /// The polling round ended, or a fault ended it early.
     Polled(Result<(), RoundFault>),
-    /// The office was not opened. The command ends with this exit status.
+    /// The event engine was not opened. The command ends with this exit status.
     Unopened(ExitStatus),
     /// No connection to the device was established.
     Unconnected,
@@ -65,12 +65,12 @@ fn poll_port<R: Net, B: Books, C: Clock, W: Write>(
     PollEnd::Polled(poll_round(alloc, &mut link, office, name, clock, output))
 }
 
-/// Opens an office over a store at the clock's time, and polls a device once: one poll for each
-/// Modbus read of the device's plan.
+/// Opens an event engine over a store at the clock's time, and polls a device once: one poll for
+/// each Modbus read of the device's plan.
 ///
-/// The device is polled at a port of a host, as `poll_round` does. If opening the office is
+/// The device is polled at a port of a host, as `poll_round` does. If opening the engine is
 /// refused, the command prints only `refused N` and does not connect to the device. If `device` is
-/// no valid name, the office treats it as an unknown device. Returns the store.
+/// no valid name, the engine treats it as an unknown device. Returns the store.
 pub fn poll_books<R: Net, B: Books, C: Clock, W: Write>(
     net: &R,
     alloc: Global,

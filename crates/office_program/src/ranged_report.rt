@@ -12,15 +12,15 @@ use office_events::Name;
 use std::alloc::Global;
 use std::io::Write;
 
-/// Opens an office for queries, as `report_books` does, and prints the energy of an accounting
-/// register on a range of days.
+/// Opens an office (the event engine) for queries, as `report_books` does, and prints the energy of
+/// an accounting register on a range of days.
 ///
 /// The form gives the days of the range, the period, the unit and the format. If the range has a
-/// first and a last day, the command reads only the quarter hours of the range's days, and of two
-/// more days before and after them.
+/// first and a last day, the command does not read all quarter hours. It reads those of the range's
+/// days, and of two more days before and after.
 ///
-/// If opening the office or the report is refused, the command prints only `refused N`. If
-/// `register` is no valid name, the office treats it as an unknown register. Returns the store.
+/// If opening the engine or the report is refused, the command prints only `refused N`. If
+/// `register` is no valid name, the engine treats it as an unknown register. Returns the store.
 pub fn report_range_books<B: Books, C: Clock, W: Write>(
     alloc: Global,
     books: B,

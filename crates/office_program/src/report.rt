@@ -11,14 +11,15 @@ use office_events::Name;
 use std::alloc::Global;
 use std::io::Write;
 
-/// Opens an office for queries, and prints the energy of an accounting register by civil day.
+/// Opens an office (the event engine) for queries, and prints the energy of an accounting register
+/// by civil day.
 ///
-/// Each printed line is a day, and the last line has the number of days. The office is opened at
+/// Each printed line is a day, and the last line has the number of days. The engine is opened at
 /// the clock's time, or at the latest timestamp in the store if that timestamp is later. So a clock
 /// that was set back hides no energy.
 ///
-/// If opening the office or the report is refused, the command prints only `refused N`. If
-/// `register` is no valid name, the office treats it as an unknown register. Returns the store.
+/// If opening the engine or the report is refused, the command prints only `refused N`. If
+/// `register` is no valid name, the engine treats it as an unknown register. Returns the store.
 pub fn report_books<B: Books, C: Clock, W: Write>(
     alloc: Global,
     books: B,

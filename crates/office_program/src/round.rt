@@ -25,7 +25,8 @@ use std::io::Write;
 /// device that sends without end.
 pub const MOST_TAKES: u32 = 100_000;
 
-// Feeds the first event of a polling round to the office: `Connected` for the round's device.
+// Feeds the first event of a polling round to the office (the event engine): `Connected` for the
+// round's device.
 fn connect<B: Books, C: Clock, W: Write>(
     progress: &mut Progress,
     office: &mut Office<B>,
@@ -93,7 +94,7 @@ fn poll_connected<L: Link, B: Books, C: Clock, W: Write>(
 }
 
 // Polls a connected device until its polling round is over. If a fault ends the round early, feeds
-// the event `Gone` (the device is disconnected) to the office.
+// the event `Gone` (the device is disconnected) to the event engine.
 fn poll_to_end<L: Link, B: Books, C: Clock, W: Write>(
     alloc: Global,
     progress: &mut Progress,
@@ -116,8 +117,8 @@ fn poll_to_end<L: Link, B: Books, C: Clock, W: Write>(
     }
 }
 
-// Ends a polling round whose first event had a fault. Feeds the event `Gone` (the device is
-// disconnected) to the office, unless the office refused the event `Connected`.
+// Ends a polling round whose first event failed. Feeds the event `Gone` (the device is
+// disconnected) to the event engine, unless the engine refused the event `Connected`.
 fn end_unconnected<B: Books, C: Clock, W: Write>(
     progress: &Progress,
     fault: RoundFault,
@@ -140,9 +141,10 @@ fn end_unconnected<B: Books, C: Clock, W: Write>(
 
 /// Polls a device once over a new link: one poll for each Modbus read of the device's plan.
 ///
-/// The polling round feeds the event `Connected` to the office, and starts the Modbus reads of the
-/// plan in order. It feeds the bytes of the link as they arrive, and a timer event if a read of the
-/// link times out. After each event that ends a poll of the round, it starts the next Modbus reads.
+/// The polling round feeds the event `Connected` to the event engine, and starts the Modbus reads
+/// of the plan in order. It feeds the bytes of the link as they arrive, and a timer event if a read
+/// of the link times out. After each event that ends a poll of the round, it starts the next Modbus
+/// reads.
 ///
 /// Once all polls have ended, or the link has ended, the round feeds the event `Gone` (the device
 /// is disconnected). The timestamp of each event is the clock's time.
@@ -150,13 +152,13 @@ fn end_unconnected<B: Books, C: Clock, W: Write>(
 /// Accepted events are printed as a script prints them: their notifications, and `ok` or the
 /// started polls. Refusals are not printed.
 ///
-/// If `device` is `None`, the office knows no device with this name. After a fault the round feeds
+/// If `device` is `None`, the engine knows no device with this name. After a fault the round feeds
 /// the event `Gone` with the cause `Failed`. The round also prints this last event, unless printing
-/// failed. If the office refused the event `Connected`, nothing else is fed.
+/// failed. If the engine refused the event `Connected`, nothing else is fed.
 ///
 /// If the clock was set back, or is past the largest supported timestamp, the last event has the
 /// timestamp of the latest event. At the end none of the device's polls is pending, unless the
-/// office has stopped because the store or memory failed.
+/// engine has stopped because the store or memory failed.
 pub fn round_over<L: Link, B: Books, C: Clock, W: Write>(
     alloc: Global,
     link: &mut L,

@@ -1,5 +1,5 @@
 //! Ends a polling round after a fault, by feeding the event `Gone` (the device is disconnected) to
-//! the office.
+//! the office (the event engine).
 ghost use Rattle.std.specs.Prelude.{◌≡◌};
 ghost use Rattle.office_program.specs.Between.{ClosesBroken, EndsAndPrints, EndsSilently};
 ghost use Rattle.office_program.specs.Passing.{Lasts};
@@ -55,8 +55,8 @@ fn is_output(fault: RoundFault) -> bool
     }
 }
 
-// Feeds the event `gone` (the device is disconnected) to the office, and prints the office's report
-// of the event.
+// Feeds the event `gone` (the device is disconnected) to the event engine, and prints the engine's
+// report of the event.
 fn end_printed<B: Books, W: Write>(
     at: u64,
     gone: &Event,
@@ -75,8 +75,8 @@ fn end_printed<B: Books, W: Write>(
     }
 }
 
-// Feeds the event `gone` (the device is disconnected) to the office, and prints nothing, because an
-// earlier write of the output failed.
+// Feeds the event `gone` (the device is disconnected) to the event engine, and prints nothing,
+// because an earlier write of the output failed.
 fn end_unprinted<B: Books>(at: u64, gone: &Event, office: &mut Office<B>)
     ensures ends { EndsSilently B.Books at gone.now office.old office.new }
     ensures lasts { Lasts B.ledger office.old office.new }
@@ -84,8 +84,8 @@ fn end_unprinted<B: Books>(at: u64, gone: &Event, office: &mut Office<B>)
     let _answer = office.feed(at, gone);
 }
 
-/// Feeds the event `Gone` (the device is disconnected) to the office, with the cause `Failed`.
-/// Prints the office's report of the event.
+/// Feeds the event `Gone` (the device is disconnected) to the event engine, with the cause
+/// `Failed`. Prints the engine's report of the event.
 ///
 /// If the polling round ended early because a write of the output failed, nothing is printed.
 /// Returns the fault to report: `Output` if printing the last event failed, otherwise the given

@@ -6,7 +6,8 @@ use office_books::{facts_are_lawful, polls_end_once, polls_fit};
 use poll_core::{each_once, one_event_more};
 
 /// Proves that a `Round` always requests the event that the definition `next_in` gives, whatever
-/// the office accepted earlier. The proof is by induction over the events that the round fed.
+/// the office (the event engine) accepted earlier. The proof is by induction over the events that
+/// the round fed.
 pub(crate) fn rounds_hold()
     ensures { RoundsHold }
 {

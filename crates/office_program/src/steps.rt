@@ -1,5 +1,5 @@
-//! The single actions of a polling round. Each action feeds events to the office and writes the
-//! office's Modbus frames to the link.
+//! The single actions of a polling round. Each action feeds events to the office (the event engine)
+//! and writes the engine's Modbus frames to the link.
 ghost use Rattle.std.specs.Prelude.{◌≡◌, IfOk};
 ghost use Rattle.std.specs.Io.KnownBytes.{Consumes, Keeps};
 ghost use Rattle.mb_wire.specs.Links.{risen};
@@ -21,7 +21,7 @@ use poll_core::Closing;
 use std::alloc::Global;
 use std::io::Write;
 
-// Writes the Modbus frames that the office sends for an event to the link of the device.
+// Writes the Modbus frames that the event engine sends for an event to the link of the device.
 fn send<L: Link>(link: &mut L, frames: &[u8]) -> Result<(), RoundFault>
     ensures given { AreGiven result frames.now (L.given link.old) (L.given link.new) }
     ensures kind { OnlyLink result }
@@ -61,8 +61,8 @@ pub(crate) fn take_event<L: Link>(
     }
 }
 
-// Feeds the next event of a polling round to the office, and writes the office's frames to the
-// link.
+// Feeds the next event of a polling round to the event engine, and writes the engine's frames to
+// the link.
 fn feed_and_send<L: Link, B: Books, C: Clock, W: Write>(
     event: &Event,
     progress: &mut Progress,
@@ -84,8 +84,8 @@ fn feed_and_send<L: Link, B: Books, C: Clock, W: Write>(
     }
 }
 
-/// Feeds the event that the polling round requests to the office. If the round requests no event,
-/// does nothing.
+/// Feeds the event that the polling round requests to the event engine. If the round requests no
+/// event, does nothing.
 pub(crate) fn feed_requested<L: Link, B: Books, C: Clock, W: Write>(
     progress: &mut Progress,
     link: &mut L,
@@ -128,8 +128,8 @@ fn follow<L: Link, B: Books, C: Clock, W: Write>(
     }
 }
 
-// Feeds an event from the link to the office, and then the event that the polling round requests,
-// if any. Returns true if the round is over.
+// Feeds an event from the link to the event engine, and then the event that the polling round
+// requests, if any. Returns true if the round is over.
 fn feed_taken<L: Link, B: Books, C: Clock, W: Write>(
     event: &Event,
     progress: &mut Progress,
@@ -151,8 +151,8 @@ fn feed_taken<L: Link, B: Books, C: Clock, W: Write>(
     }
 }
 
-/// Reads an event from the link and feeds the event to the office. Then feeds the event that the
-/// polling round requests, if any.
+/// Reads an event from the link and feeds the event to the event engine. Then feeds the event that
+/// the polling round requests, if any.
 ///
 /// Returns true if the polling round is over.
 pub(crate) fn turn<L: Link, B: Books, C: Clock, W: Write>(

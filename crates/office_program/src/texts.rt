@@ -1,4 +1,5 @@
-//! The texts that the program's commands over an office print, and their exit statuses.
+//! The texts that the program's commands print after they open an office (the event engine) over a
+//! store, and the commands' exit statuses.
 
 mod asked_office;
 mod end_texts;

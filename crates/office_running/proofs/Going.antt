@@ -38,10 +38,10 @@ use Rattle.office_program.specs.Texts.Passing.{Lasts}
 use Rattle.run_http.specs.Status.Advice.Lacks.{LooksUp}
 use Rattle.office_running.specs.Runs.{AreAt, BooksRun, Goes, IsOfRound, ReadsClock, RunsOn, Step, Fed, Asks, TakesTurns, TurnsFrom, history_with, latest_of, steps_of, with_step}
 
--- ---- Steps of a run at one timestamp
+-- Lemmas on the steps of a run (one execution of `sunreg run`) that have the same timestamp.
 
--- If the office is unchanged, then it has made zero steps, which counts as a list of steps at any
--- timestamp.
+-- If the program's state is unchanged, then the state follows from an empty list of steps, whatever
+-- the timestamp.
 pub goes_none : {B : Type 0} (names : List (List ℕ)) (at : ℕ) (ledger : B → Ledger) (office : Office B) → Goes names at ledger office office
 goes_none names at ledger office = record {
   stands = λ past stands clean. record { steps = []; each = tt; stands = stands };
@@ -58,8 +58,8 @@ each_of_both : {names : List (List ℕ)} (at : ℕ) (later earlier : List (Step 
 each_of_both at [] earlier a b = b
 each_of_both at (one ∷ later) earlier a b = (a.0, each_of_both at later earlier a.1 b)
 
--- If the office made steps at a timestamp, and then further steps at the same timestamp, then all
--- of them together are steps at this timestamp.
+-- If the program makes steps at a timestamp, and then more steps at this timestamp, all of them
+-- together are steps at this timestamp.
 pub goes_both : {B : Type 0} (names : List (List ℕ)) (at : ℕ) (ledger : B → Ledger) (a b c : Office B) → Goes names at ledger a b → Goes names at ledger b c
     → Goes names at ledger a c
 goes_both names at ledger a b c first next = record {
@@ -77,7 +77,7 @@ goes_both names at ledger a b c first next = record {
   zone = next.zone ∙ first.zone;
 }
 
--- ---- Steps of a turn of the event loop that process events of devices
+-- Lemmas on steps that process events of devices in one pass of the event loop.
 
 abbrev of_events : (names : List (List ℕ)) → List Answered → List (Step names)
 of_events names [] = []
@@ -87,8 +87,8 @@ after_events : (names : List (List ℕ)) (past : History) (fed : List Answered) 
 after_events names past [] = refl
 after_events names past (one ∷ earlier) = ap (λ h. with_answer h one.at one.event one.result) (after_events names past earlier)
 
--- True if the event that a polling round requests belongs to a polling round. Also true if there is
--- no event.
+-- True if the event that a device's polling round requests is an event of a polling round. Also
+-- true if there is no event.
 abbrev WishesOfRound : Option Event → Type 0
 WishesOfRound None = Unit {0}
 WishesOfRound (Some e) = IsOfRound e
@@ -175,7 +175,7 @@ goes_turn names ledger sees at old new begun failures turned observer opened tur
   zone = lasts.zone;
 }
 
--- If one event of a polling round is fed, then the office has made one step at the event's
+-- If the program processes one event of a polling round, then it has made one step at the event's
 -- timestamp.
 pub goes_fed : {B : Type 0} (names : List (List ℕ)) (ledger : B → Ledger) (at : ℕ) (e : Event) (answer : Result Answer Refusal) (old new : Office B)
     → After ledger old new (λ past. Stands ledger (with_answer past at e answer) new) → Ends ledger old new e answer → IsOfRound e → Goes names at ledger old new
@@ -189,7 +189,7 @@ goes_fed names ledger at e answer old new feeds ends is = record {
   zone = ends.zone;
 }
 
--- ---- Steps of a turn of the event loop that answer requests of clients
+-- Lemmas on steps that answer requests of clients in one pass of the event loop.
 
 abbrev of_connections : (names : List (List ℕ)) → List (Connection names) → List (Step names)
 of_connections names [] = []
@@ -220,7 +220,7 @@ goes_asked names at ledger old new ask = record {
   zone = ask.zone;
 }
 
--- ---- Turns of the event loop
+-- Lemmas on the turns (passes) of the event loop.
 
 pub no_turns : {B : Type 0} (names : List (List ℕ)) (ledger : B → Ledger) (first : ℕ) (begun : Option (List ℕ)) (office : Office B)
     → TakesTurns names ledger first first begun begun office office
@@ -230,8 +230,8 @@ no_turns names ledger first begun office = record {
   zone = refl;
 }
 
--- If some turns of the event loop are complete, then one more reading of the clock, with steps at
--- the latest time that the clock has returned, adds one turn.
+-- After some complete passes of the event loop, reading the clock once more, with steps at the
+-- latest time of the clock, adds one pass.
 one_turn : {B : Type 0} (names : List (List ℕ)) (ledger : B → Ledger) (first before latest : ℕ) (begun between now : Option (List ℕ)) (a b c : Office B)
     → TakesTurns names ledger first before begun between a b → ReadsClock before latest between now → Goes names latest ledger b c
     → TakesTurns names ledger first latest begun now a c
@@ -252,8 +252,8 @@ one_turn names ledger first before latest begun between now a b c turns reads go
   zone = goes.zone ∙ turns.zone;
 }
 
--- True if some turns of the event loop are complete, and the clock was read once more, for the next
--- turn.
+-- True if some passes of the event loop are complete, and the clock was read once more, for the
+-- next pass.
 pub record Begins {B : Type 0} (names : List (List ℕ)) (ledger : B → Ledger) (first latest : ℕ) (begun now : Option (List ℕ)) (old new : Office B) : Type 0 where
   pub before : ℕ
   pub between : Option (List ℕ)
@@ -269,8 +269,8 @@ first_begins names ledger first latest begun now office reads = record {
   reads = reads;
 }
 
--- If the clock was read for the next turn, and the office made steps at the latest time that the
--- clock has returned, then this turn is complete.
+-- If the clock was read for a pass of the event loop, and the program made steps at the clock's
+-- latest time, the pass is complete.
 pub turn_ends : {B : Type 0} (names : List (List ℕ)) (ledger : B → Ledger) (first latest at : ℕ) (begun now : Option (List ℕ)) (a b c : Office B)
     → at ≡ latest → Begins names ledger first latest begun now a b → Goes names at ledger b c → TakesTurns names ledger first latest begun now a c
 turn_ends names ledger first latest at begun now a b c same begins goes =
@@ -287,8 +287,8 @@ next_begins names ledger first latest later at begun now after a b c d same begi
   reads = reads;
 }
 
--- If the office was only queried before some turns of the event loop, then it processed these turns
--- and nothing else.
+-- If the program only answered queries before some passes of the event loop, then these passes are
+-- all that it processed.
 pub turns_after_asking : {B T : Type 0} (names : List (List ℕ)) (ledger : B → Ledger) (first : ℕ) (begun now : Option (List ℕ)) (a b c : Office B)
     (answer : Result T Refusal) → OnlyAsks ledger a b answer → TurnsFrom names ledger first begun now b c → TurnsFrom names ledger first begun now a c
 turns_after_asking names ledger first begun now a b c answer asks goes = record {
@@ -300,9 +300,10 @@ turns_after_asking names ledger first begun now a b c answer asks goes = record 
   };
 }
 
--- ---- A complete run, from the opening of the office to the end
+-- Lemmas on a complete run of `sunreg run`, from the opening of the store to the end of the
+-- program.
 
--- If a store is only read, then it still has the records of its history.
+-- If the program only reads a store, then the store still has the records of its history.
 pub reads_stand : (old new : Ledger) (past : History) → KeepsFacts old new → BooksStand old past → BooksStand new past
 reads_stand old new past keeps stands = record {
   is_past = stands.is_past;
@@ -314,8 +315,8 @@ reads_stand old new past keeps stands = record {
   };
 }
 
--- If a run opened the office and processed turns of the event loop, then the store has the records
--- of the opening and of these turns.
+-- If a run opened the store and processed passes of the event loop, the store has the records of
+-- the opening and of the passes.
 pub ran_opened : {B : Type 0} (names : List (List ℕ)) (ledger : B → Ledger) (past : History) (begun opened now : Option (List ℕ)) (office new : Office B) (books : B)
     → books ≡ books_in new → ((ledger (books_in office)).is_clean → Opens ledger past begun opened office) → RunsOn names ledger opened now office new
     → (ledger books).is_clean → BooksRun names begun now (ledger books) past
@@ -338,15 +339,15 @@ ran_opened {B = B} names ledger past begun opened now office new books is opens 
       stand = so.stands.books;
     }))
 
--- If a store is only queried, then it still has the records of its history.
+-- If the program only queries a store, then the store still has the records of its history.
 pub looked_stand : (a b c : Ledger) (past : History) → LooksUp b c → (BooksStand a past → BooksStand b past) → BooksStand a past → BooksStand c past
 looked_stand a b c past looks before stands = reads_stand b c past looks.keeps (before stands)
 
 pub looked_last : (a b c : Ledger) → LooksUp b c → Lasts a b → Lasts a c
 looked_last a b c looks first = record { clean = λ clean. first.clean (looks.clean clean); zone = looks.zone ∙ first.zone }
 
--- If a store is clean after two calls (no wrong result of it was used), then it was clean before
--- the two calls.
+-- If a store is clean after two calls (the program used no wrong result of the store), it was clean
+-- before them.
 pub lasts_both : (a b c : Ledger) → Lasts a b → Lasts b c → Lasts a c
 lasts_both a b c first next = record { clean = λ clean. first.clean (next.clean clean); zone = next.zone ∙ first.zone }
 

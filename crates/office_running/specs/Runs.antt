@@ -1,5 +1,5 @@
--- The contract of the command `sunreg run`: which events and requests the office (the engine that
--- records energy) processes, and at which timestamps.
+-- The contract of the command `sunreg run`: which events and requests the program processes, and at
+-- which timestamps.
 use Rattle.std.specs.Prelude.{◌≡◌, ◌⊎◌, ℕ, max, List, [], ◌∷◌, ◌++◌, length, Option}
 use Rattle.mb_wire.specs.Sockets.Clocks.{ReportsMoment}
 use Rattle.office_events.specs.declared.commands.Command.{Command}
@@ -18,9 +18,9 @@ use Rattle.office_http.specs.Serving.{with_asked}
 use Rattle.office_http.specs.Connections.Connections.{Connection}
 use Rattle.office_running.specs.declared.leftovers.Left.{Left}
 
--- ---- Steps of a run (one execution of `sunreg run`) at one timestamp
+-- Definitions on the steps of a run (one execution of `sunreg run`) that have the same timestamp.
 
--- One step of `sunreg run`: the office processed an event of a device's polling round, or answered
+-- One step of `sunreg run`: the program processed an event of a device's polling round, or answered
 -- the requests on an HTTP client's connection.
 --
 -- `names` are the host names that the `Host` header of a request may have.
@@ -44,8 +44,8 @@ IsOfRound (event.Gone device closing) = Unit {0}
 IsOfRound (event.Command given) = StartsRound given
 IsOfRound (event.Asked asked) = ⊥
 
--- True if the step of a run happened at timestamp `at`. If the step is an event, the event belongs
--- to a polling round.
+-- True if the step of a run happened at the timestamp `at`. A step that is an event must belong to
+-- a device's polling round.
 abbrev pub IsStepAt : {names : List (List ℕ)} → (at : ℕ) → Step names → Type 0
 IsStepAt at (Fed fed) = (fed.at ≡ at) × IsOfRound fed.event
 IsStepAt at (Asks one) = one.at ≡ at
@@ -55,40 +55,41 @@ abbrev pub AreAt : {names : List (List ℕ)} → (at : ℕ) → List (Step names
 AreAt at [] = Unit {0}
 AreAt at (one ∷ earlier) = IsStepAt at one × AreAt at earlier
 
--- The history of the office's accepted events after one more step of a run.
+-- The history of the program's accepted events after one more step of a run.
 abbrev pub with_step : {names : List (List ℕ)} → History → Step names → History
 with_step past (Fed fed) = with_answer past fed.at fed.event fed.result
 with_step past (Asks one) = with_asked past one.at one.asked
 
--- The history of the office's accepted events after several steps of a run. The list has the latest
--- step first.
+-- The history of the program's accepted events after several steps of a run. The list has the
+-- latest step first.
 abbrev pub history_with : {names : List (List ℕ)} → (past : History) → List (Step names)
     → History
 history_with past [] = past
 history_with past (one ∷ earlier) = with_step (history_with past earlier) one
 
--- True if the office is in the state that follows from some steps of a run, all at timestamp `at`.
+-- True if the program is in the state that follows from some steps of a run, all at the timestamp
+-- `at`.
 pub record StandsAfterSteps {B : Type 0} (names : List (List ℕ)) (at : ℕ) (ledger : B → Ledger)
     (past : History) (office : Office B) : Type 0 where
   pub steps : List (Step names)
   pub each : AreAt at steps
   pub stands : Stands ledger (history_with past steps) office
 
--- The promise of each function of the event loop. Whatever bytes arrive, the office processes only
--- events of polling rounds and requests of clients, all at timestamp `at`.
+-- The contract of each function of the event loop. Whatever bytes arrive, the program processes
+-- only events of polling rounds and requests of clients, all at the timestamp `at`.
 --
--- If a store is clean after the call (no wrong result of it was used), then the store was clean
--- before the call. The store's time zone is unchanged.
+-- If a store is clean after the call (the program used no wrong result of the store), then the
+-- store was clean before the call. The store's time zone is unchanged.
 pub record Goes {B : Type 0} (names : List (List ℕ)) (at : ℕ) (ledger : B → Ledger)
     (old new : Office B) : Type 0 where
   pub stands : After ledger old new (λ past. StandsAfterSteps names at ledger past new)
   pub clean : (ledger (books_in new)).is_clean → (ledger (books_in old)).is_clean
   pub zone : (ledger (books_in new)).zone ≡ (ledger (books_in old)).zone
 
--- ---- Turns of the event loop, from timestamp to timestamp
+-- Definitions on the turns (passes) of the event loop, from timestamp to timestamp.
 
--- True if the clock was read once. If the clock was set back, `latest` stays the latest timestamp
--- before, `before`. Otherwise it is the time that the clock returned.
+-- True if the clock was read once. If the clock was set back, `latest` equals `before`, the latest
+-- timestamp until then. Otherwise `latest` is the time that the clock returned.
 pub record ReadsClock (before latest : ℕ) (begun now : Option (List ℕ)) : Type 0 where
   pub reported : ℕ
   pub reports : ReportsMoment begun now reported
@@ -100,14 +101,15 @@ pub record Turn (names : List (List ℕ)) : Type 0 where
   pub reported : ℕ
   pub steps : List (Step names)
 
--- The latest time that the clock returned in a list of turns of the event loop, but at least
--- `first`, the timestamp before these turns.
+-- The latest time that the clock returned in a list of passes of the event loop. The time is at
+-- least `first`, the timestamp before these passes.
 abbrev pub latest_of : {names : List (List ℕ)} → (first : ℕ) → List (Turn names) → ℕ
 latest_of first [] = first
 latest_of first (turn ∷ earlier) = max (latest_of first earlier) turn.reported
 
--- True if the clock was read once in each turn of the event loop. All steps of a turn happened at
--- the latest time that the clock had returned by this turn, so timestamps never decrease.
+-- True if the clock was read once in each turn (pass) of the event loop. All steps of a turn
+-- happened at the latest time that the clock had returned by this turn, so timestamps never
+-- decrease.
 abbrev pub AreTurns : {names : List (List ℕ)} → (first : ℕ) → (begun now : Option (List ℕ))
     → List (Turn names) → Type 0
 AreTurns first begun now [] = now ≡ begun
@@ -115,12 +117,12 @@ AreTurns first begun now (turn ∷ earlier) =
     (between : Option (List ℕ)) × AreTurns first begun between earlier
     × ReportsMoment between now turn.reported × AreAt (latest_of first (turn ∷ earlier)) turn.steps
 
--- The steps of all turns of the event loop; the latest step is first.
+-- The steps of all turns (passes) of the event loop; the latest step is first.
 abbrev pub steps_of : {names : List (List ℕ)} → List (Turn names) → List (Step names)
 steps_of [] = []
 steps_of (turn ∷ earlier) = turn.steps ++ steps_of earlier
 
--- True if the office is in the state that follows from some turns of the event loop. `latest` is
+-- True if the program is in the state that follows from some passes of the event loop. `latest` is
 -- the latest time that the clock has returned.
 pub record StandsAfterTurns {B : Type 0} (names : List (List ℕ)) (first latest : ℕ)
     (begun now : Option (List ℕ)) (ledger : B → Ledger) (past : History)
@@ -130,10 +132,10 @@ pub record StandsAfterTurns {B : Type 0} (names : List (List ℕ)) (first latest
   pub is_latest : latest ≡ latest_of first turns
   pub stands : Stands ledger (history_with past (steps_of turns)) office
 
--- True if the office processed some turns of the event loop and nothing else.
+-- True if the program processed some passes of the event loop and nothing else.
 --
--- If a store is clean after the turns (no wrong result of it was used), then the store was clean
--- before the turns. The store's time zone is unchanged.
+-- If a store is clean after these passes (the program used no wrong result of the store), then the
+-- store was clean before. The store's time zone is unchanged.
 pub record TakesTurns {B : Type 0} (names : List (List ℕ)) (ledger : B → Ledger)
     (first latest : ℕ) (begun now : Option (List ℕ)) (old new : Office B) : Type 0 where
   pub stands : After ledger old new
@@ -141,15 +143,15 @@ pub record TakesTurns {B : Type 0} (names : List (List ℕ)) (ledger : B → Led
   pub clean : (ledger (books_in new)).is_clean → (ledger (books_in old)).is_clean
   pub zone : (ledger (books_in new)).zone ≡ (ledger (books_in old)).zone
 
--- True if the office processed some turns of the event loop and nothing else. No timestamp of these
--- turns is before `first`.
+-- True if the program processed some passes of the event loop and nothing else. No timestamp of
+-- these passes is before `first`.
 pub record TurnsFrom {B : Type 0} (names : List (List ℕ)) (ledger : B → Ledger) (first : ℕ)
     (begun now : Option (List ℕ)) (old new : Office B) : Type 0 where
   pub latest : ℕ
   pub turns : TakesTurns names ledger first latest begun now old new
 
--- True if the clock was read and returned the timestamp `first`, and then the office processed some
--- turns of the event loop.
+-- True if the clock was read and returned the timestamp `first`, and then the program processed
+-- some passes of the event loop.
 pub record RunsOn {B : Type 0} (names : List (List ℕ)) (ledger : B → Ledger)
     (begun now : Option (List ℕ)) (old new : Office B) : Type 0 where
   pub first : ℕ
@@ -157,9 +159,10 @@ pub record RunsOn {B : Type 0} (names : List (List ℕ)) (ledger : B → Ledger)
   pub reports : ReportsMoment begun between first
   pub turns : TurnsFrom names ledger first between now old new
 
--- ---- A complete run, from the opening of the office to the end
+-- Definitions on a complete run of `sunreg run`, from the opening of the store to the end of the
+-- program.
 
--- True if the store has the records of an opening of the office, and of the turns of the event loop
+-- True if the store has the records of an opening of the store, and of the passes of the event loop
 -- after it. The timestamp of the opening is a time that the clock returned.
 pub record StandAfterOpening (names : List (List ℕ)) (begun now : Option (List ℕ))
     (ledger : Ledger) (past : History) : Type 0 where
@@ -174,15 +177,15 @@ pub record StandAfterOpening (names : List (List ℕ)) (begun now : Option (List
   pub stand : BooksStand ledger (history_with (Opened at ∷ past) (steps_of turns))
 
 -- True if the store has the records from before the run, either alone or with those of the run. The
--- records of the run are those of an opening of the office and of the turns of the event loop after
+-- records of the run are those of an opening of the store and of the passes of the event loop after
 -- it.
 abbrev pub BooksRun : (names : List (List ℕ)) → (begun now : Option (List ℕ)) → Ledger
     → (past : History) → Type 0
 BooksRun names begun now ledger past =
     BooksStand ledger past ⊎ StandAfterOpening names begun now ledger past
 
--- True if `left` has the timestamp of the store's latest record, and the number of the store's
--- polls without an outcome.
+-- True if `left` has the timestamp of the store's latest record, and the number of polls in the
+-- store whose end is not recorded.
 pub record IsLeft (past : History) (left : Left) : Type 0 where
   pub latest : left.latest ≡ latest_in (facts_of past)
   pub waiting : left.waiting ≡ length (pending_in (facts_of past))

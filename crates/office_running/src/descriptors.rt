@@ -9,13 +9,13 @@ use std::net::Net;
 /// run has fewer.
 const MOST_DEVICES: usize = 64;
 
-/// The number of clients that a run accepts at once, if there are too few file descriptors for all
-/// client slots.
+/// The number of clients that a run accepts at once, if there are too few file descriptors for the
+/// maximum number of clients.
 #[derive(Clone, Copy)]
 pub(crate) struct FewClients {
     pub(crate) clients: usize,
-    /// The recommended limit on open file descriptors (`ulimit -n`), with which all client slots
-    /// can be used.
+    /// The recommended limit on open file descriptors (`ulimit -n`), with which a run can serve its
+    /// maximum number of clients.
     pub(crate) limit: usize,
 }
 
@@ -34,9 +34,8 @@ fn count_descriptors<R: Net>(rt: &R, alloc: Global, most: usize) -> Result<usize
 
 /// Returns the number of clients that a run with `devices` devices accepts at once.
 ///
-/// If that number is less than the number of client slots, the function also returns the
-/// recommended limit on open file descriptors. Call this function after everything but devices and
-/// clients is open.
+/// If that number is less than the maximum, the function also returns the recommended limit on open
+/// file descriptors. Call this function after everything but devices and clients is open.
 pub(crate) fn find_clients<R: Net>(
     rt: &R,
     alloc: Global,

@@ -17,12 +17,12 @@ use run_schedule::Phase;
 use std::alloc::{AllocError, Global};
 use std::net::Net;
 
-/// The maximum number of chunks that are read from a device at the end of one turn of the event
-/// loop. The responses to a device's pending polls always fit in fewer chunks.
+/// The maximum number of chunks that are read from a device at the end of one pass of the event
+/// loop. The responses to all Modbus requests in progress always fit in fewer chunks.
 const MOST_PIECES: u32 = 64;
 
-// After bytes from a device, passes the office's answer to the device's polling round, and the
-// office's notifications to all rounds.
+// After bytes from a device, passes the program's answer to the device's polling round, and
+// notifications of ended polls and readings to all rounds.
 //
 // The device's round gets the answer only while it waits for responses. A round that is about to
 // start reads would mistake this answer for the answer to that start.
@@ -75,8 +75,8 @@ impl Polling {
         self.slots.len()
     }
 
-    /// Marks the connection in a slot as ready: it may have bytes, or may have been established or
-    /// ended.
+    /// Marks the connection to the device with this index as ready: bytes may have arrived, or the
+    /// connection may have been established or ended.
     pub(crate) fn mark(&mut self, place: usize) {
         if place < self.slots.len() {
             self.slots[place].ready = true;
@@ -88,8 +88,8 @@ impl Polling {
         self.slots.iter().any(|slot| slot.ready)
     }
 
-    // Closes the connection to the device in a slot after a failure to connect. Prints that the
-    // device is unreachable, unless this was already its state.
+    // Closes the connection to a device after a failure to connect. Prints that the device is
+    // unreachable, if its state was different before.
     fn fail(&mut self, place: usize, voice: &mut Voice, now: Now) {
         if place < self.slots.len() {
             let every = self.every;
@@ -102,7 +102,7 @@ impl Polling {
         }
     }
 
-    // Begins to connect to the device in a slot, if its next polling round is due.
+    // Begins to connect to the device with this index, if its next polling round is due.
     fn begin<R: Net>(
         &mut self,
         rt: &R,
@@ -148,7 +148,7 @@ impl Polling {
         }
     }
 
-    // Sends the Modbus requests that the office has for a device. If the device's polling round is
+    // Sends the Modbus requests that are queued for a device. If the device's polling round is
     // over, closes the connection instead.
     fn settle(&mut self, place: usize, voice: &mut Voice, now: Now) {
         if place < self.slots.len() && place < self.rounds.len() {
@@ -170,8 +170,8 @@ impl Polling {
         }
     }
 
-    /// Feeds a device event to the office, and then each event that the polling rounds request
-    /// after it. Sends the resulting Modbus requests to the devices.
+    /// Processes a device event, and then each event that the polling rounds request after it.
+    /// Sends the resulting Modbus requests to the devices.
     pub(crate) fn feed<B: Books>(
         &mut self,
         device_event: DeviceEvent,
@@ -187,8 +187,8 @@ impl Polling {
     }
 
     // Handles the result `seen` of checking a pending connection. Begins the polling round if the
-    // connection is established, or closes the connection if it failed. Returns the event for the
-    // office, if any.
+    // connection is established, or closes the connection if it failed. Returns the event to
+    // process, if any.
     fn joined(
         &mut self,
         place: usize,
@@ -212,8 +212,8 @@ impl Polling {
         }
     }
 
-    // Checks whether the connection in a slot has bytes, was established, or has ended. Returns the
-    // event for the office, if any.
+    // Checks whether the connection to a device has bytes, was established, or has ended. Returns
+    // the event to process, if any.
     fn look(&mut self, place: usize, voice: &mut Voice, now: Now) -> Option<DeviceEvent> {
         if place >= self.slots.len() {
             return None;
@@ -232,7 +232,7 @@ impl Polling {
     }
 
     // Handles a device that took too long to connect or to complete its polling round. Returns the
-    // event for the office, if any.
+    // event to process, if any.
     fn expire(&mut self, place: usize, voice: &mut Voice, now: Now) -> Option<DeviceEvent> {
         if place < self.slots.len() && self.slots[place].timing.phase == Phase::Connecting {
             self.fail(place, voice, now);
@@ -241,7 +241,7 @@ impl Polling {
         Some(DeviceEvent::Closed(place, Closing::Failed))
     }
 
-    // Returns the next event of the device in a slot, if any.
+    // Returns the next event of the device with this index, if any.
     fn device_event(&mut self, place: usize, voice: &mut Voice, now: Now) -> Option<DeviceEvent> {
         if place >= self.slots.len() {
             return None;
@@ -255,8 +255,8 @@ impl Polling {
         None
     }
 
-    // Returns the name of the device in a slot, if its polling round waits for responses or is
-    // about to start more reads. The inner `None` is a device without a valid name.
+    // Returns the name of the device with this index, if its polling round waits for responses or
+    // is about to start more reads. The inner `None` is a device without a valid name.
     fn waiting_at(&self, place: usize) -> Option<Option<Name>> {
         if place >= self.rounds.len() {
             return None;
@@ -267,15 +267,15 @@ impl Polling {
         }
     }
 
-    /// Marks the connection of a device with pending responses as ready, even if the system has not
-    /// reported that its socket is readable. So a response that has just arrived is read too.
+    /// Marks the connection of a device with unanswered requests as ready, even if the system has
+    /// not reported that its socket is readable. A response that has just arrived is then read too.
     pub(crate) fn mark_waiting(&mut self, place: usize) {
         if self.waiting_at(place).is_some() {
             self.mark(place);
         }
     }
 
-    // Reads at most one chunk from a device with pending responses. Returns the device's name and
+    // Reads at most one chunk from a device with unanswered requests. Returns the device's name and
     // the bytes.
     fn listen(&mut self, place: usize) -> Option<(Option<Name>, Vec<u8>)> {
         let device = self.waiting_at(place)?;
@@ -286,10 +286,10 @@ impl Polling {
         Some((device, bytes))
     }
 
-    // Feeds the bytes of one device to the office, at the end of a turn of the event loop.
+    // Processes the bytes of one device, at the end of a pass of the event loop.
     //
-    // The events that the device's polling round then requests wait for the next turn. A read that
-    // started with the timestamp of this turn would have a shorter timeout.
+    // The events that the device's polling round then requests wait for the next pass. A read that
+    // started with the timestamp of this pass would have a shorter timeout.
     fn hear<B: Books>(
         &mut self,
         place: usize,
@@ -316,7 +316,7 @@ impl Polling {
         );
     }
 
-    // Feeds at most one chunk from a device with pending responses to the office. Returns true if
+    // Processes at most one chunk of bytes from a device with unanswered requests. Returns true if
     // there was no chunk.
     #[tactic(auto, using(crate::proofs::Going::goes_none))]
     fn hear_piece<B: Books>(
@@ -338,8 +338,8 @@ impl Polling {
         }
     }
 
-    /// Feeds to the office the bytes that a device with pending responses has sent, with the
-    /// timestamp of the present turn of the event loop. The bytes therefore count as received
+    /// Processes the bytes that have arrived from a device with unanswered requests, with the
+    /// timestamp of the present pass of the event loop. The bytes therefore count as received
     /// before the next timer event.
     pub(crate) fn hear_device<B: Books>(
         &mut self,
@@ -359,7 +359,7 @@ impl Polling {
         }
     }
 
-    /// Feeds the next event of the device in a slot to the office, with at most one chunk of bytes.
+    /// Processes the next event of the device with this index, with at most one chunk of bytes.
     /// Returns whether there was an event.
     #[tactic(auto, using(crate::proofs::Going::goes_none, crate::proofs::Going::goes_both))]
     pub(crate) fn attend<B: Books>(

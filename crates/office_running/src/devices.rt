@@ -39,8 +39,8 @@ pub(crate) struct Slot {
     alloc: Global,
     stream: Option<TcpStream>,
     unsent: Outbox,
-    /// How the connection ended, if `listen` found its end. The next check of the connection passes
-    /// the end to the office.
+    /// How the connection ended, if the method `listen` found its end. The next check of the
+    /// connection reports that end.
     ended: Option<Closing>,
 }
 
@@ -222,8 +222,8 @@ impl Slot {
         }
     }
 
-    /// Checks the connection, as `see` does. The device stays marked as ready if bytes arrived or
-    /// the connection was established, because more bytes may follow.
+    /// Checks the connection for bytes, its establishment or its end. The device stays marked as
+    /// ready if bytes arrived or the connection was established, because more bytes may follow.
     pub(crate) fn look(&mut self) -> Seen {
         let seen = self.see();
         self.ready = matches!(seen, Seen::Stands | Seen::Bytes(_));

@@ -1,4 +1,4 @@
-//! The event loop of a run of `sunreg run`. Each turn of the loop processes at most one event of
+//! The event loop of a run of `sunreg run`. Each pass of the loop processes at most one event of
 //! each device, serves the clients, prints output, and waits for sockets.
 ghost use Rattle.std.specs.Prelude.{◌≡◌, ℕ, List};
 ghost use Rattle.office_http.specs.Messages.Hosts.{texts};
@@ -39,7 +39,7 @@ const FIRST_DEVICE: usize = PORT_TOKEN + 1;
 /// waiting to be accepted.
 const RETRY: u64 = 100;
 
-// When a run ends: at `time` of the run's own time, or at `moment` of the system clock, whichever
+// The end of a run: at `time` of the run's own clock, or at `moment` of the system clock, whichever
 // is first. Both are in seconds since 1970-01-01 UTC.
 #[derive(Clone, Copy)]
 struct End {
@@ -64,18 +64,19 @@ struct Running {
     lines: Outlet,
     sayings: Outlet,
     files: FileWatch,
-    /// The time of the turn in which a file of the office was found removed, replaced or cut short;
-    /// `None` if no file is lost.
+    /// The time of the pass of the event loop in which a file of the store was found removed,
+    /// replaced or cut short; `None` if no file is lost.
     lost_at: Option<u64>,
-    /// The run's own time in the present turn of the event loop, in seconds since 1970-01-01 UTC.
+    /// The time of the run's own clock in the present pass of the event loop, in seconds since
+    /// 1970-01-01 UTC.
     time: u64,
-    /// Whether the present turn feeds a timer event to the office. It does if the run's time or the
-    /// timestamp has increased since the previous turn.
+    /// Whether the present pass of the event loop has a timer event. It has one if the run's own
+    /// clock or the timestamp has advanced since the previous pass.
     ticks: bool,
 }
 
-// Creates the observer that reports the office's events, for the devices in `sites`. Reports what
-// the devices lack, such as a point list.
+// Creates the record of events for `/status` and logs, for the devices in `sites`. Reports what the
+// devices lack, such as a point list.
 fn voice_of(
     alloc: Global,
     sites: &[Site],
@@ -218,8 +219,8 @@ impl Running {
         self.polling.begin_all(rt, self.poll.registry(), FIRST_DEVICE, &mut self.voice, now);
     }
 
-    // If this turn of the event loop has a timer event, feeds the event to the office, and does the
-    // work that is done once a second.
+    // If this pass of the event loop has a timer event, processes the event, and does the work that
+    // is done once a second.
     #[tactic(auto, using(crate::proofs::Going::goes_none, crate::proofs::Going::goes_both))]
     fn tick<R: Net, B: Books>(&mut self, rt: &R, office: &mut Office<B>, now: Now)
         ensures { (names : List (List ℕ))
@@ -268,7 +269,7 @@ impl Running {
         }
     }
 
-    // Processes the next event of the device in a slot, if there is one.
+    // Processes the next event of the device with this index, if there is one.
     //
     // After an event, the function also serves the clients. A client therefore waits for at most
     // one event of a device.
@@ -327,7 +328,7 @@ impl Running {
     }
 
     // Ends the polling rounds that are in progress, as if the devices had closed their connections.
-    // The office then records an outcome of each pending poll.
+    // The program then records an outcome of each poll in progress.
     fn end_rounds<B: Books>(&mut self, office: &mut Office<B>, now: Now)
         ensures { (names : List (List ℕ))
             → Goes names now.moment B.ledger office.old office.new }
@@ -415,7 +416,7 @@ impl Running {
     }
 
     // Prints the queued output. Then waits for the sockets, unless the run is over or must stop
-    // because a file was lost or the office stopped.
+    // because a file was lost or the store failed.
     fn rest<R: std::rt::Clock + Files, W: Write, E: Write>(
         &mut self,
         rt: &R,
@@ -437,8 +438,7 @@ impl Running {
         self.wait(rt, time, events)
     }
 
-    // Feeds to the office the bytes that devices have sent. Reads only devices with pending
-    // responses.
+    // Processes the bytes that devices have sent. Reads only from devices with unanswered requests.
     fn hear_devices<B: Books>(&mut self, office: &mut Office<B>, now: Now)
         ensures { (names : List (List ℕ))
             → Goes names now.moment B.ledger office.old office.new }
@@ -450,7 +450,7 @@ impl Running {
         }
     }
 
-    // Performs one turn of the event loop: processes device events, serves clients, prints, and
+    // Performs one pass of the event loop: processes device events, serves clients, prints, and
     // waits for sockets. Returns whether the run's time is up.
     fn turn<R: Net + std::rt::Clock + Files, B: Books, W: Write, E: Write>(
         &mut self,
@@ -473,11 +473,11 @@ impl Running {
         Ok(is_over)
     }
 
-    // Ends a turn of the event loop, and returns the timestamp of the next turn.
+    // Ends a pass of the event loop, and returns the timestamp of the next pass.
     //
-    // The clocks are read first. If the next turn has a timer event, the function then feeds to the
-    // office the bytes that devices have sent, with the timestamp of the present turn. A response
-    // that arrived before its deadline therefore never counts as a timeout, even if the process was
+    // The clocks are read first. If the next pass has a timer event, the function then processes
+    // the bytes that devices have sent, with the timestamp of the present pass. A response that
+    // arrived before its deadline therefore never counts as a timeout, even if the process was
     // delayed.
     #[tactic(auto, using(crate::proofs::Going::goes_none))]
     fn end_turn<R: std::rt::Clock, B: Books, C: Clock>(
@@ -504,7 +504,7 @@ impl Running {
         moment
     }
 
-    // Performs turns of the event loop until the run's time is up.
+    // Performs passes of the event loop until the run's time is up.
     fn turns<R: Net + std::rt::Clock + Files, B: Books, C: Clock, W: Write, E: Write>(
         &mut self,
         rt: &R,
@@ -540,7 +540,7 @@ impl Running {
     }
 }
 
-// Returns the end of a run that begins when its own time is `now`.
+// Returns the end of a run that begins when its own clock shows `now`.
 fn end_of(settings: &Settings<'_>, now: u64) -> End {
     End {
         time: match settings.lasts {
@@ -551,8 +551,8 @@ fn end_of(settings: &Settings<'_>, now: u64) -> End {
     }
 }
 
-// Opens the HTTP port for an open office. Prints the timestamp of the store's latest record and the
-// number of its pending polls from before the run, and the port.
+// Opens the HTTP port of a run. Prints the timestamp of the store's latest record, the number of
+// polls from before the run whose end is not recorded, and the port.
 fn open<R: Net + Files, W: Write>(
     rt: &R,
     alloc: Global,
@@ -575,7 +575,7 @@ fn open<R: Net + Files, W: Write>(
     }
 }
 
-// Opens the HTTP port, and performs turns of the event loop from timestamp `moment` on, until the
+// Opens the HTTP port, and performs passes of the event loop from timestamp `moment` on, until the
 // run's time is up.
 fn run_from<R: Net + std::rt::Clock + Files, B: Books, C: Clock, W: Write, E: Write>(
     rt: &R,
@@ -620,12 +620,11 @@ fn run_from<R: Net + std::rt::Clock + Files, B: Books, C: Clock, W: Write, E: Wr
     )
 }
 
-/// Polls the devices of an open office and serves HTTP, until the run's time is up. First prints
-/// the timestamp of the store's latest record and the number of its pending polls from before the
-/// run.
+/// Polls the devices and serves HTTP, until the run's time is up. First prints the timestamp of the
+/// store's latest record, and the number of earlier polls whose end is not recorded.
 ///
-/// The first query of the web page is made once at the beginning. A store that caches lookups can
-/// later answer this query from its cache, so polling does not wait for the query.
+/// The function makes the first query of the web page once at the beginning. A store that caches
+/// results can later answer this query from its cache, so polling does not wait for the query.
 pub(crate) fn run_open<R: Net + std::rt::Clock + Files, B: Books, C: Clock, W: Write, E: Write>(
     rt: &R,
     alloc: Global,

@@ -8,8 +8,8 @@ use std::fmt::{Display, Formatter};
 /// The reason why a run ended early.
 #[derive(Clone, Copy, Debug, PartialEq, Eq)]
 pub enum RunFault {
-    /// The office was not opened. The refusal was printed, and the command ends with this exit
-    /// status.
+    /// The program could not start on its store. It printed the reason, and the command ends with
+    /// this exit status.
     Unopened(ExitStatus),
     /// The HTTP port cannot be opened.
     Port,
@@ -17,8 +17,8 @@ pub enum RunFault {
     Sockets,
     /// Writing to standard output failed.
     Output,
-    /// A file of the store was removed, replaced or cut short. Or the office stopped, because its
-    /// store failed or memory ran out while it processed an event of a device.
+    /// A file of the store was removed, replaced or cut short. Or the store failed or memory ran
+    /// out while the program processed an event of a device.
     Stopped,
     /// Memory ran out.
     Memory,

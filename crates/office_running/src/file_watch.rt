@@ -69,8 +69,8 @@ impl WatchedFile {
         })
     }
 
-    // Returns whether the file at the path was removed, replaced or cut short. Returns `None` if it
-    // was not, or if the system cannot check the path.
+    // Returns how the file at the path was lost: removed, replaced or cut short. Returns `None` if
+    // the file was not lost, or if the system cannot check the path.
     fn loss<R: Files>(&self, rt: &R) -> Option<FileLoss> {
         match mark_at(rt, self.path.as_str()) {
             Ok(found) => file_loss(self.mark, found),
@@ -78,8 +78,8 @@ impl WatchedFile {
         }
     }
 
-    // Returns how the file at the path was lost, as `loss` does. If the file is not lost, records
-    // its present size. If it is shorter at a later check, it counts as cut short.
+    // Returns how the file at the path was lost: removed, replaced or cut short. If the file is not
+    // lost, records its present size. A smaller size at a later check counts as cut short.
     fn look<R: Files>(&mut self, rt: &R) -> Option<FileLoss> {
         let found = match mark_at(rt, self.path.as_str()) {
             Ok(found) => found,
@@ -127,14 +127,14 @@ impl FileWatch {
         }
     }
 
-    /// Returns whether any file is lost.
+    /// Returns whether the database file or its log is missing at its path.
     pub(crate) fn is_lost<R: Files>(&self, rt: &R) -> bool {
         self.files.iter().any(|file| file.loss(rt).is_some())
     }
 }
 
-/// The HTTP port's view of the system: its clocks, and whether the store's files existed at the
-/// last check.
+/// What the HTTP server can ask of the system: the time of its clocks, and whether the store's
+/// files existed at the last check.
 #[derive(Drop)]
 pub(crate) struct Watching<'r, R: std::rt::Clock> {
     rt: &'r R,

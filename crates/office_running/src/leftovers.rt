@@ -1,5 +1,6 @@
-//! What earlier runs left in a store: the latest record, and polls without an outcome. A run reads
-//! them before it opens the office, because opening records each pending poll as lost.
+//! Reads what earlier runs left in a store: the time of the latest record, and polls without an
+//! outcome. A run reads them first, because the program records each such poll as lost when it
+//! starts.
 ghost use Rattle.std.specs.Prelude.{◌≡◌, false, nat_lt, IfSome};
 ghost use Rattle.office_core.specs.Leaving.{BooksStand};
 ghost use Rattle.office_books.specs.History.{History};
@@ -11,7 +12,8 @@ use mb_wire::sockets::Clock;
 use office_books::Books;
 use std::io::Write;
 
-/// The timestamp of a store's latest record, and the number of the store's pending polls.
+/// The timestamp of a store's latest record, and the number of polls in the store without an
+/// outcome.
 #[derive(Clone, Copy)]
 pub(crate) struct Left {
     /// The timestamp of the latest record, in seconds since 1970-01-01 UTC.
@@ -20,8 +22,8 @@ pub(crate) struct Left {
     pub(crate) waiting: usize,
 }
 
-/// Returns the timestamp of a store's latest record and the number of its pending polls; `None` if
-/// the store fails.
+/// Returns the timestamp of a store's latest record and the number of its polls without an outcome;
+/// `None` if the store fails.
 pub(crate) fn left_in<B: Books>(books: &mut B) -> Option<Left>
     ensures stands { (past : History) → BooksStand (B.ledger books.old) past
         → BooksStand (B.ledger books.new) past }
@@ -41,8 +43,8 @@ pub(crate) fn left_in<B: Books>(books: &mut B) -> Option<Left>
     }
 }
 
-/// Prints the line `books to TIME lost COUNT`. It has the timestamp of the latest record and the
-/// number of polls that opening the office records as lost. Prints nothing for `None`.
+/// Prints the line `books to TIME lost COUNT`. TIME is the timestamp of the latest record. COUNT is
+/// the number of polls that the program records as lost when it starts. Prints nothing for `None`.
 pub(crate) fn print_left<W: Write>(left: Option<Left>, output: &mut W) -> Result<(), RunFault> {
     let Some(left) = left else {
         return Ok(());
@@ -54,8 +56,8 @@ pub(crate) fn print_left<W: Write>(left: Option<Left>, output: &mut W) -> Result
     }
 }
 
-/// Reports on `errors` that an office cannot be opened, if its latest record is later than the
-/// clock. The report has both times, and says what to do.
+/// Reports on `errors` that the program cannot start on a store, if the store's latest record is
+/// later than the clock. The report has both times, and says what to do.
 ///
 /// Returns whether the latest record is later than the clock.
 pub fn say_ahead<E: Write>(latest: u64, now: u64, errors: &mut E) -> bool
@@ -72,8 +74,8 @@ pub fn say_ahead<E: Write>(latest: u64, now: u64, errors: &mut E) -> bool
     is_ahead
 }
 
-/// Reports that an office was not opened because its latest record is later than the clock. Reports
-/// nothing if the office was not opened for another reason.
+/// Reports that the program did not start on a store whose latest record is later than the clock.
+/// Reports nothing if the program did not start for another reason.
 pub(crate) fn say_unopened<C: Clock, E: Write>(left: Option<Left>, clock: &mut C, errors: &mut E) {
     let Some(left) = left else {
         return;

@@ -1,5 +1,5 @@
-//! Polls devices on a schedule and serves HTTP on a port, in one thread, for one open office
-//! (`sunreg run`).
+//! Polls devices on a schedule and serves HTTP on a port, in one thread and with one store (`sunreg
+//! run`).
 #![tactic(auto)]
 
 mod clocks;

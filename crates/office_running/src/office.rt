@@ -1,4 +1,4 @@
-//! Runs an office over a store: polls devices on a schedule and serves HTTP.
+//! Polls devices on a schedule and serves HTTP, and records what happens in a store.
 ghost use Rattle.office_http.specs.Messages.Hosts.{texts};
 ghost use Rattle.office_core.specs.Leaving.{BooksStand};
 ghost use Rattle.office_books.specs.History.{History};
@@ -25,8 +25,8 @@ pub struct Ran<B> {
     pub end: Result<(), RunFault>,
 }
 
-/// Opens an office over a store, polls its devices on a schedule, and serves HTTP on a port. The
-/// run ends after its duration or at its end time, whichever is first.
+/// Opens a store, polls its devices on a schedule, and serves HTTP on a port. The run ends after
+/// its duration or at its end time, whichever is first.
 ///
 /// Prints the timestamp of the latest record and the number of lost polls, and `listening PORT`
 /// when the port is open. Then prints a line for each event. If a slow reader lets the queue of

@@ -13,7 +13,7 @@ use std::time::Duration;
 /// ready for output accepts this number of bytes without blocking.
 const PIECE: usize = 512;
 
-/// The maximum number of writes to an output in one turn of the event loop. So a long queue does
+/// The maximum number of writes to an output in one pass of the event loop. So a long queue does
 /// not delay the devices.
 const MOST_PIECES: u32 = 128;
 

@@ -4,8 +4,7 @@ use office_events::Name;
 use std::net::SocketAddr;
 use std::os::fd::RawFd;
 
-/// A device to poll: its name in the office, and its address. The name is `None` if it is not
-/// valid.
+/// A device to poll: its name in the store, and its address. The name is `None` if it is not valid.
 #[derive(Clone, Copy)]
 pub struct Site {
     pub name: Option<Name>,
@@ -41,12 +40,13 @@ pub struct Settings<'n> {
     /// Commands beyond the limit get status 503. With `None` there is no limit.
     pub kept: u64,
     pub most_kept: Option<u64>,
-    /// For each accounting register, its data in the office's earlier files. Energy is reported
-    /// over these files and the open file together.
+    /// For each accounting register, its data in the store's earlier database files. Energy is
+    /// reported over these files and the open file together.
     pub earlier: &'n [EarlierRegister],
     /// The paths of the files that the store has open. The run watches these files until it ends.
     pub files: &'n [&'n str],
-    /// Whether the run also prints a line for each poll, each accepted reading and each connection.
+    /// Whether the run also prints a line for each poll, each accepted reading, and each connection
+    /// to a device.
     pub verbose: bool,
     /// The file descriptors of standard output and standard error, so that a write never waits for
     /// a reader; `None` if a write never waits anyway.

@@ -1,5 +1,5 @@
 //! Reports the events of a run of `sunreg run` as lines on standard output and messages on standard
-//! error. It remembers the printed messages, to print each message once.
+//! error. It remembers which messages it has printed, so it does not repeat them.
 use crate::descriptors::FewClients;
 use crate::leftovers::Left;
 use office_events::{Answer, Event, Name, Note, Observer, Refusal};
@@ -14,7 +14,7 @@ use script_text::write_note;
 use std::alloc::{AllocError, Global};
 use std::{io, mem};
 
-/// The state of a device after its last polling round.
+/// The state of a device after its last polling round (one poll for each of its Modbus reads).
 #[derive(Clone, Copy, PartialEq, Eq)]
 pub(crate) enum Standing {
     Unknown,
@@ -26,14 +26,14 @@ pub(crate) enum Standing {
     Unreachable,
 }
 
-/// The observer of an office's events. It collects the figures of the HTTP page `/status`, the
+/// The recorder of the program's events. It collects the figures of the HTTP page `/status`, the
 /// lines for standard output, and the messages for standard error.
 ///
 /// If memory runs out, a line or a message is omitted or cut off.
 #[derive(Drop)]
 pub(crate) struct Voice {
     pub(crate) monitor: RunMonitor,
-    /// Whether the run must end early, because the office refuses everything until a restart, or
+    /// Whether the run must end early, because the program refuses everything until a restart, or
     /// because an open file of the store is lost.
     pub(crate) stopped: bool,
     /// What the devices lacked when the run began, such as a point list.
@@ -48,7 +48,8 @@ pub(crate) struct Voice {
     is_full: bool,
 }
 
-// Returns the state of a device after a polling round, by the outcomes of the round's polls.
+// Returns the state of a device after a polling round (one poll for each of its Modbus reads), by
+// the outcomes of the round's polls.
 fn standing_by(sum: Sum) -> Standing {
     if sum.answered > 0 {
         Standing::Answers
@@ -70,8 +71,8 @@ fn word_of(standing: Standing) -> &'static [u8] {
     }
 }
 
-// Returns the part of a message that says how an open file of the store was lost. It follows the
-// file's path.
+// Returns the part of a message that says how an open file of the store was lost. In the message,
+// it follows the file's path.
 fn how_lost(loss: FileLoss) -> &'static [u8] {
     match loss {
         FileLoss::Missing => b"removed or renamed while in use",
@@ -148,8 +149,8 @@ impl Voice {
         }
     }
 
-    // Returns the name of the device in a slot; `None` if there is no slot, or if the device's name
-    // is not valid.
+    // Returns the name of the device with this index; `None` if there is no such device, or if the
+    // device's name is not valid.
     fn name(&self, place: Option<usize>) -> Option<Name> {
         let place = place?;
         if place < self.names.len() {
@@ -168,8 +169,8 @@ impl Voice {
         mem::replace(&mut self.said, Vec::new(self.alloc))
     }
 
-    /// Prints the timestamp of the latest record before the run, the number of polls that opening
-    /// the office recorded as lost, and the HTTP port.
+    /// Prints the timestamp of the latest record before the run, the number of polls that the
+    /// program recorded as lost at its start, and the HTTP port.
     pub(crate) fn report_opened(&mut self, left: Option<Left>, port: u16) {
         if let Some(left) = left {
             let _done = write_number(&mut self.lines, b"books to ", left.latest);
@@ -310,7 +311,7 @@ impl Voice {
     }
 }
 
-// Returns what a refusal of this event is about: the device's connection, or its polling round.
+// Returns the topic of a refusal of this event: the device's connection, or its polling round.
 fn topic_of(event: &Event) -> Topic {
     match event {
         Event::Connected(_) => Topic::Connection,
@@ -319,8 +320,8 @@ fn topic_of(event: &Event) -> Topic {
 }
 
 impl Voice {
-    // Reports why the office refused an event of a device, unless the previous report on this topic
-    // and device gave the same reason.
+    // Reports why the program refused an event of a device, unless the previous report on this
+    // topic and device gave the same reason.
     fn say_refusal(&mut self, device: &Option<Name>, event: &Event, why: Refusal) {
         let is_new = self.reported.report_once(ReportedNumber {
             topic: topic_of(event),
@@ -370,7 +371,7 @@ impl Voice {
         }
     }
 
-    // Reports on standard error why the office refused a device event, and why it rejected
+    // Reports on standard error why the program refused a device event, and why it rejected
     // readings.
     fn say(
         &mut self,

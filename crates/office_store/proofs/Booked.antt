@@ -15,7 +15,8 @@ use Rattle.office_store.specs.Intervals.StepShares.{raised, with_share, with_sha
 use Rattle.office_store.specs.Rows.{interval_of}
 use Rattle.office_store.proofs.Passing.{map_agree, any_agree, filter_edited, filter_spared, any_filter, any_permutation, any_map}
 
--- ---- adding a quarter hour's energy to the quarter hours that follow from a meter's entries
+-- Lemmas on adding a quarter hour's energy to the list of quarter hours that is computed from a
+-- meter's entries.
 
 abbrev pub has_start : ℕ → Share → Bool
 has_start start row = row.start == start
@@ -91,13 +92,13 @@ apart_with share rows h =
       | inr none ↦ subst AreApart (sym (stands_after share rows none)) (apart_after share rows h none)
     ]
 
--- ---- adding a quarter hour's energy to a meter's rows of the table `intervals`
+-- Lemmas on adding a quarter hour's energy to a meter's rows of the table `intervals`.
 
 pub itself : (meter : List ℕ) → bytes_eq meter meter ≡ true
 itself meter = (bytes_eq-Decides meter meter).1 refl
 
--- True if a meter's rows of `intervals` have the quarter hours and the energy that follow from its
--- journal, its entries in order.
+-- True if a meter's rows of `intervals` have exactly the quarter hours and the energy that are
+-- computed from the meter's entries.
 abbrev pub AreRowsOf : (meter : List ℕ) → List Interval → List Share → Type 0
 AreRowsOf meter rows shares = IsPermutation (filter (is_of meter) rows) (map (interval_of meter) shares)
 
@@ -116,8 +117,8 @@ any_there meter start rows shares are =
     ∙ any_map (is_at meter start) (interval_of meter) shares
     ∙ any_agree (λ share. is_at meter start (interval_of meter share)) (has_start start) (at_start meter start) shares
 
--- If a meter's rows of `intervals` agree with its journal (its entries in order), they still agree
--- after corresponding edits of both.
+-- If a meter's rows of `intervals` agree with the meter's entries, they still agree after
+-- corresponding edits of the rows and of the entries.
 edited : (meter : List ℕ) (f : Interval → Interval) (h : Share → Share) (rows : List Interval) (shares : List Share)
     → ((i : Interval) → (f i).meter ≡ i.meter) → ((share : Share) → f (interval_of meter share) ≡ interval_of meter (h share))
     → AreRowsOf meter rows shares → AreRowsOf meter (map f rows) (map h shares)
@@ -178,7 +179,7 @@ booked meter [] rows shares apart are = are
 booked meter (share ∷ adds) rows shares apart are =
     booked meter adds (with_share meter share rows) (journal.with_share share shares) (apart_with share shares apart) (booked_one meter share rows shares apart are)
 
--- ---- adding energy to one meter leaves the rows of `intervals` for all other meters unchanged
+-- Adding energy to one meter leaves the rows of `intervals` for all other meters unchanged.
 
 not_other : (a b : Bool) → (a ≡ true → b ≡ true → ⊥) → a ≡ true → b ≡ false
 not_other a true h e = absurd (h e refl)

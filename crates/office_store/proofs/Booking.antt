@@ -17,8 +17,8 @@ use Rattle.office_store.specs.Laws.Laws.{DatabasesTellTheirFacts}
 use Rattle.office_store.specs.Answers.{answer_of}
 use Rattle.office_store.specs.Stored.{IsStored, ledger_of}
 
--- If a connection's database encodes two lists of records with two time zones, it also encodes the
--- first list with the second time zone.
+-- If a connection's database encodes two lists of records, it encodes the first list also with the
+-- time zone of the second list.
 pub known_in : {S : Type 0} → DatabasesTellTheirFacts → (g : Ghosts S) (zone other : List ℕ) (h : Held S) (facts others : List Fact)
     → HoldsFacts g zone h facts → HoldsFacts g other h others → HoldsFacts g other h facts
 unfolding HoldsFacts

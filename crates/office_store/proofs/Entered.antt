@@ -61,7 +61,8 @@ module _ (f : Fact) (facts : List Fact) (meter : List ℕ) (same_found : (m : Li
     own_name : o.meter ≡ meter
     own_name = named facts meter o there
 
-    -- ---- after a new meter entry, the rows of `entries` encode the old entries and the new one
+    -- After a meter entry is stored, the rows of `entries` encode the old entries and the new
+    -- entry.
     pub entry_added : (row : journal.EntryRow) (new : Entered) (content after : Content) → rows_of (f ∷ facts) o ≡ row ∷ rows_of facts o
         → entered_rows o (row ∷ rows_of facts o) ≡ new ∷ entered_rows o (rows_of facts o) → new.meter ≡ meter
         → Edits entries entry_columns (with_row new) content after → AreEntries facts content → AreEntries (f ∷ facts) after
@@ -88,7 +89,7 @@ module _ (f : Fact) (facts : List Fact) (meter : List ℕ) (same_found : (m : Li
             (subst (λ l. IsPermutation l (new ∷ entries_of facts meter)) (sym (cond-true _ _ _ (ap (λ t. bytes_eq t meter) of ∙ same_itself meter)))
             (IsPermutation-cons new _ _ (a.each meter))))
 
-    -- ---- after a new meter entry, the rows of `intervals` also have the energy up to this entry
+    -- After a meter entry is stored, the rows of `intervals` also have the energy up to this entry.
     module _ (kept : MetersAreKept) (ranges : InstallationsAreInRange) where
       pub energy_added : (shares : List Share) (content after : Content) → AreLawful facts → AreLawful (f ∷ facts)
           → rows_of_opening (f ∷ facts) o ≡ with_each shares (rows_of_opening facts o)
@@ -121,7 +122,7 @@ module _ (f : Fact) (facts : List Fact) (meter : List ℕ) (same_found : (m : Li
                 (subst (λ l. IsPermutation l (map (interval_of m) (rows_of_meter facts m))) (sym (others_booked meter m shares a.rows off)) (a.each m))
           ]
 
-    -- ---- after a new meter entry, only the meter's own row of `installations` is changed
+    -- After a meter entry is stored, only this meter's row of `installations` is changed.
     module _ (change : Installed → Installed) (changed : (place : ℕ) → installed_row (f ∷ facts) place o ≡ change (installed_row facts place o)) where
       one_changed : (x : Opening) → opening_of facts x.meter ≡ Some x → (place : ℕ)
           → installed_row (f ∷ facts) place x ≡ cond (is_meter meter (installed_row facts place x)) (change (installed_row facts place x)) (installed_row facts place x)

@@ -36,7 +36,7 @@ use Rattle.office_store.proofs.Placed.{greatest}
 use Rattle.office_store.proofs.Recorded.{stay, points_stay, entries_stay, intervals_stay}
 use Rattle.office_store.proofs.Entered.{entry_added, energy_added, installations_changed}
 
--- ---- the index for a meter's next entry is one more than the number of its entries
+-- The index of a meter's next entry is one more than the number of its entries.
 
 few_entered : (o : Opening) (rows : List journal.EntryRow) (n : ℕ) → AreNumbered rows → length rows + 1 ≤ n
     → AllByRecursion (λ e. entry_place e ≤ n) (entered_rows o rows)
@@ -55,8 +55,6 @@ entries_count o (row ∷ rows) passes all last numbered are h =
     let following = greatest entry_place passes all (entered o.meter (entry_row (scale_after o (row ∷ rows)) row)) (entered_rows o rows) last are
     (few_entered o rows row.place numbered.1 (omega (arith, place))) h in
     omega (arith, following, place)
-
--- ---- the tables encode the records after a meter entry was recorded
 
 -- If the row of a meter entry, its energy and the meter's new state are written, the tables encode
 -- the records with the entry.

@@ -101,7 +101,7 @@ reported_less a b x y P Q reports one = record {
   survives = one.survives;
 }
 
--- If no call is made, the states that a crash can leave stay the same.
+-- If a transaction makes no call, a crash can leave only the states that it could leave before.
 still_there : (a : State) → Survives a a (λ _. ⊥)
 still_there a = record { clean = omega arith; shield = λ is. is; counts = omega arith; limit = refl; closes = λ clean is. inl is; crash = λ clean db left. inl left }
 
@@ -127,7 +127,7 @@ module _ {S : Type 0} (g : Ghosts S) (old : Held S) (mid end : State) (Makes : C
   kept_begun : (new : State) → KeepsCommit (state g (record old { in_transaction = true })) new → KeepsCommit (state g old) new
   kept_begun new k = record { was_open = k.was_open; committed = k.committed }
 
-  -- If all calls before COMMIT succeeded, the result of the transaction is the result of COMMIT.
+  -- If all calls before COMMIT succeed, the result of the transaction is the result of COMMIT.
   pub committed : {D : Type 0} (r : Result (Unit {0}) Error) → Goes {X = Unit {0}} {E = D} (state g (record old { in_transaction = true })) mid (Ok tt) Makes
       → (HasCleanDisk end → OnOk r (IsTrue mid.in_transaction × Shows mid end mid.now mid.now false × KeepsCounts mid end × (end.marks ≡ []))) → (HasCleanDisk end → IfErr r (FailsToCommit mid end))
       → Survives mid end (λ db. db ≡ mid.now.trees) → Commits (state g old) end r Makes

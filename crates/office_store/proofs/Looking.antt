@@ -41,7 +41,7 @@ keeps g old new n m zone looks = record {
   };
 }
 
--- If a query runs on the store, nothing in the store changes except its count of failures.
+-- If a query runs on the store, nothing in the store changes except the store's count of failures.
 pub reads : {S T : Type 0} (g : Ghosts S) (old new : Held S) (n m : Failures) (zone : Zone) (answer : Result T BooksFault)
     → m ≡ faults_after answer n → ((text : List ℕ) → OnlyLooks g text old new)
     → OnlyReads (ledger_of g old n zone) (ledger_of g new m zone) answer
@@ -79,8 +79,8 @@ reported_on : (Q : Type 0) (found : Result (Unit {0}) RowFault) → OnOk found Q
 reported_on Q (Ok x) q = q
 reported_on Q (Err e) q = tt
 
--- If a query on the store's tables streams rows to a sink, the store's stream passes the same rows
--- to the sink.
+-- If a query on the store's tables passes its rows to the caller's visitor, the store's function
+-- passes the same rows.
 pub hands_on : {S K T : Type 0} {IsRow : T → Type 0} {AreSound : List Fact → Type 0} (g : Ghosts S) (old new : Held S) (n m : Failures) (zone : Zone) (takes : K → T → K → Type 0) (before after : K)
     (rows : List Fact → List T) (found : Result (Unit {0}) RowFault) (answer : Result (Unit {0}) BooksFault) → answer ≡ answer_of found
     → metering.HandsOn g old new takes before after found IsRow rows AreSound

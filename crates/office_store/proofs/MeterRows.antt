@@ -1,4 +1,5 @@
--- Proofs about the rows that the query for the meters at an accounting register returns.
+-- Proofs about the rows that the query for the meters at an accounting register (a named energy
+-- counter) returns.
 use Rattle.std.proofs.Common.{◌≡◌, ℕ, bytes_eq, List, [], ◌∷◌, codes, false, refl}
 use Rattle.sqlite.specs.declared.types.Value.TheVariants.{Text}
 use Rattle.sqlite.specs.Order.{Row}

@@ -15,7 +15,7 @@ use Rattle.office_store.specs.Holding.{HasFacts, HoldsFacts, LeavesFacts}
 use Rattle.office_store.specs.Laws.Files.{HasFactsIn, NewFilesHaveNone, OpenedFilesKeepTheirs}
 use Rattle.office_store.specs.Database.{HasFile, HoldsAlone, KeepsFile}
 
--- True if a crash leaves the last commit while the store is open.
+-- True if a crash while the database connection is open leaves the content of the last commit.
 abbrev pub Settles : {S : Type 0} → Ghosts S → Held S → Type 0
 Settles g h = (trees : Trees) → IsTrue (state g h).is_open → (state g h).may_leave trees → trees ≡ (state g h).committed.trees
 
@@ -31,7 +31,7 @@ alone g zone h facts settles shows = record {
       record { facts = facts; one = inl refl; db = (state g h).committed; has = it.1; same = settles trees it.0 may };
 }
 
--- ---- the records after a store was created
+-- A store that was just created has no records.
 
 pub holds_none : {S X E : Type 0} → NewFilesHaveNone → (g : Ghosts S) (zone : List ℕ) (old new : Held S) (x : X) → Settles g new → old.schema ≡ no_schema
     → TransactsTo {E = E} (state g old) (state g new) (Ok x) (Makes zone) → HoldsAlone g zone new []
@@ -41,11 +41,11 @@ holds_none none g zone old new x settles blank does =
     let is = it.2 blank in
     (it.1, record { content = is.0; tables = is.2; are = none zone is.0 is.1 }))
 
--- ---- the records after a store was opened
+-- Lemmas on the records of a store that was opened from a database file.
 
 module _ {S X E : Type 0} (theirs : OpenedFilesKeepTheirs) (g : Ghosts S) (zone : List ℕ) (old new : Held S)
     (first : HasCleanDisk (state g new) → HasCleanDisk (state g old)) where
-  -- The contract of opening a store, for a file of any version.
+  -- The contract of opening a store, for a database file of any version.
   abbrev pub Opens : Result X E → Type 0
   Opens result = HasCleanDisk (state g new) → (layout : Layout) (content : Content)
       → (IsTrue (state g old).is_open → IsFile layout zone (state g old).committed content) → OpensFile layout zone content (state g old) (state g new) result

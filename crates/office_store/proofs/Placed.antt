@@ -12,8 +12,8 @@ use Rattle.office_store.specs.Recording.{next_place}
 pub all_every : {X : Type 0} (xs : List X) → filter every xs ≡ xs
 all_every xs = filter_all every xs (all_of (λ x. every x ≡ true) (λ x. refl) xs)
 
--- If the row `first` has the greatest key of all passing rows, the next index is one more than the
--- key of `first`.
+-- If the row `first` has the greatest key of all passing rows, the next index is one more than this
+-- key.
 pub greatest : {Y : Type 0} (key : Y → ℕ) (passes : Y → Bool) (rows : List Y) (first : Y) (others : List Y) (last : Option ℕ)
     → IsPermutation (filter passes rows) (first ∷ others) → AllByRecursion (λ y. key y ≤ key first) others
     → IsLast passes (λ y n. n ≡ key y) key rows last → next_place last ≡ key first + 1

@@ -1,5 +1,5 @@
--- Proofs about the tables after a record that changes no meter: a device, an accounting register, a
--- poll, an outcome or a stored request.
+-- Proofs about the tables after a record that changes no meter: a device, an energy counter
+-- (accounting register), a poll, an outcome or a stored request.
 use Rattle.std.proofs.Common.{◌≡◌, ◌≢◌, ℕ, ◌+◌, List, [], ◌∷◌, map, filter, length, Option, Some, None, refl, sym, ap, subst, ◌∙◌, IsPermutation, arith}
 use Rattle.sqlite.specs.Order.{Row}
 use Rattle.office_events.specs.declared.facts.Device.{Device}
@@ -80,8 +80,8 @@ device_recorded device place content after following e zone facts a lawful = rec
   replies = stay poll_tree.replies reply_columns (map kept (replies_in facts)) content after (e.others 16 (λ is. omega (arith, is))) a.replies;
 }
 
--- If the row of a new accounting register gets the index after the last row of `registers`, the
--- tables encode the accounting register.
+-- If the row of a new accounting register (a named energy counter) gets the next index of
+-- `registers`, the tables encode the register.
 pub register_recorded : (register : Register) (place : ℕ) (content after : Content) → IsAfter list_tree.registers register_columns every register_place place content
     → Edits list_tree.registers register_columns (with_row (registered place register)) content after → Records (fact.Register register) content after
 register_recorded register place content after following e zone facts a lawful = record {

@@ -25,7 +25,8 @@ passing_have : {X : Type 0} (p : X → Bool) (Q : X → Type 0) (xs : List X) �
 passing_have p Q [] h = tt
 passing_have p Q (x ∷ xs) h = passing_step (p x) p Q x (filter p xs) refl h.0 (passing_have p Q xs h.1)
 
--- If all rows that pass a test have a property, the row that a look-up finds has the property.
+-- If all rows that pass a test have a property, the row that a query with this test finds has the
+-- property.
 pub found_has : {X A : Type 0} (passes : X → Bool) (IsSeen : X → A → Type 0) (Q : X → Type 0) (rows : List X) (a : A)
     → AllByRecursion (λ x. passes x ≡ true → Q x) rows → IsFound passes IsSeen rows (Some a) → (x : X) × IsSeen x a × Q x
 found_has passes IsSeen Q rows a all found =

@@ -1,4 +1,4 @@
--- Conversions from the results of table queries to results of the store.
+-- Conversions from the results of table queries to the results of the store's interface.
 use Rattle.std.specs.Prelude.{Result, Ok, Err}
 use Rattle.sqlite.specs.declared.error.ErrorCode.TheVariants.{OutOfMemory}
 use Rattle.sqlite.specs.declared.error.Error.TheVariants.{SqliteFailure}
@@ -8,14 +8,14 @@ use Rattle.office_books.specs.declared.faults.StoreFault.TheVariants.{Refused, D
 use Rattle.office_books.specs.declared.faults.BooksFault.{BooksFault}
 use Rattle.office_books.specs.declared.faults.BooksFault.TheVariants.{Store, Memory}
 
--- The fault of the store that reports a fault of the tables. A row out of its ranges is damage, out
--- of memory is `Memory`, and any other error is a refusal.
+-- The error of the store's interface for an error of the tables. A row out of its ranges is damage,
+-- out of memory is `Memory`, and any other error is a refusal.
 abbrev pub fault_of : RowFault → BooksFault
 fault_of row.Damaged = Store Damaged
 fault_of (row.Sql (SqliteFailure OutOfMemory)) = Memory
 fault_of (row.Sql _) = Store Refused
 
--- The result of the store for a result of the tables.
+-- The result of a function of the store's interface, from the result of a function of the tables.
 abbrev pub answer_of : {T : Type 0} → Result T RowFault → Result T BooksFault
 answer_of (Ok answer) = Ok answer
 answer_of (Err fault) = Err (fault_of fault)

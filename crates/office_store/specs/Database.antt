@@ -10,8 +10,8 @@ use Rattle.office_store.specs.Holding.{HoldsFacts, LeavesFacts, IsLeft}
 use Rattle.office_store.specs.Laws.Files.{HasFactsIn}
 
 module _ {S : Type 0} (g : Ghosts S) (zone : List ℕ) where
-  -- True if the file of a connection, of any version, encodes the records. The definition assumes
-  -- that reads of the database file return the written bytes.
+  -- True if the database file of a connection encodes the records, in any version of the file. The
+  -- definition assumes that reads of the file return the written bytes.
   abbrev pub HasFile : Held S → List Fact → Type 0
   HasFile h facts = HasCleanDisk (state g h)
       → (layout : Layout) × HasFactsIn layout zone facts (state g h).committed

@@ -1,4 +1,4 @@
--- How calls inside a transaction, and a complete transaction, change the tables.
+-- Defines how calls inside a transaction, and a complete transaction, change the tables.
 use Rattle.std.specs.Prelude.{◌≡◌, ℕ, List, Result, IsTrue, OnOk, OnErr}
 use Rattle.sqlite.specs.Tree.{Trees}
 use Rattle.sqlite.specs.Effect.{Database}
@@ -6,13 +6,13 @@ use Rattle.sqlite.specs.Order.{Row}
 use Rattle.sqlite.specs.State.{State, HasCleanDisk, KeepsCommit, Survives}
 use Rattle.store_tables.specs.Content.{Content, AreTables, HasRows}
 
--- True if a database has the store's tables, and `Makes`, the effect of a call, relates the old
--- content of the tables to their content.
+-- True if a database has the store's tables, and a call has the effect `Makes`: a relation between
+-- the old content of the tables and their content.
 abbrev pub HasMade : (Content → Content → Type 0) → Content → Database → Type 0
 HasMade Makes content db = (after : Content) × Makes content after × AreTables db after
 
--- The contract of a call inside a transaction. At Ok, `Makes` relates the old content of the tables
--- to the new content. The call commits nothing.
+-- The contract of a call inside a transaction. At Ok, the relation `Makes` holds between the old
+-- and the new content of the tables. The call commits nothing.
 pub record Goes {X E : Type 0} (old new : State) (result : Result X E)
     (Makes : Content → Content → Type 0) : Type 0 where
   pub kept : HasCleanDisk new → IsTrue old.in_transaction → (content : Content)
@@ -22,8 +22,8 @@ pub record Goes {X E : Type 0} (old new : State) (result : Result X E)
       → OnOk result (IsTrue new.in_transaction × HasMade Makes content new.now)
   pub survives : Survives old new (λ _. ⊥)
 
--- True if B-trees store a database that a transaction may leave: `Makes`, the effect of the
--- transaction, relates the old content of the tables to the new content.
+-- True if B-trees store a database that a transaction may leave: the relation `Makes` holds between
+-- the old content of the tables and their content.
 pub record AreMade (old : State) (Makes : Content → Content → Type 0) (trees : Trees) : Type 0 where
   pub db : Database
   pub made : (content : Content) → AreTables old.now content → HasMade Makes content db

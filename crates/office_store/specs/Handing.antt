@@ -17,7 +17,7 @@ use Rattle.store_tables.specs.Content.{Content, AreTables}
 use Rattle.store_tables.specs.Failing.{IsFault, StateAfterCall}
 use Rattle.store_tables.specs.Asking.{Asks}
 
--- True if every row that the caller's sink received has the property `IsRow`.
+-- True if every row that the caller's sink (a visitor of rows) received has the property `IsRow`.
 abbrev pub TookSome : {K T : Type 0} → (IsRow : T → Type 0) → (takes : K → T → K → Type 0)
     → (before after : K) → Type 0
 TookSome {K} {T} IsRow takes before after =
@@ -32,8 +32,8 @@ abbrev pub TookMost : {K T : Type 0} → (takes : K → T → K → Type 0) → 
 TookMost {K} {T} takes before after =
     (rows : List T) × (length rows ≡ most_rows) × TakesAll takes before rows after
 
--- Why a stream of rows ends early: an error of the store, a row with a value out of its range, or
--- `most_rows` rows.
+-- The reasons why a stream of rows ends early: an error of the store, a row with a value out of its
+-- range, or `most_rows` rows.
 abbrev pub IsStreamFault : {K T : Type 0} → (old new : State) → (takes : K → T → K → Type 0)
     → (before after : K) → (IsSound : Type 0) → RowFault → Type 0
 IsStreamFault old new takes before after IsSound e =
@@ -61,14 +61,14 @@ pub record HandsOn {S K T Tables : Type 0} (g : Ghosts S) (old new : Held S)
       → IfErr result
       (IsStreamFault (state g old) (state g new) takes before after (AreSound tables))
 
--- ---- streams of the result rows of a query, each converted by one reader
+-- Definitions on streams of the result rows of a query, each converted by one reader.
 
 -- True if the reader `reads` converts each row of a list to the value at the same index of another
 -- list.
 abbrev pub AreRead : {T : Type 0} → (reads : Row → Result T RowFault) → List Row → List T → Type 0
 AreRead reads = AllZip (λ row read. reads row ≡ Ok read)
 
--- True if a query was started and changed nothing, and its answer begins with the rows `given`.
+-- True if a query was started and changed nothing, and `given` has the first rows of its answer.
 abbrev pub IsAsked : {S : Type 0} → Ghosts S → (sql : List ℕ) → (params : Row)
     → (old asked : Held S) → (given : List Row) → Type 0
 IsAsked g sql params old asked given =
@@ -84,8 +84,8 @@ pub record HasStopped {S : Type 0} (g : Ghosts S) (sql : List ℕ) (params : Row
   pub counts : (state g asked).faults ≤ (state g new).faults
   pub fails : FailsToQuery sql params (state g asked) (state g new) e
 
--- Why reading the rows of a query ended: a call failed, `most_rows` rows were read, or a row can't
--- be read.
+-- The reasons why reading the rows of a query ended: a call failed, `most_rows` rows were read, or
+-- a row can't be read.
 abbrev pub IsReadFault : {S T : Type 0} → Ghosts S → (sql : List ℕ) → (params : Row)
     → (reads : Row → Result T RowFault) → (old new : Held S) → (given : List Row) → (read : List T)
     → RowFault → Type 0

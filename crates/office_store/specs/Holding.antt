@@ -18,7 +18,7 @@ pub record HasFacts (zone : List ℕ) (facts : List Fact) (db : Database) : Type
   pub tables : AreTables db content
   pub are : AreOf zone facts content
 
--- True if `facts` is one of the lists of records in `left`.
+-- True if the list of records `facts` is one of the lists in `left`.
 abbrev pub IsOneOf : List (List Fact) → List Fact → Type 0
 IsOneOf [] facts = ⊥
 IsOneOf (one ∷ left) facts = (facts ≡ one) ⊎ IsOneOf left facts
@@ -46,8 +46,8 @@ module _ {S : Type 0} (g : Ghosts S) (zone : List ℕ) where
   LeavesFacts h left = HasCleanDisk (state g h) → (trees : Trees) → (state g h).may_leave trees
       → IsLeft zone left trees
 
-  -- The contract of a query outside a transaction. The query commits nothing, and a later crash
-  -- leaves only what an earlier crash could leave.
+  -- The contract of a query outside a transaction. The query commits nothing, and a crash after it
+  -- leaves only what a crash before it could leave.
   pub record OnlyLooks (old new : Held S) : Type 0 where
     pub clean : HasCleanDisk (state g new) → HasCleanDisk (state g old)
     pub mode : old.in_transaction ≡ false → new.in_transaction ≡ false

@@ -17,8 +17,6 @@ use Rattle.store_tables.specs.Answer.{AreFound, FirstFirst}
 use Rattle.store_tables.specs.Polls.Trees.{holds}
 use Rattle.store_tables.specs.Polls.Rows.{Held, hold_columns, hold_place}
 
--- ---- reading one row of `holds`
-
 -- The cause of a rejected reading that a number in `holds` encodes, or None for any other number.
 abbrev pub cause_of : ℕ → Option Cause
 cause_of n =
@@ -45,7 +43,7 @@ sixteen_in (Real x) = None
 sixteen_in (Text t) = None
 sixteen_in (Blob b) = None
 
--- The greatest value of a 32-bit counter.
+-- The greatest value of a 32-bit energy counter.
 abbrev pub greatest_raw : ℕ
 greatest_raw = 4294967295
 
@@ -90,8 +88,6 @@ reading_in meter row =
     and_then (or_damaged (cause_of number)) (λ cause.
     Ok (record { meter = meter; poll = poll; at = at; raw = raw; sf = sf; cause = cause })))))))
 
--- ---- a meter's rows of `holds`, in order of index
-
 -- True if a list has exactly the rows of the table `holds`.
 abbrev pub HaveHolds : List Held → Content → Type 0
 HaveHolds = HasRows holds hold_columns
@@ -110,7 +106,7 @@ AreReadingsOf meter rows all =
 abbrev pub AreSoundHolds : List Held → Type 0
 AreSoundHolds = AllByRecursion HasSoundReading
 
--- ---- a meter's rows of `holds` with timestamps in a range
+-- Definitions on a meter's rows of `holds` (rejected readings) with timestamps in a range.
 
 -- True if the timestamp of a rejected reading is at least `from` and less than `till`.
 abbrev pub is_between : (from till : ℕ) → Held → Bool

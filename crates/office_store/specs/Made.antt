@@ -1,4 +1,5 @@
--- Definitions about the result of creating or opening a store, and about the returned connection.
+-- Definitions about the result of creating or opening a store, and about the database connection
+-- that is returned.
 use Rattle.std.specs.Prelude.{◌≡◌, ◌⊎◌, Result, Ok, Err}
 use Rattle.sqlite.specs.Store.{Ghosts}
 use Rattle.sqlite.specs.Held.{Held}
@@ -14,13 +15,13 @@ abbrev pub reported_by : {S : Type 0} {g : Ghosts S} → Result (SqlBooks S g) (
 reported_by (Ok books) = Ok books.zone
 reported_by (Err unopened) = Err unopened.fault
 
--- The connection of the store, or the connection that is returned with a fault.
+-- The database connection of the store, or the connection that is returned with an error.
 abbrev pub connection_in : {S : Type 0} {g : Ghosts S} → Result (SqlBooks S g) (Unopened S) → Held S
 connection_in (Ok books) = books.connection
 connection_in (Err unopened) = unopened.connection
 
--- True if the connection is returned unchanged after a fault `NotOurs` or `Zone`. The faults mean
--- that the database is not a store, or that its time zone is invalid.
+-- True if the database connection is returned unchanged after an error `NotOurs` (the database is
+-- not a store) or `Zone` (its time zone is invalid).
 abbrev pub HandsBackUntouched : {S : Type 0} → Held S → Unopened S → Type 0
 HandsBackUntouched connection unopened =
     (unopened.fault ≡ NotOurs) ⊎ (unopened.fault ≡ NoZone)

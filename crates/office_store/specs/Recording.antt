@@ -1,5 +1,5 @@
--- The tables of the store after one more record, such as a device, a meter entry or the outcome of
--- a poll.
+-- Definitions of the tables of the store after one more record, such as a device, a meter entry or
+-- the outcome of a poll.
 use Rattle.std.specs.Prelude.{◌≡◌, ℕ, ◌+◌, Bool, List, ◌∷◌, ◌++◌, reverse, Option, Some, None}
 use Rattle.sqlite.specs.Order.{Row}
 use Rattle.office_events.specs.declared.facts.Fact.{Fact}
@@ -8,14 +8,14 @@ use Rattle.store_tables.specs.Answer.{IsLast}
 use Rattle.store_tables.specs.Content.{Content, HasRows}
 use Rattle.office_store.specs.Tables.{AreOf}
 
--- The effect of storing the record `f`: if the old tables encode records that `f` may follow, the
--- new tables also encode `f`.
+-- The effect of storing the record `f`: if the old tables encode records after which the rules
+-- accept `f`, the new tables also encode `f`.
 abbrev pub Records : Fact → Content → Content → Type 0
 Records f content after = (zone : List ℕ) (facts : List Fact) → AreOf zone facts content
     → AreLawful (f ∷ facts) → AreOf zone (f ∷ facts) after
 
--- The effect of storing the records `fs`: if the old tables encode records that `fs` may follow,
--- the new tables also encode `fs`.
+-- The effect of storing the records `fs`: if the old tables encode records after which the rules
+-- accept `fs`, the new tables also encode `fs`.
 abbrev pub RecordsAll : List Fact → Content → Content → Type 0
 RecordsAll fs content after =
     (zone : List ℕ) (facts : List Fact) → AreOf zone facts content → AreLawful (reverse fs ++ facts)

@@ -1,4 +1,4 @@
--- The rows that encode each kind of record.
+-- Definitions of the table rows that encode each kind of record.
 use Rattle.std.specs.Prelude.{◌≡◌, ℕ, ℤ, ◌+◌, ◌≤◌, IsTrue, true, false, List, [], ◌∷◌, length, map, Vec, Option, Some, None}
 use Rattle.std.specs.List.{find}
 use Rattle.mb_wire.specs.declared.span.ReadFunction.{ReadFunction}
@@ -59,8 +59,6 @@ abbrev pub placed_on : {X Y : Type 0} → (row : ℕ → X → Y) → (before : 
 placed_on row before [] = []
 placed_on row before (x ∷ xs) = row (before + 1) x ∷ placed_on row (before + 1) xs
 
--- ---- rows that encode devices, their point lists and their accounting registers
-
 -- The row of `devices` that encodes a device.
 abbrev pub added : (place : ℕ) → Device → Added
 added place device = record {
@@ -77,7 +75,7 @@ abbrev pub point_row : (place : ℕ) → ReadFunction → (area address : ℕ) �
 point_row place function area address =
     record { place = place; function = function; area = area; address = address }
 
--- The row of `points` that encodes a point of a device's point list.
+-- The row of `points` that encodes a SunSpec point of a device's point list.
 abbrev pub listed : (device : List ℕ) → (place : ℕ) → ListedPoint → Listed
 listed device place point = record {
   device = device;
@@ -92,16 +90,17 @@ listed device place point = record {
   };
 }
 
--- True if `row` has the columns of a point at index `place` of a point list.
+-- True if `row` has the columns of a SunSpec point at index `place` of a point list.
 abbrev pub IsPlacedPoint : (place : ℕ) → ListedPoint → Point → Type 0
 IsPlacedPoint place point row = (device : List ℕ) → listed_at device row ≡ listed device place point
 
--- True if `rows` has the columns of all points of a complete point list, with indices from 1.
+-- True if `rows` has the columns of all SunSpec points of a complete point list, with indices from
+-- 1.
 abbrev pub ArePlacedPoints : {Z : Type 0} → List ListedPoint → Vec Point Z → Type 0
 ArePlacedPoints points rows =
     (device : List ℕ) → map (listed_at device) rows.items ≡ placed_on (listed device) 0 points
 
--- The points of a device's point list, in order. A device without a list has no points.
+-- The SunSpec points of a device's point list, in order. A device without a list has no points.
 abbrev pub points_put : Option DeviceList → List ListedPoint
 points_put None = []
 points_put (Some put) = put.list.points
@@ -110,7 +109,7 @@ points_put (Some put) = put.list.points
 abbrev pub points_of : List Fact → (device : List ℕ) → List ListedPoint
 points_of facts device = points_put (find (λ put. same put.device device) (lists_in facts))
 
--- The scale of an accounting register, as the table `registers` stores it.
+-- The scale of an accounting register (a named energy counter), as the table `registers` stores it.
 abbrev pub scale_as : ScaleSource → RegisterScale
 scale_as (source.Fixed sf) = scale.Fixed sf
 scale_as (source.Register address) = scale.At address
@@ -128,14 +127,12 @@ registered place register = record {
   };
 }
 
--- True if the row of an accounting register is in its ranges. Its index, address and scale must be
--- valid, and one read must cover its counter and its scale.
+-- True if the row of an accounting register (a named energy counter) is in its ranges. Its index,
+-- address and scale must be valid, and one read must cover its counter and its scale.
 abbrev pub GivesSoundRow : (place : ℕ) → Register → RegisterRow → Type 0
 GivesSoundRow place register row =
     IsPlace place → register.address ≤ LAST_COUNTER → IsSoundScale (scale_as register.scale)
     → fits_a_read register.address (scale_as register.scale) ≡ true → IsSoundRegister row
-
--- ---- rows that encode meters
 
 -- A meter's state at its installation: no energy, and not closed.
 abbrev pub begun : Opening → Installation
@@ -176,7 +173,8 @@ pub record IsSoundOpening (opening : Opening) : Type 0 where
 abbrev pub ranged : Opening → Ranged
 ranged opening = record { meter = opening.meter; range = opening.range }
 
--- ---- rows of `entries`: a meter's opening (its first entry, made at installation) has index 1
+-- Definitions of the rows of `entries`. A meter's opening (its first entry, made at installation)
+-- has index 1.
 
 -- The kind of an entry, as the table `entries` stores it.
 abbrev pub kind_as : journal_kind.EntryKind → EntryKind
@@ -186,18 +184,20 @@ kind_as from.Closing = kind.Closing
 kind_as from.Reset = kind.Reset
 kind_as from.Rescale = kind.Rescale
 
--- The counter's value at a meter entry. For a reset or a rescale, the value before the counter was
--- set.
+-- The counter's value at a meter entry. For a reset or a rescale (a change of the scale factor),
+-- the value before the counter was set.
 abbrev pub raw_of : Entry → ℕ
 raw_of (entry.Step at raw rolls) = raw
 raw_of (entry.Change at before after sf) = before
 
--- How often the counter rolled over before a meter entry. A reset and a rescale have no rollovers.
+-- The number of times that the counter rolled over since the previous meter entry. A reset and a
+-- rescale (a change of the scale factor) have no rollovers.
 abbrev pub rolls_of : Entry → ℕ
 rolls_of (entry.Step at raw rolls) = rolls
 rolls_of (entry.Change at before after sf) = 0
 
--- The value that a reset or a rescale set the counter to. 0 for any other meter entry.
+-- The value that a reset or a rescale (a change of the scale factor) set the counter to. 0 for any
+-- other meter entry.
 abbrev pub after_of : Entry → ℕ
 after_of (entry.Step at raw rolls) = 0
 after_of (entry.Change at before after sf) = after
@@ -228,21 +228,21 @@ opening_row opening =
       sf = opening.sf;
     }
 
--- The counter's value after a meter entry. After a reset or a rescale, the value that the counter
--- was set to.
+-- The counter's value after a meter entry. After a reset or a rescale (a change of the scale
+-- factor), the value that the counter was set to.
 abbrev pub raw_after : EntryKind → EntryRow → ℕ
 raw_after kind.Reset e = e.after
 raw_after kind.Rescale e = e.after
 raw_after _ e = e.raw
 
--- The timestamp, the value and the scale factor of a meter's counter after an entry.
+-- The state of a meter's counter after an entry: timestamp, value and scale factor.
 abbrev pub counter_after : EntryRow → Last
 counter_after e = record { at = e.moment; raw = raw_after e.kind e; sf = e.sf }
 
 abbrev pub entered : (meter : List ℕ) → EntryRow → Entered
 entered meter row = record { meter = meter; entry = row }
 
--- The scale factor of a meter's counter after its entries that are not voided.
+-- The scale factor of a meter's counter after its entries that are not voided (cancelled).
 abbrev pub scale_after : Opening → List journal.EntryRow → ℤ
 scale_after opening rows = (last_of (opened opening) (entries_in rows)).sf
 
@@ -254,8 +254,8 @@ entered_rows opening (row ∷ rows) =
     entered opening.meter (entry_row (scale_after opening (row ∷ rows)) row)
     ∷ entered_rows opening rows
 
--- The rows of `entries` for all entries of a meter, found by its opening (the record of its
--- installation). A meter without an opening has no rows.
+-- The rows of `entries` for a meter that is found by the record of its installation. A meter
+-- without this record has no rows.
 abbrev pub entries_at : List Fact → Option Opening → List Entered
 entries_at facts None = []
 entries_at facts (Some opening) = entered_rows opening (rows_of facts opening)
@@ -271,8 +271,6 @@ voided void = record { meter = void.meter; place = void.place; moment = void.at 
 -- The row of `intervals` that encodes a meter's energy in a quarter hour.
 abbrev pub interval_of : (meter : List ℕ) → Share → Interval
 interval_of meter share = record { meter = meter; share = share }
-
--- ---- rows that encode polls, outcomes, rejected readings and stored requests
 
 -- The row of `polls` that encodes a poll.
 abbrev pub started : Poll → Started
@@ -307,7 +305,7 @@ held_row place reading = record {
   };
 }
 
--- The row of `replies` that encodes a request with its response, stored to detect retries.
+-- The row of `replies` that encodes an accepted request, which is stored to detect retries.
 abbrev pub kept : Reply → Kept
 kept given = record {
   caller = given.caller;

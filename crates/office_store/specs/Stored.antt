@@ -1,4 +1,4 @@
--- The records of a store in a database.
+-- Defines the records of a store in a database.
 use Rattle.std.specs.Prelude.{ℕ, List, IsTrue}
 use Rattle.sqlite.specs.Store.{Ghosts}
 use Rattle.sqlite.specs.Held.{Held, state}
@@ -23,8 +23,8 @@ module _ {S : Type 0} (g : Ghosts S) where
     pub holds : HoldsFacts g zone h facts
     pub leaves : LeavesFacts g zone h left
 
-  -- The model of the store that the trait `Books` specifies. The model is clean while reads of the
-  -- database file return the written bytes, and open while the connection is open.
+  -- The abstract state of the store that the trait `Books` specifies. It is clean while reads of
+  -- the database file return the written bytes, and open while the connection is open.
   abbrev pub ledger_of : Held S → Failures → Zone → Ledger
   ledger_of h failures zone = record {
     holds = IsStored h;

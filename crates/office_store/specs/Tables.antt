@@ -31,7 +31,8 @@ meta_tree = 0
 abbrev pub meta_columns : (zone : List ℕ) → Row
 meta_columns zone = Int (pos 1) ∷ Null ∷ Int (pos 3) ∷ Text zone ∷ []
 
--- True if the rows of `points` encode each device's latest point list in the records, in order.
+-- True if the rows of `points` encode each device's latest list of SunSpec points in the records,
+-- in order.
 pub record ArePoints (facts : List Fact) (content : Content) : Type 0 where
   pub rows : List Listed
   pub there : HasRows list_tree.points point_columns rows content

@@ -1,4 +1,4 @@
-//! Queries for meters, entries, energy by quarter hours, and rejected readings.
+//! Queries for meters, their entries, their energy by quarter hours, and rejected readings.
 
 mod around;
 mod entries;

@@ -1,4 +1,4 @@
-//! Conversions from the points of a device's point list to rows of `points`.
+//! Conversions from the SunSpec points of a device's point list to rows of `points`.
 ghost use Rattle.std.specs.Prelude.{◌≡◌, ◌++◌, ◌∷◌, [], IfOk, All};
 ghost use Rattle.std.specs.Fmt.{signed_decimal};
 ghost use Rattle.std.specs.String.{string_bytes};
@@ -15,8 +15,8 @@ use std::str;
 use store_tables::{GREATEST_PLACE, Point, PointRow, RowFault};
 use sun_points::PointType;
 
-/// Returns the text that the table `points` stores for a SunSpec point type. If memory runs out,
-/// all functions of this file return an SQLite error.
+/// Returns the text that the table `points` stores for a SunSpec point type. Returns an SQLite
+/// error if memory runs out.
 fn kind(alloc: Global, kind: PointType) -> Result<String, Error>
     ensures { IfOk result (λ text. string_bytes text ≡ written.type_text kind) }
 {
@@ -37,7 +37,7 @@ fn copy(alloc: Global, text: &str) -> Result<String, Error>
     Ok(String::from_str(alloc, text)?)
 }
 
-/// Returns the text of a point's name. Reports a name that is not UTF-8 as `Damaged`.
+/// Returns the text of a SunSpec point's name. Reports a name that is not UTF-8 as `Damaged`.
 fn name(alloc: Global, name: &PointName) -> Result<String, RowFault>
     ensures { IfOk result (λ text. string_bytes text ≡ name.now) }
 {
@@ -47,7 +47,7 @@ fn name(alloc: Global, name: &PointName) -> Result<String, RowFault>
     }
 }
 
-/// Returns the text of a point's scale: empty, an exponent, or the name of another point.
+/// Returns the text of a SunSpec point's scale: empty, an exponent, or the name of another point.
 fn scale(alloc: Global, scale: &PointScale) -> Result<String, RowFault>
     ensures { IfOk result (λ text. string_bytes text ≡ written.scale_text scale.now) }
 {
@@ -70,7 +70,7 @@ fn numbers(place: u64, function: ReadFunction, area: u8, address: u16) -> PointR
     }
 }
 
-/// Converts a point at index `place` of its point list to the columns of `points`.
+/// Converts a SunSpec point at index `place` of its point list to the columns of `points`.
 fn point_at(alloc: Global, point: &ListedPoint, place: u64) -> Result<Point, RowFault>
     ensures listed { IfOk result (IsPlacedPoint place point.now) }
     ensures sound { IsPlace place → IfOk result (λ p. IsSoundPoint p.row) }
@@ -93,8 +93,8 @@ fn push(points: &mut Vec<Point>, point: Point) -> Result<(), Error>
     Ok(())
 }
 
-/// Converts the points of a device's point list to rows of `points`, with indices from 1. Reports a
-/// name that is not UTF-8 as `Damaged`.
+/// Converts the SunSpec points of a device's point list to rows of `points`, with indices from 1.
+/// Reports a name that is not UTF-8 as `Damaged`.
 pub fn points_at(alloc: Global, points: &[ListedPoint]) -> Result<Vec<Point>, RowFault>
     ensures listed { IfOk result (ArePlacedPoints points.now) }
     ensures sound { IfOk result (λ ps. All (λ p. IsSoundPoint p.row) ps.items) }

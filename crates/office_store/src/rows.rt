@@ -40,7 +40,8 @@ fn scale(source: ScaleSource) -> RegisterScale
     }
 }
 
-/// Returns the row of `registers` for an accounting register at index `place`.
+/// Returns the row of `registers` for an accounting register (a named energy counter) at index
+/// `place`.
 pub fn register_row(register: Register, place: u64) -> RegisterRow
     ensures row { result ≡ (rows.registered place register).row }
     ensures sound { rows.GivesSoundRow place register result }
@@ -66,8 +67,8 @@ pub fn last_row(last: Last, total: u64) -> LastRow
     }
 }
 
-/// Returns the state of a counter after a meter entry. A reset or a rescale leaves the value that
-/// the counter was set to.
+/// Returns the state of a counter after a meter entry. After a reset or a rescale (a change of the
+/// scale factor), the counter has the value that it was set to.
 pub fn counter_after(entry: &EntryRow) -> Last
     ensures { result ≡ rows.counter_after entry.now }
 {
@@ -97,8 +98,8 @@ fn kind(kind: EntryKind) -> store_tables::EntryKind
     }
 }
 
-/// Returns the row of `entries` for an entry at index `place`. `sf` is the scale factor after the
-/// entry.
+/// Returns the row of `entries` for a meter entry at index `place`. `sf` is the counter's scale
+/// factor after the entry.
 pub fn entry_row(of: EntryKind, entry: Entry, place: u64, sf: &i16) -> EntryRow
     ensures row { result ≡ rows.entry_row sf.now
         (record { place = place; kind = of; entry = entry; stands = true }) }

@@ -1,4 +1,5 @@
-//! Closes a store's connection, and states theorems about the store's files after a crash.
+//! Closes a store's database connection, and states theorems about the database files after a
+//! crash.
 
 mod connection_end;
 mod laws;

@@ -1,4 +1,4 @@
-//! Streams the rows of a query to a sink. Memory does not grow with the number of rows.
+//! Streams the rows of a query to the caller's sink. Memory does not grow with the number of rows.
 ghost use Rattle.sqlite.specs.Given.{IsPlain};
 ghost use Rattle.sqlite.specs.Listing.{understood};
 ghost use Rattle.sqlite.specs.Values.{bound};
@@ -11,14 +11,15 @@ use sqlite::types::ValueRef;
 use sqlite::{Alter, Connection, Error, Row};
 use store_tables::RowFault;
 
-/// A reader that converts the result rows of one query to values, for `hand_on`.
+/// A reader that converts the result rows of one query to values, which the function `hand_on`
+/// streams to the caller.
 pub(crate) trait RowReader<T> {
     ghost use Rattle.std.specs.Prelude.{◌≡◌, Result, IfOk, IfErr};
     ghost use Rattle.sqlite.specs.Order as order;
     ghost use Rattle.store_tables.specs.declared.faults.RowFault as faults;
     ghost use Rattle.store_tables.specs.declared.faults.RowFault.TheVariants.{Damaged};
 
-    /// The value or the fault that the reader returns for a result row.
+    /// The value or the error that the reader returns for a result row.
     ghost reads: { Self → order.Row → Result T faults.RowFault };
 
     /// A property of every value that the reader returns.

@@ -20,19 +20,20 @@ pub(crate) enum Booked {
     /// function, the Modbus address and the scale of its counter.
     Register(&'static [u8], &'static [u8], ReadFunction, u16, ScaleSource),
     /// The installation of the named meter at the accounting register `main` (a named counter) at
-    /// this time. The meter starts at 0, and one count is 1 Wh.
+    /// this time. The meter's counter starts at 0, and one count is 1 Wh.
     Opening(&'static [u8], u64),
-    /// An entry of a meter, by the meter's name, the kind of entry, its time, and the count.
+    /// A record of a meter's entry, by the meter's name, the kind of entry, its time, and the
+    /// count.
     Entry(&'static [u8], EntryKind, u64, u32),
     /// A void (cancellation) of a meter's entry, by the meter's name, the sequence number of the
     /// entry, and the time of the void.
     Void(&'static [u8], u64, u64),
-    /// The start of a poll of the device `inv`. The poll has this number.
+    /// A record of the start of a poll of the device `inv`. The poll has this number.
     Poll(u64),
-    /// The timeout of the poll with this number.
+    /// A record that the poll with this number timed out.
     Ended(u64),
-    /// A rejected reading, by the meter's name, the poll's number, the time, the count and the
-    /// cause of the rejection.
+    /// A record of a rejected reading, by the meter's name, the poll's number, the time, the count
+    /// and the cause of the rejection.
     Hold(&'static [u8], u64, u64, u32, Cause),
 }
 

@@ -16,7 +16,8 @@ const CALLS: u64 = 43;
 
 const UP_TO_FIRST: u64 = 41;
 
-// Returns true if the polls have the outcomes that are expected if call `number` of the link fails.
+// Returns true if the polls have the outcomes that are expected if the call with the number
+// `number` of the link fails.
 fn are_ends(polls: Ends, number: u64) -> bool {
     if number <= UP_TO_FIRST {
         polls == [LOST, LOST, None]

@@ -12,9 +12,11 @@ use std::str;
 enum Kind {
     /// A command or a query. If the store fails, the test sends the script line again.
     Asks,
-    /// A command in a request whose idempotency key has this number.
+    /// A command in a request whose idempotency key has this number. If the store fails, the test
+    /// sends the script line again.
     Requests(u64),
-    /// A device event. If the store fails during the event, these rows must exist after a restart.
+    /// A device event. If the store fails during the event, queries must print these rows after a
+    /// restart.
     Happens(&'static str),
 }
 
@@ -204,7 +206,7 @@ fn print_kind<B: Books>(
 }
 
 // Runs a script line. If a failure of the store stops the office (the core of `sunreg`), returns
-// the rows that must exist after a restart.
+// the rows that queries must print after a restart.
 fn play_line<B: Books>(
     rt: &impl Abort,
     alloc: Global,
@@ -226,8 +228,8 @@ fn play_line<B: Books>(
     None
 }
 
-// Restarts an office (the core of `sunreg`) that a failure has stopped. Asserts that it has these
-// rows and no pending poll. Returns the number of failures of the store.
+// Restarts an office (the core of `sunreg`) that a failure has stopped. Asserts that queries print
+// these rows, and that no poll is pending. Returns the number of failures of the store.
 fn open_again<B: Books>(rt: &impl Abort, alloc: Global, mut office: Office<B>, rows: &str) -> u64 {
     assert_stopped(rt, alloc, &mut office);
     let mut again = opened(rt, alloc, office.into_books(), 9000);
@@ -254,7 +256,8 @@ pub(crate) fn play<B: Books>(rt: &impl Abort, alloc: Global, books: B) -> u64 {
 }
 
 /// If one call of the store fails, a command can be repeated and then succeeds. A failure during a
-/// device event stops the office (the core of `sunreg`) until a restart, and earlier rows remain.
+/// device event stops the office (the core of `sunreg`) until a restart, and earlier records
+/// remain.
 #[test]
 fn each_call_of_the_books_may_fail(rt: HostRuntime) {
     for failing in 1..1000 {

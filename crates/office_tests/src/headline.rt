@@ -64,8 +64,8 @@ fn assert_answers(rt: &impl Abort, answers: &[Result<Answer, Refusal>]) {
     }
 }
 
-// The expected outcome of the poll that is pending at the end of the tested run: opening the store
-// again loses the poll.
+// The expected outcome of the poll that is pending at the end of the tested run. When the store is
+// opened again, this poll is lost.
 const LOST: EndedPoll = EndedPoll {
     poll: 2,
     at: 1902,

@@ -23,8 +23,8 @@ fn no_more_reads_are_made_than_bytes_fit(rt: HostRuntime) {
     assert!(rt; slow.calls == 4_194_305);
 }
 
-// The 2,000 answers, of 10 bytes each, are written in few calls. Each call except the last ends
-// with a complete line.
+// Printing 2,000 answers of 10 bytes each takes few calls of the writer. Each call except the last
+// ends with a complete line.
 #[test]
 fn whole_lines_are_given_out(rt: HostRuntime) {
     let text = repeated(&rt, rt.alloc(), 2000, "poll 1\n");

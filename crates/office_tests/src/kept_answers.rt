@@ -12,7 +12,7 @@ use office_events::ScaleSource;
 use std::alloc::Global;
 use std::process::Abort;
 
-// A point list with one read in its plan.
+// A point list (the points to poll) with one Modbus read in its plan.
 const SHORT: &[u8] = b"name,function,area,address,type,scale\na,3,0,0,acc32,\n";
 
 const HOLDING: ReadFunction = ReadFunction::HoldingRegisters;
@@ -134,8 +134,8 @@ static READS: [Step; 12] = [
 
 const REFUSED: BooksFault = BooksFault::Store(StoreFault::Refused);
 
-// Asserts that each test step has its expected result. If the store below the cache fails, the step
-// is repeated.
+// Asserts that each test step has its expected result. If the store to which the cache belongs
+// fails, the step is repeated.
 fn assert_steps<B: Books>(rt: &impl Abort, alloc: Global, books: &mut B, steps: &[Step]) {
     for (place, step) in steps.iter().enumerate() {
         match try_step(rt, alloc, books, *step) {

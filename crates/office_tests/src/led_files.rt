@@ -8,9 +8,9 @@ use run_schedule::{
 use std::alloc::Global;
 use std::process::Abort;
 
-// The names of the files in a folder, with the period of the file that `sunreg run` continues. The
-// first period is for monthly files, and the second for yearly files. The period is empty if no
-// file in the folder has a period.
+// The names of the files in a folder, with the period (a month or year) of the file that `sunreg
+// run` continues. The first period is for monthly files, and the second for yearly files. The
+// period is empty if no file in the folder has a period.
 static FOLDERS: [(&str, &str, &str); 8] = [
     ("office.db office.db-wal  .", "", ""),
     (
@@ -73,9 +73,9 @@ fn books_are_led_in_the_file_that_was_made_last(rt: HostRuntime) {
     assert_led(&rt, rt.alloc(), days, Period::Day, "2026-12-01");
 }
 
-// Test cases with the expected plan of `sunreg run` at time 1,000. Each case has the file's period,
-// the current period, and the timestamp of the file's last entry. The period is empty for a file
-// without a period.
+// Test cases with the expected plan of `sunreg run` at time 1,000. Each case has the database
+// file's period (a month or year), the current period, and the timestamp of the file's last entry.
+// The period is empty for a file without a period.
 static CASES: [(&str, &str, u64, Plan); 14] = [
     ("", "2026-11", 1000, Plan::Carry),
     ("", "2026-11", 1001, Plan::Wait),
@@ -102,8 +102,8 @@ fn plan_at(led: &str, current: &str, last_entry: u64) -> Plan {
     plan_of(led, current.as_bytes(), last_entry, 1000)
 }
 
-/// After the end of a file's period, `sunreg run` rolls the file over, unless the file's last entry
-/// is later than the clock.
+/// After the end of the month or year of a database file, `sunreg run` continues all meters in a
+/// new file. It waits if the file's last entry is later than the clock.
 #[test]
 fn files_of_periods_that_are_over_are_carried(rt: HostRuntime) {
     nothing_goes_back();

@@ -6,8 +6,8 @@ use office_events::{Answer, CommandKind, Event, Refusal, StoreCause};
 use std::alloc::Global;
 use std::process::Abort;
 
-// Script lines, each with the number of calls of the store before the answer, and the expected
-// refusal.
+// Script lines, each with the number of calls of the store before the line's event is refused, and
+// the expected refusal.
 static CASES: [(&str, u64, Refusal); 25] = [
     ("2000 device inv 1 5 1", 0, Refusal::Exists),
     ("1000 device two 1 5 1", 0, Refusal::ClockBack),
@@ -44,7 +44,7 @@ const REFUSED: Result<Answer, Refusal> = Err(Refusal::Store(StoreCause::Refused)
 // The script line of a manual reading that is accepted at time 2000.
 const KEPT: &str = "1900 manual main 5300 0";
 
-// Adds the devices and readings of the script `READ` to a store. Also adds a manual reading by a
+// Adds the devices and readings of the script `READ` to a store. Also adds a manual reading, as a
 // request with an idempotency key.
 fn book_read<B: Books>(rt: &impl Abort, alloc: Global, books: B) -> B {
     let mut office = office_after(rt, alloc, books, &READ);

@@ -36,7 +36,7 @@ const PRINTED: &str = "\
     ok\n\
     bad line 6\n";
 
-// Each case has the number of bytes that the writer accepts before it fails, and the exit status.
+// Test cases: the number of bytes that the writer accepts before it fails, and the exit status.
 // Each number is 0 or the end of a line, and the last is the length of the complete output.
 static ENDS: [(usize, ExitStatus); 9] = [
     (0, ExitStatus::Failed),

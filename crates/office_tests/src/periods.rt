@@ -12,8 +12,8 @@ const CENTRAL_EUROPE: &str = "CET-1CEST,M3.5.0,M10.5.0/3";
 /// begins twice.
 const TWICE: &str = "AAA0BBB,J100/0,J335/0:30";
 
-// A time zone, a period, a time in the period, and the expected time of the period's end, or 0 if
-// the period has no end.
+// Test cases: a time zone, a period, a time in the period, and the expected time of the period's
+// end. The last is 0 if the period has no end.
 type Case = (&'static str, Period, u64, u64);
 
 static ENDS: [Case; 21] = [
@@ -62,7 +62,7 @@ fn day(rt: &impl Abort, year: i16, month: i8, day: i8) -> Day {
     Day::new(year, month, day).ok().expect(rt, "a day")
 }
 
-// A year, a month, a day in the month, and the expected last day of the month.
+// Test cases: a year, a month, a day in the month, and the expected last day of the month.
 static LAST_DAYS: [(i16, i8, i8, i8); 6] = [
     (2026, 11, 27, 30),
     (2026, 12, 1, 31),
@@ -111,7 +111,8 @@ fn periods_have_the_names_of_rows(rt: HostRuntime) {
     assert!(rt; period_name(Period::Year, day).bytes() == b"2026".as_slice());
 }
 
-// The name of a store file, the text of a period, and the expected name of the period's store file.
+// Test cases: the name of a store file, the text of a period, and the expected name of the period's
+// store file.
 static NAMES: [(&str, &str, &str); 7] = [
     ("office.db", "2026-11", "office-2026-11.db"),
     ("office.db", "2026", "office-2026.db"),
@@ -181,7 +182,7 @@ fn other_files_are_of_no_month(rt: HostRuntime) {
     }
 }
 
-// Texts, each with whether it is the text of a period.
+// Test cases: texts, each with whether it is the text of a period (a year, a month or a day).
 static PERIODS: [(&str, bool); 17] = [
     ("2026", true),
     ("0000", true),

@@ -40,7 +40,7 @@ static RIGHT: [&str; 52] = [
      Report { db: \"o.db\", register: \"main\", form: FormWords { from: Some(\"2024-02-30\"), \
      till: Some(\"\"), period: Some(Year), unit: Some(KilowattHours), format: Some(Json), \
      statement: false } }",
-    // Units, periods and formats of a report that the cases above do not use.
+    // The units, periods and formats of a report that the test cases above do not use.
     "report|--db|o.db|--register|main|--by|day|--unit|mwh|--format|text\n\
      Report { db: \"o.db\", register: \"main\", form: FormWords { from: None, till: None, \
      period: Some(Day), unit: Some(MilliwattHours), format: Some(Text), statement: false } }",
@@ -127,7 +127,7 @@ static RIGHT: [&str; 52] = [
      Run { dbs: [\"2025.db\", \"o.db\"], listen: 8080, every: 60, devices: [Device { \
      name: \"inv\", host: \"192.0.2.7\", port: 502 }], lasts: None, carry: Some(Month), \
      earlier: None, host_names: [], most_kept: None, verbose: false }",
-    // Numbers at their limits.
+    // Command lines with numbers at their limits.
     "serve|--db|x|--connections|1|--port|1\n\
      Serve { db: \"x\", port: 1, connections: 1, host_names: [] }",
     "serve|--db|x|--connections|1|--port|65535\n\

@@ -123,8 +123,8 @@ static CASES: [Case; 11] = [
         SILENT,
         [WAS_SILENT, WAS_SILENT, None],
     ),
-    // The time is refused, so the pending poll is lost. The clock was set back, or shows a time
-    // after the latest supported one.
+    // The clock was set back, or shows a time after the latest supported one. The time is refused,
+    // so the pending poll is lost.
     (
         Does::IsSilent,
         &[1000, 1002, 1001],

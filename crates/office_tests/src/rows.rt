@@ -3,7 +3,7 @@
 use interval_core::{Day, DayTotal, Share};
 use script_text::{Line, write_day, write_end, write_interval};
 
-/// Each case has a day, the number of the day's quarter hours, and the day's energy in mWh.
+/// Test cases: a day, the number of the day's quarter hours, and the day's energy in mWh.
 static DAYS: [(i16, i8, i8, u32, u128); 2] = [(33, 12, 9, 1, 7), (-1, 1, 1, 1000, u128::MAX)];
 
 static WRITTEN: &str = "\
@@ -34,8 +34,8 @@ fn the_greatest_numbers_and_days_of_any_year_are_written(rt: HostRuntime) {
     assert!(rt; reported.as_slice() == WRITTEN.as_bytes());
 }
 
-// A `Line` that is built from texts and numbers has exactly their bytes, and a clone of the `Line`
-// has the same bytes.
+// A `Line` (a line of output) that is built from texts and numbers has exactly their bytes. A clone
+// of the `Line` has the same bytes.
 #[test]
 fn a_line_is_built_up(rt: HostRuntime) {
     let mut line = Line::new();

@@ -9,8 +9,8 @@ use office_core::{Run, run};
 use office_events::{Event, Refusal};
 use std::alloc::Global;
 
-/// Processes a list of events over a new store in memory. The contract shows that the promise in
-/// `Headline.antt` (exactly the accepted energy is recorded) needs no precondition.
+/// Processes a list of events over a new store in memory. The function's contract shows that the
+/// theorem in `Headline.antt` (exactly the accepted energy is recorded) needs no precondition.
 pub(crate) fn run_created(
     alloc: Global,
     zone: Zone,

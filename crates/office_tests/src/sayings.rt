@@ -18,8 +18,8 @@ fn held(name: &[u8], number: u8) -> ReportedNumber {
     }
 }
 
-/// A refusal is reported once for each device. After a different refusal, or after the report was
-/// forgotten, the refusal is reported again.
+/// A refusal is reported once for each device. It is reported again after a different refusal, or
+/// after its first report was deleted from the list of reports.
 #[test]
 fn a_number_is_reported_once_until_it_changes(rt: HostRuntime) {
     let mut reported = Reported::new(rt.alloc());

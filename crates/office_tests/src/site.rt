@@ -26,8 +26,8 @@ pub(crate) static LINES: [&str; 9] = [
 ];
 
 // Each accounting register (a named counter) with its device and its latest meter. The counter at
-// `solo` advanced from 7 to 9 at the scale factor 2, which is 200 Wh. The meter `m2` was just
-// installed.
+// the register `solo` advanced from 7 to 9 at the scale factor 2, which is 200 Wh. The meter `m2`
+// was just installed.
 const SITE: &str = "roof main meter m2 last 10 sf -1 at 1900 total 0 open
 roof export refused 1
 inv solo meter m3 last 9 sf 2 at 1900 total 200000 ended

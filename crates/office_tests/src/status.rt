@@ -1,4 +1,4 @@
-//! Tests the status and the metrics that `sunreg run` reports after a known history.
+//! Tests the status and the metrics that `sunreg run` reports after given events.
 use energy_core::{Cause, Last};
 use mb_wire::ReadFunction;
 use office_core::SiteRow;
@@ -12,8 +12,8 @@ fn outcome(outcome: Outcome) -> Note {
     Note::Outcome { poll: 1, outcome }
 }
 
-// The counts after a known history. Two polls were answered, and one poll ended with each other
-// outcome. One reading was accepted, and two were rejected.
+// The counts after the test's history of events. Two polls were answered, and one poll ended with
+// each other outcome. One reading was accepted, and two were rejected.
 fn counts() -> Counts {
     let mut counts = Counts::new();
     counts.note_all(&[
@@ -65,7 +65,7 @@ fn devices() -> [DeviceState; 2] {
 const STATUS: &str =
     "{\"devices\":[{\"name\":\"inv\",\"connected\":true,\"last_reading\":1700000000},{\"name\":\"roof-2\",\"connected\":false,\"last_reading\":null}],\"polls\":{\"answered\":2,\"exception\":1,\"silent\":1,\"malformed\":0,\"lost\":1},\"readings\":1,\"held\":{\"not_accumulated\":1,\"scale_changed\":0,\"not_later\":0,\"span_too_long\":0,\"gap_too_long\":0,\"too_fast\":0,\"total_full\":0,\"not_below_range\":1},\"refusals\":1,\"lacks\":[]}\n";
 
-/// The status after the known history has the expected JSON text.
+/// The status after the test's history of events has the expected JSON text.
 #[test]
 fn the_status_is_json(rt: HostRuntime) {
     let mut text = Vec::new(rt.alloc());
@@ -138,7 +138,7 @@ fn site_row(meter: &[u8], total: u64, ended: bool) -> Option<SiteRow> {
     })
 }
 
-// The accounting registers (named counters) of the known history: one without a meter, and three
+// The accounting registers (named counters) of the test's history: one without a meter, and three
 // with a meter. One of these meters is closed.
 fn site() -> Option<[SiteRow; 4]> {
     Some([
@@ -152,7 +152,7 @@ fn site() -> Option<[SiteRow; 4]> {
     ])
 }
 
-/// The metrics after the known history have the expected text, with open meters only.
+/// The metrics after the test's history of events have the expected text, with open meters only.
 #[test]
 fn the_metrics_are_in_text_format(rt: HostRuntime) {
     let mut text = Vec::new(rt.alloc());
@@ -189,8 +189,8 @@ fn no_meter(import: &Register) -> DeviceLack {
     lack(b"grid", Lack::NoMeter(*import))
 }
 
-// Returns one example of each thing that a device can lack in the store. Without that thing, its
-// energy is not recorded.
+// Returns one example of each part of a device's setup that the store can lack. Without such a
+// part, the device's energy is not recorded.
 fn lacks(import: &Register) -> [DeviceLack; 5] {
     [
         lack(b"none", Lack::NoDevice),
@@ -204,7 +204,8 @@ fn lacks(import: &Register) -> [DeviceLack; 5] {
 const LACKS: &str =
     "\"refusals\":0,\"lacks\":[{\"device\":\"none\",\"lack\":\"no_device\"},{\"device\":\"inv\",\"lack\":\"no_list\"},{\"device\":\"inv\",\"lack\":\"no_register\"},{\"device\":\"grid\",\"lack\":\"not_in_list\",\"register\":\"import\"},{\"device\":\"grid\",\"lack\":\"no_meter\",\"register\":\"import\"}]}\n";
 
-/// The status reports what is missing in the store for each device, such as its point list.
+/// The status reports which parts of each device's setup are missing in the store, such as its
+/// point list.
 #[test]
 fn what_devices_lack_is_in_the_status(rt: HostRuntime) {
     let mut text = Vec::new(rt.alloc());
@@ -222,7 +223,7 @@ sunreg: register import: missing from the point list of grid; add function 3, re
 sunreg: register import: no open meter; install one with POST /registers/import/install
 ";
 
-/// Each thing that can be missing in the store for a device, such as its point list, has its
+/// Each part of a device's setup that can be missing in the store, such as its point list, has its
 /// expected message.
 #[test]
 fn what_devices_lack_is_said(rt: HostRuntime) {

@@ -36,8 +36,8 @@ pub(crate) enum Step {
     /// The meter has an entry with this sequence number, and this energy before the entry in mWh.
     /// The last value is true if the entry is voided (cancelled).
     Entry(&'static [u8], u64, u64, bool),
-    /// A lookup with `entry_near` finds the entry with this sequence number. Before the entry, the
-    /// meter has this count. Its total energy, in mWh, comes last.
+    /// A lookup with `entry_near` finds the meter's entry with this sequence number. The meter has
+    /// this count before the entry. The last number is the meter's total energy, in mWh.
     EntryNear(&'static [u8], u64, u32, u64),
     NoEntry(&'static [u8], u64),
     /// The rejected readings of a meter in a time span have these times and causes.

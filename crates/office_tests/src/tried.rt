@@ -24,15 +24,15 @@ pub(crate) enum Trial {
     Pieces(usize),
     /// Polling rounds of devices that do not exist or that have no point list.
     NoDevice,
-    /// A polling round whose output writer accepts this number of bytes, and the expected outcomes
-    /// of its polls.
+    /// A polling round whose output writer accepts only this number of bytes, and the expected
+    /// outcomes of its polls.
     Narrow(usize, Ends),
     /// A polling round that ends only at the maximum number of reads from the link.
     Takes,
     /// Test steps over a store with a cache.
     Kept,
-    /// A Modbus read of accounting registers (named counters), by its index in a list of test
-    /// cases.
+    /// A query for the accounting registers (named counters) of a Modbus read, by the read's index
+    /// in a list of test cases.
     Read(usize),
     Site,
     Names,
@@ -41,8 +41,8 @@ pub(crate) enum Trial {
     Requests,
 }
 
-/// Runs a test over a store, and returns the number that the test's function returns, or 0 if it
-/// returns none.
+/// Runs a test over a store, and returns the number that the test's function returns, or 0 if the
+/// function returns nothing.
 fn try_over<B: Books>(rt: &impl Abort, alloc: Global, books: B, trial: Trial) -> u64 {
     match trial {
         Trial::Script => return failures::play(rt, alloc, books),

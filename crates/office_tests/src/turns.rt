@@ -108,7 +108,7 @@ fn stage(bench: &Bench<Seen>, place: usize) -> Option<Stage> {
     Some(round.stage)
 }
 
-/// A device that connected for the second time waits for responses, as in the fifth test case of
+/// A device that connected a second time waits for responses, as in the fifth of the test cases
 /// `TURNS`.
 #[test]
 fn a_device_that_came_again_waits(rt: HostRuntime) {

@@ -1,5 +1,5 @@
--- Proves that testing the elements of a mapped list equals mapping each element before its test.
--- The elements are rows of a point list, which are mapped to their fields.
+-- Proves that testing the mapped rows of a point list (CSV) gives the same result as mapping each
+-- row just before its test. A row is mapped to its fields.
 use Rattle.std.proofs.Common.{◌≡◌, Bool, List, [], ◌∷◌, map, refl}
 use Rattle.std.specs.List.{list_any}
 

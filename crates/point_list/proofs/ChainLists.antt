@@ -34,7 +34,8 @@ and-two : (a b : Bool) → (a && b) ≡ true → (a ≡ true) × (b ≡ true)
 and-two true b h = (refl, h)
 and-two false b h = absurd (cc h)
 
--- Lemmas about the names that the points of a SunSpec chain have in a point list, such as `m2.W`.
+-- Lemmas about the names that the points of a chain of SunSpec models have in a point list, such as
+-- `m2.W`.
 
 digit-of-name : (byte : ℕ) → is_ascii_digit byte ≡ true → is_name_byte byte ≡ true
 digit-of-name byte h = rw h refl
@@ -45,7 +46,7 @@ digits-of-name (d ∷ ds) h =
     let k = and-two (is_ascii_digit d) (list_all is_ascii_digit ds) h in
     rw (digit-of-name d k.0) (digits-of-name ds k.1)
 
--- The name of a chain's point in a point list is a valid name.
+-- In a point list, the name of a point from a chain of SunSpec models is a valid name.
 pub named : (place : ℕ) (name : List ℕ) → place ≤ 64 → is_short name ≡ true → is_name (chain_name place name) ≡ true
 named place name few short =
     let k = and-two (nat_le (length name) 20) (list_all is_name_byte name) short in
@@ -75,7 +76,7 @@ split-digits (c ∷ cs) (d ∷ ds) x y da db h =
     let rest = split-digits cs ds x y (and-two (is_ascii_digit c) (list_all is_ascii_digit cs) da).1 (and-two (is_ascii_digit d) (list_all is_ascii_digit ds) db).1 tail in
     ap (λ (n : ℕ). n ∷ cs) head ∙ ap (λ (l : List ℕ). d ∷ l) rest
 
--- Points of different models have different names in a point list.
+-- Points of different SunSpec models have different names in a point list.
 other-places : (p q : ℕ) (x y : List ℕ) → p < 2 ^ 64 → q < 2 ^ 64 → p ≢ q → chain_name p x ≢ chain_name q y
 other-places p q x y fp fq other same =
     let tail : decimal p ++ (46 ∷ x) ≡ decimal q ++ (46 ∷ y) = ap (λ (l : List ℕ). drop 1 l) same in
@@ -87,7 +88,7 @@ same-place place x y same =
     let names : 46 ∷ x ≡ 46 ∷ y = append_cancel_left (decimal place) (46 ∷ x) (46 ∷ y) tail in
     ap (λ (l : List ℕ). drop 1 l) names
 
--- Lemmas about lists of points from several models.
+-- Lemmas about lists of points from several SunSpec models.
 
 bytes-apart : (a b : List ℕ) → a ≢ b → bytes_eq a b ≡ false
 bytes-apart a b other = elim (cases_Bool (bytes_eq a b)) [ inl same ↦ absurd (other ((bytes_eq-Decides a b).0 same)) | inr apart ↦ apart ]
@@ -103,7 +104,8 @@ both-all p q (x ∷ xs) hp hq =
     let kq = and-two (q x) (list_all q xs) hq in
     rw (kp.0, kq.0) (both-all p q xs kp.1 kq.1)
 
--- The properties of a valid row of a model table. Each row describes one point of a SunSpec model.
+-- The properties of a valid row of a SunSpec model table. Each row describes one point of the
+-- model.
 record GoodRow (rows : List Row) (row : Row) : Type 0 where
   short : is_short row.name ≡ true
   some : 1 ≤ registers_of row.ty
@@ -117,8 +119,8 @@ good-row rows row h =
     let c = and-two (is_short row.name) (nat_le 1 (registers_of row.ty)) b.0 in
     record { short = c.0; some = grind (arith, c.1); ends = grind (arith, b.1); scaled = a.1 }
 
--- True if the name can be a row's scale point: it has at most 20 bytes, each table row with it is a
--- sunssf point, and the row's type may have a scale.
+-- True if a row of a SunSpec model table can have a scale point with this name. The name has at
+-- most 20 bytes, each row with this name is a sunssf point, and the row's type may have a scale.
 abbrev IsScaleName : Row → List Row → List ℕ → Type 0
 IsScaleName row rows name = (is_short name ≡ true) × (takes_scale row.ty ≡ true) × (list_all (λ other. not (bytes_eq other.name name) || is_sunssf other.ty) rows ≡ true)
 
@@ -144,7 +146,8 @@ among-right s xs ys a =
     let size = length-append xs ys in
     record { place = length xs + a.place; within = omega (arith, a.within, size); is = get_or-append-add xs ys a.place s ∙ a.is }
 
--- Searching a list with distinct names for a scale point's name finds that scale point.
+-- In a list of points with distinct names, searching for the name of a scale point (SunSpec scale
+-- factor) finds this point.
 find-scale : (s : ListedPoint) (points : List ListedPoint) (k : ℕ) → k < length points → get_or points k s ≡ s → AllPairs (λ a b. a.name ≢ b.name) points → is_sunssf s.kind ≡ true
     → scale_point points s.name ≡ Some s
 find-scale s [] k within is distinct sunssf = absurd (omega (arith, within))
@@ -198,7 +201,7 @@ sunssf-of name model q f same =
     let here : bytes_eq f.row.name name ≡ true = (bytes_eq-Decides f.row.name name).1 (sym f.name ∙ same) in
     ap is_sunssf f.kind ∙ (rw here at f.passes)
 
--- The scale point of a model's point is in the point list.
+-- The scale point (SunSpec scale factor) of a model's point is in the point list.
 scale-there : (all : List ListedPoint) → AllPairs (λ a b. a.name ≢ b.name) all → (word : Words) (place : ℕ) (model : Model)
     → ((s : ListedPoint) → Among s (model_points word place model) → Among s all)
     → (p : ModelPoint) → FromRow (is_good_row (table_of model.id)) model p → (name : List ℕ)
@@ -221,7 +224,7 @@ scale-there all distinct word place model sub p f name known good any =
     ap (λ (x : List ℕ). scale_point all (chain_name place x)) (sym same) ∙ find-scale s all a.place a.within a.is distinct (sunssf-of name model q n same) in
     rw found (group-of place model pts p q f g)
 
--- The scale of a model's point is valid in the point list.
+-- The scale of a SunSpec model's point is valid in the point list.
 model-scale : (all : List ListedPoint) → AllPairs (λ a b. a.name ≢ b.name) all → (word : Words) (place : ℕ) (model : Model)
     → ((s : ListedPoint) → Among s (model_points word place model) → Among s all)
     → (p : ModelPoint) (f : FromRow (is_good_row (table_of model.id)) model p) (name : Option (List ℕ)) → IfSome name (IsScaleName f.row (table_of model.id))
@@ -256,7 +259,7 @@ keeps-of all distinct word place model few inside sub good p f =
       scaled = model-scale all distinct word place model sub p f (scale_name_in (table_of model.id) p.name) scale good;
     }
 
--- The points of a model are valid elements of the point list.
+-- The points of a SunSpec model are valid elements of the point list.
 model-keeps : (all : List ListedPoint) → AllPairs (λ a b. a.name ≢ b.name) all → (word : Words) (place : ℕ) (model : Model) → place ≤ 64 → next_after model ≤ 65536
     → ((s : ListedPoint) → Among s (model_points word place model) → Among s all) → All (Keeps all) (model_points word place model)
 model-keeps all distinct word place model few inside sub =
@@ -275,7 +278,8 @@ points-keep all distinct word place (model ∷ models) few inside sub =
     (points-keep all distinct word (place + 1) models (omega (arith, few, size)) (λ k d below. inside (suc k) d (omega (arith, below)))
     (λ s a. sub s (among-right s (model_points word place model) (points_from word (place + 1) models) a)))
 
--- Lemmas about distinct names: the points of a chain have distinct names in the point list.
+-- Lemmas about distinct names: the points of a chain of SunSpec models have distinct names in the
+-- point list.
 
 pairs-map : (f : ModelPoint → ListedPoint) (points : List ModelPoint) → AllPairs (λ a b. (f a).name ≢ (f b).name) points → AllPairs (λ a b. a.name ≢ b.name) (map f points)
 pairs-map f [] pairs = λ i j d before below. absurd (omega (arith, below))
@@ -330,7 +334,7 @@ distinct-from word place (model ∷ models) few =
     let b = later j e within in
     other-places place b.at a.0 b.rest (omega (arith, small)) (omega (arith, b.high)) (omega (arith, b.low)) (sym a.1 ∙ same ∙ b.is))
 
--- The points of at most 64 models form a valid point list, if there are at most 512 points.
+-- The points of at most 64 SunSpec models form a valid point list, if there are at most 512 points.
 pub chain-list : (word : Words) (models : List Model) → length models ≤ 64 → All (λ model. next_after model ≤ 65536) models → length (points_from word 1 models) ≤ 512
     → IsPointList (points_from word 1 models)
 chain-list word models few inside size =
@@ -346,7 +350,8 @@ chain-list word models few inside size =
       scaled = λ k d below. (keep k d below).scaled;
     }
 
--- The points of a model and their scale points have valid names in the point list.
+-- The points of a SunSpec model and their scale points (scale factors) have valid names in the
+-- point list.
 pub listed-named : (word : Words) (place : ℕ) (model : Model) → place ≤ 64 → (points : List NamedPoint) → map seen points ≡ points_in word model
     → (i : ℕ) (x : NamedPoint) → i < length points → x ≡ get_or points i x
     → (is_name (chain_name place (seen x).name) ≡ true) × IfSome (scale_name_in (table_of model.id) (seen x).name) (λ name. is_name (chain_name place name) ≡ true)
@@ -379,8 +384,8 @@ next-from word place (first ∷ models) (suc i) model within is =
     ∙ ap (λ (more : List ListedPoint). model_points word place first ++ more)
     (ap (λ (k : ℕ). points_from word (place + 1) (take i models) ++ model_points word k model) same ∙ next-from word (place + 1) models i model (omega (arith, within)) is)
 
--- The point list of the first `i + 1` models is that of the first `i` models followed by the next
--- model's points.
+-- The point list of the first `i + 1` SunSpec models is that of the first `i` models followed by
+-- the next model's points.
 pub points-next : (word : Words) (models : List Model) (i : ℕ) (model : Model) → i < length models → model ≡ get_or models i model
     → points_from word 1 (take i models) ++ model_points word (i + 1) model ≡ points_from word 1 (take (i + 1) models)
 points-next word models i model within is =
@@ -396,7 +401,7 @@ map-twice : {X Y Z : Type 0} (f : Y → Z) (g : X → Y) (xs : List X) → map f
 map-twice f g [] = refl
 map-twice {Z = Z} f g (x ∷ xs) = ap (λ (more : List Z). f (g x) ∷ more) (map-twice f g xs)
 
--- The point list has an entry for each point of a model, in the same order.
+-- The point list has an entry for each point of a SunSpec model, in the same order.
 pub model-seen : (word : Words) (place : ℕ) (model : Model) (points : List NamedPoint) → map seen points ≡ points_in word model
     → map (λ point. listed place model.id (map seen points) (seen point)) points ≡ model_points word place model
 model-seen word place model points are =

@@ -1,4 +1,4 @@
--- Lemmas about the points of a model and their rows in the model tables.
+-- Lemmas about the points of a SunSpec model and their rows in the model tables.
 use Rattle.std.proofs.Common.{◌≡◌, ◌≢◌, ◌+◌, ◌≤◌, ◌∙◌, ℕ, zero, suc, Bool, true, false, List, [], ◌∷◌, Some, None, Option, filter_map, refl, arith}
 use Rattle.std.specs.Prelude.{◌&&◌, nat_le, not}
 use Rattle.std.specs.List.{All, AllPairs, list_all}
@@ -14,8 +14,8 @@ use Rattle.sun_chain.specs.Tables.{Row}
 use Rattle.sun_chain.specs.declared.model.Model.{Model}
 use Rattle.point_list.proofs.ChainTables.{have_other_names}
 
--- True if the point comes from a table row that passes a test, and has all of its registers in the
--- model.
+-- True if the point comes from a row of a SunSpec model table that passes a test, and has all of
+-- its registers in the model.
 pub record FromRow (test : Row → Bool) (model : Model) (point : ModelPoint) : Type 0 where
   pub row : Row
   pub passes : test row ≡ true
@@ -35,7 +35,7 @@ row-first : (a b : Bool) → (a && b) ≡ true → (a ≡ true) × (b ≡ true)
 row-first true b h = (refl, h)
 row-first false b h = absurd (cc h)
 
--- Each point listed from table rows comes from one of these rows.
+-- Each point that is listed from rows of a SunSpec model table comes from one of these rows.
 pub from-rows : (test : Row → Bool) (word : Words) (model : Model) (rows : List Row) → list_all test rows ≡ true → All (FromRow test model) (filter_map (point_in word model) rows)
 from-rows test word model [] h = λ k d below. absurd (omega (arith, below))
 from-rows test word model (row ∷ rows) h = by (value_in word model row) refl (from-rows test word model rows (row-first (test row) (list_all test rows) h).1)
@@ -55,7 +55,7 @@ pairs-cons R p ps first rest (suc i) (suc j) d before below = rest i j d (omega 
 not-same : (a b : List ℕ) → not (bytes_eq a b) ≡ true → a ≢ b
 not-same a b h same = let e = (bytes_eq-Decides a b).1 same in absurd (cc (rw e at h))
 
--- Table rows with distinct names give points with distinct names.
+-- Rows of a SunSpec model table with distinct names give points with distinct names.
 pub other-names : (word : Words) (model : Model) (rows : List Row) → have_other_names rows ≡ true → AllPairs (λ a b. a.name ≢ b.name) (filter_map (point_in word model) rows)
 other-names word model [] h = λ i j d before below. absurd (omega (arith, below))
 other-names word model (row ∷ rows) h = by (value_in word model row) refl (other-names word model rows parts.1) (from-rows (λ other. not (bytes_eq row.name other.name)) word model rows parts.0)

@@ -1,5 +1,5 @@
--- Properties of the SunSpec model tables, each row of which describes one point. The point list of
--- a chain of models is valid because its tables have them.
+-- Properties of the SunSpec model tables, each row of which describes one point. Because of these
+-- properties, the points of a chain of models form a valid point list.
 use Rattle.std.proofs.Common.{◌≡◌, ℕ, Bool, true, false, List, [], ◌∷◌, length, refl}
 use Rattle.std.specs.Prelude.{◌==◌, ◌&&◌, ◌||◌, nat_le, not, if◌then◌else◌}
 use Rattle.std.specs.List.{list_all}
@@ -11,12 +11,12 @@ use Rattle.sun_chain.specs.TableRules.{end_of_row}
 use Rattle.point_list.specs.Names.{is_name_byte}
 use Rattle.point_list.specs.Points.{is_sunssf, takes_scale}
 
--- True if the name has at most 20 bytes, all of them allowed in point names.
+-- True if the name of a SunSpec point has at most 20 bytes, all of them allowed in point names.
 abbrev pub is_short : List ℕ → Bool
 is_short name = nat_le (length name) 20 && list_all is_name_byte name
 
--- True if the name can be a row's scale point: it has at most 20 bytes, each table row with it is a
--- sunssf point, and the row's type may have a scale.
+-- True if a row of a SunSpec model table can have a scale point with this name. The name has at
+-- most 20 bytes, each row with this name is a sunssf point, and the row's type may have a scale.
 abbrev pub is_scaled_by : List Row → Row → List ℕ → Bool
 is_scaled_by rows row name = is_short name && takes_scale row.ty && list_all (λ other. not (bytes_eq other.name name) || is_sunssf other.ty) rows
 

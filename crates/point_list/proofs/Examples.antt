@@ -1,4 +1,5 @@
--- Checks the definitions at each limit: the last valid value and the first invalid value.
+-- Checks the definitions of valid point lists at each limit: the last valid value and the first
+-- invalid value.
 use Rattle.std.proofs.Common.{◌≡◌, ℕ, pos, negsuc, true, false, List, [], ◌∷◌, replicate, Some, None, refl}
 use Rattle.std.specs.Prelude.{codes}
 use Rattle.mb_wire.specs.declared.span.ReadFunction.TheVariants.{HoldingRegisters}
@@ -32,7 +33,7 @@ name_too_long = refl
 digit_first : is_name (codes "1A") ≡ false
 digit_first = refl
 
--- The limits of the numbers in the fields of a row.
+-- Examples of the limits of the numbers in the fields of a point list's row.
 
 last_address : number_within 0 65535 (codes "65535") ≡ Some 65535
 last_address = refl
@@ -76,7 +77,7 @@ function_3 = refl
 function_5 : function_of (codes "5") ≡ None
 function_5 = refl
 
--- A point and its scale point may span 125 registers, and not 126.
+-- A point and its scale point (SunSpec scale factor) may span 125 registers, and not 126.
 
 abbrev word_at : ℕ → ListedPoint
 word_at address = record {
@@ -94,7 +95,8 @@ widest_group = refl
 group_too_wide : is_one_group (word_at 0) (word_at 125) ≡ false
 group_too_wide = refl
 
--- A list may have 512 points. One more point is a fault on row 514, because the header is row 1.
+-- A point list may have 512 points. One more point is a fault on row 514, because the header is row
+-- 1.
 
 abbrev good_row : RowText
 good_row = record {

@@ -1,4 +1,4 @@
--- Proves that rows without faults encode the points of a point list.
+-- Proves that CSV rows without faults encode the points of a point list.
 use Rattle.std.proofs.Common.{◌≡◌, ◌≢◌, ◌+◌, ◌≤◌, ◌<◌, ◌∙◌, ℕ, zero, suc, Bool, true, false, List, [], ◌∷◌, ◌++◌, Some, None, Option, length, map, take, get_or, refl, sym, ap, arith, inl, inr, subst}
 use Rattle.std.specs.Prelude.{nat_le, ◌==◌, ◌&&◌, ◌⊎◌, IsSomeAnd, IfOk, IfErr, Ok, Err}
 use Rattle.std.specs.declared.result.Result.{Result}
@@ -37,7 +37,8 @@ one-none row (Some fault) h = absurd (cc h)
 last-or-below : (k n : ℕ) → k < suc n → (k ≡ n) ⊎ (k < n)
 last-or-below k n h = elim (cases_Bool (k == n)) [ inl same ↦ inl (grind (arith, same)) | inr other ↦ inr (grind (arith, other, h)) ]
 
--- If the list of faulty rows among the first `n` rows is empty, none of these rows has a fault.
+-- If the list of faulty rows among the first `n` rows of a point list (CSV) is empty, none of these
+-- rows has a fault.
 pub none-reported : (rows : List (List (List ℕ))) (n : ℕ) → faulty_rows 2 (row_faults rows n) ≡ [] → (k : ℕ) → k < n → row_fault rows k ≡ None
 none-reported rows zero h k below = absurd (omega (arith, below))
 none-reported rows (suc n) h k below =
@@ -55,7 +56,7 @@ none-lacking row f (p ∷ ps) h = by (f p) refl (λ rest. none-lacking (row + 1)
     by None e more = All-cons (λ point. f point ≡ None) p ps e (more (rw e at h))
     by (Some fault) e more = absurd (cc (rw e at h))
 
--- True if the row at this index has six fields without a fault.
+-- True if the row of a point list (CSV) at this index has six fields without a fault.
 pub record Faultless (rows : List (List (List ℕ))) (place : ℕ) : Type 0 where
   pub row : RowText
   pub six : six_fields (get_or rows place []) ≡ Some row
@@ -68,7 +69,7 @@ faultless rows place h = by (six_fields (get_or rows place [])) refl
     by None e = absurd (cc (rw e at h))
     by (Some row) e = record { row = row; six = e; lacking = sound (list_any (has_name row.name) (take place rows)) place row (rw e at h) }
 
--- If each row encodes a point, the list of points has these points in the order of the rows.
+-- If each CSV row encodes a point, the list of points has these points in the order of the rows.
 pub each-spelled : (rows : List (List (List ℕ))) → ((k : ℕ) → k < length rows → (p : ListedPoint) × (point_of_row (get_or rows k []) ≡ Some p)) → SpellEach rows (points_of rows)
 each-spelled [] known = refl
 each-spelled (row ∷ rows) known =
@@ -76,7 +77,7 @@ each-spelled (row ∷ rows) known =
     let rest = each-spelled rows (λ k below. known (suc k) (omega (arith, below))) in
     rw (first.1) (ap (λ (more : List (Option ListedPoint)). Some first.0 ∷ more) rest)
 
--- The properties of the point that the row at an index encodes.
+-- The properties of the point that the row of a point list (CSV) at an index encodes.
 pub record Known (rows : List (List (List ℕ))) (place : ℕ) (point : ListedPoint) : Type 0 where
   pub row : RowText
   pub six : six_fields (get_or rows place []) ≡ Some row
@@ -141,7 +142,7 @@ lawful-scale points point (Named name) suits h = (suits, found point (scale_poin
 bytes-same : (name : List ℕ) → bytes_eq name name ≡ true
 bytes-same name = (bytes_eq-Decides name name).1 refl
 
--- Two rows that encode points have different names.
+-- Two rows of a point list (CSV) that encode points have different names.
 apart : (rows : List (List (List ℕ))) (i j : ℕ) (a b : ListedPoint) → i < j → j < length rows → Known rows i a → Known rows j b → a.name ≢ b.name
 apart rows i j a b before within ka kb same =
     let name : ka.row.name ≡ kb.row.name = sym ka.spelled.name ∙ same ∙ kb.spelled.name in
@@ -151,7 +152,7 @@ apart rows i j a b before within ka kb same =
     list_any-from_Any (has_name kb.row.name) (take j rows) (i, get_or (take j rows) i [], omega (arith, size, before), get_or_default (take j rows) i (get_or (take j rows) i []) [] (omega (arith, size, before)), has) in
     absurd (cc (sym any ∙ kb.lacking.untaken))
 
--- The points of rows without faults form a valid point list.
+-- The points of CSV rows without faults form a valid point list.
 pub lawful : (rows : List (List (List ℕ))) (points : List ListedPoint) → ((k : ℕ) → k < length rows → row_fault rows k ≡ None) → SpellEach rows points
     → All (λ point. scale_fault points point point.scale ≡ None) points → IsPointList points
 lawful rows points none each scaled =
@@ -168,12 +169,12 @@ lawful rows points none each scaled =
           lawful-scale points (get_or points k d) (get_or points k d).scale (known rows points none each k d below).spelled.suits (scaled k d below);
     }
 
--- If no row below the header is reported as faulty, no row has a fault.
+-- If no row below the header of a point list (CSV) is reported as faulty, no row has a fault.
 pub none-below : (rows : List (List (List ℕ))) (n : ℕ) (reported : List FaultyRow) → length rows ≡ n → reported ≡ faulty_rows 2 (row_faults rows n) → reported ≡ []
     → (k : ℕ) → k < length rows → row_fault rows k ≡ None
 none-below rows n reported size is none k below = none-reported rows n (sym is ∙ none) k (omega (arith, below, size))
 
--- Each row without a fault encodes a point.
+-- Each row of a point list (CSV) without a fault encodes a point.
 pub faultless-each : (rows : List (List (List ℕ))) → ((k : ℕ) → k < length rows → row_fault rows k ≡ None) → SpellEach rows (points_of rows)
 faultless-each rows none = each-spelled rows (λ k below.
     let f = faultless rows k (none k below) in
@@ -189,14 +190,14 @@ faultless-lawful rows none scaled =
     lawful rows (points_of rows) none (faultless-each rows none)
     (none-lacking 2 (λ point. scale_fault (points_of rows) point point.scale) (points_of rows) scaled)
 
--- If no row has another fault, the faulty rows are those with a faulty scale.
+-- If no row of a point list (CSV) has another fault, the faulty rows are those with a faulty scale.
 pub below-faults : (rows : List (List (List ℕ))) (n : ℕ) (reported : List FaultyRow) → length rows ≡ n → reported ≡ faulty_rows 2 (row_faults rows n) → reported ≡ []
     → faults_below rows ≡ faulty_rows 2 (scale_faults (points_of rows) (points_of rows))
 below-faults rows n reported size is none =
     let nothing : faulty_rows 2 (row_faults rows (length rows)) ≡ [] = ap (λ (k : ℕ). faulty_rows 2 (row_faults rows k)) size ∙ sym is ∙ none in
     ap (λ (faults : List FaultyRow). or_else faults (faulty_rows 2 (scale_faults (points_of rows) (points_of rows)))) nothing
 
--- A list built from the points of rows is the list that the rows encode.
+-- A list that was built from the points of CSV rows is the point list that the rows encode.
 pub below-list : (rows : List (List (List ℕ))) (n : ℕ) (reported : List FaultyRow) (points : List ListedPoint) (result : Result (List ListedPoint) ListFault) → length rows ≡ n
     → reported ≡ faulty_rows 2 (row_faults rows n) → reported ≡ [] → points ≡ points_of rows
     → IfOk result (λ list. (list ≡ points) × (faulty_rows 2 (scale_faults points points) ≡ [])) → IfErr result (ExplainsList (faulty_rows 2 (scale_faults points points)))

@@ -1,4 +1,4 @@
--- Lemmas about collecting faulty rows, one row at a time.
+-- Lemmas about collecting the faulty rows of a point list (CSV), one row at a time.
 use Rattle.std.proofs.Common.{◌≡◌, ◌+◌, ◌<◌, ◌∙◌, ℕ, zero, suc, List, [], ◌∷◌, ◌++◌, Some, None, Option, length, map, take, get_or, refl, sym, ap, arith, length-append, add-one}
 use Rattle.std.proofs.lemmas.List.{length-map, length-take-le, map-append, take_more}
 use Rattle.point_list.specs.declared.fault.FaultyRow.{FaultyRow}
@@ -6,7 +6,8 @@ use Rattle.point_list.specs.declared.fault.RowFault.{RowFault}
 use Rattle.point_list.specs.declared.point.ListedPoint.{ListedPoint}
 use Rattle.point_list.specs.Lists.{faulty_rows, row_fault, row_faults, scale_fault, scale_faults}
 
--- Adding one row adds a faulty row exactly if the new row has a fault.
+-- If one more row of a point list (CSV) is checked, the list of faulty rows grows exactly if this
+-- row has a fault.
 pub faulty-push : (row : ℕ) (faults : List (Option RowFault)) (fault : Option RowFault)
     → faulty_rows row (faults ++ (fault ∷ [])) ≡ faulty_rows row faults ++ faulty_rows (row + length faults) (fault ∷ [])
 faulty-push row [] fault = let same : row ≡ row + 0 = omega arith in ap (λ (r : ℕ). faulty_rows r (fault ∷ [])) same
@@ -25,7 +26,8 @@ length-row_faults rows (suc n) =
     let both = length-append (row_faults rows n) (row_fault rows n ∷ []) in
     omega (arith, before, both)
 
--- The faulty rows among `n + 1` rows are those among `n` rows, and the next row if it has a fault.
+-- The faulty rows among `n + 1` rows of a point list (CSV) are those among the first `n` rows, and
+-- the last row if it has a fault.
 pub row-more : (rows : List (List (List ℕ))) (n : ℕ)
     → faulty_rows 2 (row_faults rows (n + 1)) ≡ faulty_rows 2 (row_faults rows n) ++ faulty_rows (n + 2) (row_fault rows n ∷ [])
 row-more rows n =
@@ -33,8 +35,8 @@ row-more rows n =
     ap (λ (k : ℕ). faulty_rows 2 (row_faults rows k)) (add-one n) ∙ faulty-push 2 (row_faults rows n) (row_fault rows n)
     ∙ ap (λ (r : ℕ). faulty_rows 2 (row_faults rows n) ++ faulty_rows r (row_fault rows n ∷ [])) size
 
--- The faulty rows among `n + 1` points are those among `n` points, and the next point's row if its
--- scale has a fault.
+-- The faulty rows among `n + 1` points are those among the first `n` points, and the last point's
+-- row if its scale has a fault.
 pub scale-more : (points : List ListedPoint) (n : ℕ) (x : ListedPoint) → n < length points → x ≡ get_or points n x
     → faulty_rows 2 (scale_faults points (take (n + 1) points))
     ≡ faulty_rows 2 (scale_faults points (take n points)) ++ faulty_rows (n + 2) (scale_fault points x x.scale ∷ [])

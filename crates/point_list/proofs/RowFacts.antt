@@ -1,4 +1,4 @@
--- Proves that the rows that the CSV reader returns are the first records of the text.
+-- Proves that the rows that the CSV reader returns are the first records of a text.
 use Rattle.std.specs.Prelude.{◌==◌, Bool, true, false, zero, suc}
 use Rattle.std.proofs.Common.{◌≡◌, ◌≤◌, ◌<◌, ◌+◌, ◌-◌, ◌∙◌, ℕ, List, [], ◌∷◌, ◌++◌, Some, None, length, take, refl, sym, ap, arith, inl, inr, zero-add}
 use Rattle.std.proofs.lemmas.Bool.{cases_Bool}
@@ -28,7 +28,7 @@ start_field-rests c h = elim (cases_Bool (c == 34)) [
   | inr n ↦ rw n (in_field-rests c (rw n at h))
 ]
 
--- A byte that is not part of a line end does not end a record.
+-- A byte that is not part of a line end does not end a CSV record.
 no-end : (c : ℕ) → ends_with term.CRLF c ≡ false → is_end (start_field default_config c).1 ≡ true → ⊥
 no-end c n h = elim (cases_Bool (c == 34)) [
   | inl q ↦ cc (rw q at h)
@@ -57,7 +57,7 @@ after_cr-ends c h = elim (cases_Bool (c == 10)) [
   ]
 ]
 
--- A byte that ends a record leaves the CSV reader between records.
+-- A byte that ends a CSV record leaves the reader between records.
 step-rests : (s : State) (c : ℕ) → is_end (step default_config s c).1 ≡ true → ends_at_end (step default_config s c).0 ≡ false
 step-rests st.StartRecord c h = absurd (start_record-ends c h)
 step-rests st.StartField c h = start_field-rests c h
@@ -68,7 +68,7 @@ step-rests st.AfterQuote c h = elim (cases_Bool (c == 34)) [ inl e ↦ cc (rw e 
 step-rests st.InComment c h = elim (cases_Bool (c == 10)) [ inl e ↦ cc (rw e at h) | inr n ↦ cc (rw n at h) ]
 step-rests st.AfterCr c h = absurd (after_cr-ends c h)
 
--- Reading a record consumes at least one byte, and leaves the CSV reader between records.
+-- Reading a CSV record consumes at least one byte, and leaves the reader between records.
 pub next-shrinks : (s : State) (fields : List (List ℕ)) (field xs : List ℕ) (p : Read) → next_record default_config s fields field xs ≡ Some p
     → (length p.2 ≤ length xs) × (ends_at_end p.1 ≡ false) × (ends_at_end s ≡ false → length p.2 < length xs)
 unfolding next_record
@@ -97,7 +97,7 @@ reached-records s s2 xs ys (r ∷ rs) k h =
     let e : length (r ∷ rs) + k ≡ suc (length rs + k) = omega arith in
     ap (λ (n : ℕ). records_from default_config n s xs) e ∙ rw (h.1, h.2) (ap (λ (t : List (List (List ℕ))). h.0.0 ∷ t) (reached-records h.0.1 s2 h.0.2 ys rs k h.3))
 
--- Each record that was read consumed at least one byte.
+-- Each CSV record that was read consumed at least one byte.
 pub reached-shrinks : (s s2 : State) (xs ys : List ℕ) (rows : List (List (List ℕ))) → ends_at_end s ≡ false → Reached default_config s xs rows s2 ys
     → length ys + length rows ≤ length xs
 unfolding Reached
@@ -113,7 +113,7 @@ unfolding records_from
 none-left zero s ys h = refl
 none-left (suc k) s ys h = rw h refl
 
--- The rows read until now are the first records of the text.
+-- The CSV rows that were read until now are the first records of the text.
 pub rows-begin : (s2 : State) (xs ys : List ℕ) (rows : List (List (List ℕ))) → Reached default_config st.StartRecord xs rows s2 ys
     → (more : List (List (List ℕ))) × (records default_config xs ≡ rows ++ more) × (next_record default_config s2 [] [] ys ≡ None → more ≡ [])
 rows-begin s2 xs ys rows h =
@@ -122,14 +122,15 @@ rows-begin s2 xs ys rows h =
     let e : length xs + 1 ≡ length rows + k = omega (arith, less) in
     (records_from default_config k s2 ys, ap (λ (n : ℕ). records_from default_config n st.StartRecord xs) e ∙ reached-records st.StartRecord s2 xs ys rows k h, none-left k s2 ys)
 
--- If `n` rows were read, they are the first `n` records of the text.
+-- If `n` CSV rows were read, they are the first `n` records of the text.
 pub rows-full : (n : ℕ) (s2 : State) (xs ys : List ℕ) (rows : List (List (List ℕ))) → Reached default_config st.StartRecord xs rows s2 ys → length rows ≡ n
     → rows ≡ take n (records default_config xs)
 rows-full n s2 xs ys rows h e =
     let b = rows-begin s2 xs ys rows h in
     rw (b.1, ← e) (sym (take-append-le (length rows) rows b.0 (omega arith) ∙ take_all (length rows) rows (omega arith)))
 
--- If at most `n` rows were read and no record follows, they are the first `n` records of the text.
+-- If at most `n` CSV rows were read and no record follows, the rows are the first `n` records of
+-- the text.
 pub rows-all : (n : ℕ) (s2 : State) (xs ys : List ℕ) (rows : List (List (List ℕ))) → Reached default_config st.StartRecord xs rows s2 ys → length rows ≤ n
     → next_record default_config s2 [] [] ys ≡ None → rows ≡ take n (records default_config xs)
 rows-all n s2 xs ys rows h e stop =

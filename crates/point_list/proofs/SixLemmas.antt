@@ -1,10 +1,10 @@
--- Lemmas about reading the six fields of a row one by one.
+-- Lemmas about reading the six fields of a point list's row one by one.
 use Rattle.std.proofs.Common.{◌≡◌, ◌<◌, ℕ, zero, suc, List, [], ◌∷◌, Some, None, length, refl, arith}
 use Rattle.std.proofs.lemmas.Option.{same_Some}
 use Rattle.csv.specs.Records.{field_at}
 use Rattle.point_list.specs.Faults.{six_fields}
 
--- A field exists at each index below the number of fields.
+-- A row has a field at each index below its number of fields.
 pub field-there : (fields : List (List ℕ)) (i : ℕ) → i < length fields → field_at fields i ≡ None → ⊥
 unfolding field_at
 field-there [] i within e = omega (arith, within)
@@ -25,7 +25,7 @@ six-of-fields (x0 ∷ x1 ∷ x2 ∷ x3 ∷ x4 ∷ x5 ∷ []) a b c d e f size ha
     rw (same_Some _ _ ha, same_Some _ _ hb, same_Some _ _ hc, same_Some _ _ hd, same_Some _ _ he, same_Some _ _ hf) refl
 six-of-fields (x0 ∷ x1 ∷ x2 ∷ x3 ∷ x4 ∷ x5 ∷ x6 ∷ xs) a b c d e f size ha hb hc hd he hf = absurd (omega (arith, size))
 
--- If the number of fields of a row is not six, `six_fields` returns `None`.
+-- If a row of a point list does not have six fields, `six_fields` returns `None`.
 pub not-six : (fields : List (List ℕ)) → (length fields ≡ 6 → ⊥) → six_fields fields ≡ None
 not-six [] h = refl
 not-six (x0 ∷ []) h = refl

@@ -1,4 +1,4 @@
--- Proves that a row without faults encodes a point.
+-- Proves that a row of a point list (CSV) without faults encodes a point.
 use Rattle.std.proofs.Common.{◌≡◌, ◌≤◌, ℕ, zero, suc, ℤ, pos, negsuc, Bool, true, false, IsTrue, List, [], ◌∷◌, Some, None, Option, drop, refl, arith, inl, inr, rules}
 use Rattle.std.specs.Prelude.{◌==◌, nat_le, not, if◌then◌else◌, ◌&&◌, ◌||◌, is_none, int_le, codes}
 use Rattle.std.specs.Option.{option_and_then, option_map}
@@ -15,7 +15,7 @@ use Rattle.point_list.specs.Faults.{RowText, conditions_where, first_of, is_bad_
 use Rattle.point_list.specs.Fields.{fixed_scale_of, function_of, minus, number_of, number_within, text_type_of, type_of}
 use Rattle.point_list.specs.Names.{is_name}
 
--- The properties of six fields without faults.
+-- The properties of the six fields of a point list's row, if the fields have no fault.
 pub record Sound (taken : Bool) (place : ℕ) (row : RowText) : Type 0 where
   pub name : not (is_name row.name) ≡ false
   pub untaken : taken ≡ false
@@ -103,7 +103,7 @@ fixed-bounds (first ∷ rest) exponent h = elim (cases_Bool (first == 45)) [
       rw (← m.2) (pos-bounds m.0 (within 0 10 (first ∷ rest) m.0 m.1).1)
 ]
 
--- A text type in a field has 1 to 125 registers.
+-- The type of a text point, such as `string8`, has 1 to 125 registers.
 text-sized : (field : List ℕ) (kind : PointType) → text_type_of field ≡ Some kind → (1 ≤ registers_of kind) × (registers_of kind ≤ 125)
 text-sized field shown h = elim (cases_Bool (starts_with (λ a b. a == b) field (codes "string"))) [
   | inl is ↦ text-found (number_within 1 125 (drop 6 field)) shown (λ n. within 1 125 (drop 6 field) n) (rw is at h)

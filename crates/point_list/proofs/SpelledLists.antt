@@ -1,4 +1,4 @@
--- Proves that a text encodes at most one point list.
+-- Proves that a CSV text encodes at most one point list.
 use Rattle.std.proofs.Common.{◌≡◌, ◌∙◌, ℕ, Bool, true, false, Some, Option, List, [], ◌∷◌, length, map, drop, refl, sym, ap, subst}
 use Rattle.std.proofs.lemmas.Option.{same_Some}
 use Rattle.std.specs.Prelude.{slice_index_or}
@@ -9,7 +9,7 @@ use Rattle.point_list.specs.Points.{IsPointList}
 use Rattle.point_list.proofs.FaultlessLists.{faultless-each, faultless-lawful, none-reported}
 use Rattle.point_list.proofs.TextLemmas.{first-nil, second-nil, spells-list}
 
--- The point list that a text without faulty rows encodes, which is valid.
+-- The point list that a CSV text without faulty rows encodes. The list is valid.
 record Spelled (text : List ℕ) : Type 0 where
   points : List ListedPoint
   spells : SpellsList text points

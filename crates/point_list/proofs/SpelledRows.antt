@@ -1,4 +1,4 @@
--- The properties of the point that a row without faults encodes.
+-- The properties of the point that a row of a point list (CSV) without faults encodes.
 use Rattle.std.proofs.Common.{◌≡◌, ◌+◌, ◌≤◌, ℕ, ℤ, pos, negsuc, Bool, true, false, IsTrue, List, [], ◌∷◌, Some, None, Option, refl, arith}
 use Rattle.std.specs.Prelude.{nat_lt, not, ◌&&◌, ◌||◌, is_some, int_le}
 use Rattle.sun_points.specs.declared.point_type.PointType.{PointType}
@@ -13,13 +13,14 @@ use Rattle.point_list.specs.Names.{is_name}
 use Rattle.point_list.specs.Points.{end_of, takes_scale}
 use Rattle.point_list.proofs.SoundRows.{Sound, fixed-bounds, not-false, or-first, there, type-sized}
 
--- True if points of this type may have this scale, regardless of the scale point.
+-- True if points of this type may have this scale. A scale point with the scale's name need not
+-- exist.
 abbrev pub Suits : PointType → PointScale → Type 0
 Suits kind Unscaled = Unit {0}
 Suits kind (Fixed exponent) = IsTrue (takes_scale kind) × IsTrue (int_le (negsuc 9) exponent && int_le exponent (pos 10))
 Suits kind (Named name) = IsTrue (takes_scale kind)
 
--- The properties of the point that six fields encode.
+-- The properties of the point that the six fields of a row encode.
 pub record Spelled (row : RowText) (point : ListedPoint) : Type 0 where
   pub spells : point_spelled row ≡ Some point
   pub name : point.name ≡ row.name

@@ -1,4 +1,4 @@
--- Relates the rows of a text that were read to all rows of the text.
+-- Relates the rows of a CSV text that were read to all rows of the text.
 use Rattle.std.proofs.Common.{◌≡◌, ◌≤◌, ◌<◌, ◌∙◌, ℕ, suc, true, List, [], ◌∷◌, length, map, min, take, drop, refl, sym, ap, arith, subst}
 use Rattle.std.proofs.lemmas.Grind.{common_steps}
 use Rattle.std.proofs.lemmas.List.{length-map, take_all}
@@ -11,7 +11,7 @@ use Rattle.point_list.proofs.FaultlessLists.{faultless-each, faultless-few, as-m
 pub length-taken : {X : Type 0} (n : ℕ) (xs : List X) → length (take n xs) ≡ min n (length xs)
 length-taken n xs = grind (arith, common_steps)
 
--- The number of rows below the header is at most 513.
+-- The number of rows that are read below the header of a point list (CSV) is at most 513.
 pub few-read : {X Y : Type 0} (f : X → Y) (header : X) (rows items : List X) (all : List Y) → items ≡ header ∷ rows → map f items ≡ take 514 all → length rows ≤ 513
 few-read f header rows items all are read =
     let size : length items ≡ min 514 (length all) = sym (length-map items f) ∙ ap length read ∙ length-taken 514 all in
@@ -25,13 +25,13 @@ first-nil (x ∷ xs) b h = absurd (cc h)
 pub second-nil : (a b : List FaultyRow) → a ≡ [] → or_else a b ≡ [] → b ≡ []
 second-nil a b none h = rw none at h
 
--- If fewer rows than the limit were read, they are all rows of the text.
+-- If fewer CSV rows than the limit of 514 were read, they are all rows of the text.
 all-read : {X : Type 0} (xs ys : List X) → take 514 xs ≡ ys → length ys < 514 → xs ≡ ys
 all-read xs ys h few =
     let size : min 514 (length xs) ≡ length ys = sym (length-taken 514 xs) ∙ ap length h in
     sym (take_all 514 xs (omega (arith, size, few))) ∙ h
 
--- Rows without faults encode the point list of the text.
+-- If the rows of a CSV text have no faults, the text encodes the point list of these rows.
 pub spells-list : (text : List ℕ) (header : List (List ℕ)) (rows : List (List (List ℕ))) (points : List ListedPoint) → header ∷ rows ≡ rows_read text → is_header header ≡ true
     → faults_below rows ≡ [] → SpellEach rows points → SpellsList text points
 spells-list text header rows points read headed none each =

@@ -1,4 +1,4 @@
--- Proves that reading the written fields of a point gives the same point.
+-- Proves that reading the CSV fields that were written for a point gives the same point.
 use Rattle.std.proofs.Common.{◌≡◌, ◌+◌, ◌-◌, ◌*◌, ◌^◌, ◌≤◌, ◌<◌, ℕ, suc, ℤ, pos, negsuc, Bool, true, false, IsTrue, List, [], ◌∷◌, Some, None, length, fold, refl, ap, arith}
 use Rattle.std.specs.Prelude.{◌==◌, nat_le, ◌&&◌, int_le}
 use Rattle.std.specs.Char.{is_ascii_alphabetic, is_ascii_digit}
@@ -79,8 +79,8 @@ type-read kind.Acc32 some few = refl
 type-read kind.Sunssf some few = refl
 type-read (kind.Text registers) some few = rw (within-read 1 125 registers (omega (arith, few)) some few) refl
 
--- True if reading the text of the scale gives the same scale, and the text is valid for each type
--- that may have a scale.
+-- True if reading the written text of a point's scale gives the same scale, and the text is valid
+-- for each type that may have a scale.
 pub record ScaleRead (scale : PointScale) : Type 0 where
   pub spelled : scale_spelled (scale_text scale) ≡ Some scale
   pub good : (kind : PointType) → takes_scale kind ≡ true → is_bad_scale (scale_text scale) (Some kind) ≡ false
@@ -120,7 +120,7 @@ and-false false = refl
 letter : (byte : ℕ) → is_ascii_alphabetic byte ≡ true → ((byte == 45) ≡ false) × (is_ascii_digit byte ≡ false)
 letter byte h = (grind (arith, h), grind (arith, h))
 
--- A point name is not a number.
+-- A point name does not encode a fixed scale, which is a number from -10 to 10.
 no-number : (name : List ℕ) → is_name name ≡ true → fixed_scale_of name ≡ None
 no-number [] h = refl
 no-number (first ∷ rest) h =
@@ -135,7 +135,8 @@ named-read (first ∷ rest) h = record {
   good = λ kind takes. rw (no-number (first ∷ rest) h, h, takes) refl;
 }
 
--- Reading the text of a scale that is valid for its type gives the same scale.
+-- Reading the written text of a point's scale gives the same scale, if the scale is valid for the
+-- point's type.
 pub scale-read : (kind : PointType) (scale : PointScale) → Suits kind scale → ((name : List ℕ) → scale ≡ Named name → is_name name ≡ true)
     → (scale_spelled (scale_text scale) ≡ Some scale) × (is_bad_scale (scale_text scale) (Some kind) ≡ false)
 scale-read kind Unscaled suits named = (refl, refl)

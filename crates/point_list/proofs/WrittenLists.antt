@@ -1,4 +1,4 @@
--- Proves that a written point list has no faults and encodes the same list.
+-- Proves that the CSV text of a written point list has no faults and encodes the same list.
 use Rattle.std.proofs.Common.{◌≡◌, ◌≢◌, ◌+◌, ◌≤◌, ◌<◌, ◌∙◌, ℕ, zero, suc, Bool, true, false, IsTrue, List, [], ◌∷◌, Some, None, Option, length, map, max, min, take, drop, get_or, refl, ap, arith, inl, inr, subst}
 use Rattle.std.specs.Prelude.{nat_le, nat_lt, ◌==◌, is_some, IsSomeAnd}
 use Rattle.std.specs.Prelude.{IfOk, OnOk, Ok, Err}
@@ -53,7 +53,7 @@ pub record Alone (point : ListedPoint) : Type 0 where
   pub suits : Suits point.kind point.scale
   pub scale_named : (name : List ℕ) → point.scale ≡ Named name → is_name name ≡ true
 
--- True if the written fields of a point have no fault and encode the same point.
+-- True if the written CSV fields of a point have no fault and encode the same point.
 pub record Spelt (point : ListedPoint) : Type 0 where
   pub function : function_of (decimal (code_of point.function)) ≡ Some point.function
   pub area : number_within 0 255 (decimal point.area) ≡ Some point.area
@@ -98,7 +98,7 @@ written-sound place taken point a untaken below =
 bytes-other : (a b : List ℕ) → a ≢ b → bytes_eq a b ≡ false
 bytes-other a b other = elim (cases_Bool (bytes_eq a b)) [ inl same ↦ absurd (other ((bytes_eq-Decides a b).0 same)) | inr no-same ↦ no-same ]
 
--- In a list with distinct names, no earlier row has the name of a point.
+-- In a point list with distinct names, no earlier row has the name of a point.
 pub untaken : (points : List ListedPoint) (place : ℕ) (d : ListedPoint) → place < length points → AllPairs (λ a b. a.name ≢ b.name) points
     → list_any (has_name (get_or points place d).name) (take place (map row_of points)) ≡ false
 untaken points place d below distinct =
@@ -166,7 +166,7 @@ suits-of points point Unscaled h = tt
 suits-of points point (Fixed exponent) h = h
 suits-of points point (Named name) h = h.0
 
--- The name of a scale point in the list is a valid name.
+-- The name of a scale point (SunSpec scale factor) in the list is a valid name.
 found-named : (name : List ℕ) (points : List ListedPoint) → All (λ p. IsTrue (is_name p.name)) points → IsTrue (is_some (scale_point points name)) → is_name name ≡ true
 found-named name [] named h = absurd (cc h)
 found-named name (p ∷ ps) named h = by (is_sunssf p.kind) (bytes_eq p.name name) refl refl (λ rest. found-named name ps (λ k d below. named (suc k) d (omega (arith, below))) rest)
@@ -183,7 +183,7 @@ some-there : {X : Type 0} (o : Option X) (P : X → Type 0) → IsSomeAnd o P �
 some-there None P h = absurd h
 some-there (Some x) P h = refl
 
--- Each point of a valid point list is valid on its own.
+-- Each point of a valid point list is valid on its own, regardless of the other points.
 pub alone : (points : List ListedPoint) → IsPointList points → All (λ p. p.area ≤ 255) points → All Alone points
 alone points l areas k d below =
     let p = get_or points k d in
@@ -217,7 +217,7 @@ written-faultless points l each =
     ap (λ (ps : List ListedPoint). faulty_rows 2 (scale_faults ps ps)) (written-each points each).1 in
     ap (λ (faults : List FaultyRow). or_else faults (faulty_rows 2 (scale_faults (points_of rows) (points_of rows)))) first ∙ same ∙ second
 
--- The text of a valid point list encodes the same list.
+-- The CSV text of a valid point list encodes the same list.
 pub written-list : (points : List ListedPoint) → IsPointList points → All (λ p. p.area ≤ 255) points → SpellsList (rows_text (header_row ∷ map row_of points)) points
 written-list points l areas =
     let each = alone points l areas in
@@ -232,7 +232,7 @@ written-list points l areas =
       each = ap (λ (rows : List (List (List ℕ))). map point_of_row (drop 1 rows)) all ∙ (written-each points each).0;
     }
 
--- Writing all rows of a list gives exactly the text of the list.
+-- Writing all CSV rows of a point list gives exactly the text of the list.
 pub exact-text : {V E : Type 0} (points : List ListedPoint) (rows : List (List (List ℕ))) (items : V → List ℕ) (result : Result V E)
     → rows ≡ header_row ∷ map row_of points → IfOk result (λ text. items text ≡ rows_text rows) → IfOk result (λ text. items text ≡ list_text points)
 exact-text points rows items (Ok text) are h = h ∙ ap rows_text are

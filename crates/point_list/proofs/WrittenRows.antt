@@ -10,7 +10,8 @@ use Rattle.point_list.specs.Rows.{csv_rows}
 use Rattle.point_list.specs.RowTexts.{header_row, rows_text}
 use Rattle.point_list.proofs.RowFacts.{rows-begin}
 
--- The text of rows with one more row is the text of the rows followed by that of the new row.
+-- If one more row is appended, the CSV text of the rows is the earlier text followed by the text of
+-- the new row.
 pub rows_text-push : (xs : List (List (List ℕ))) (y : List (List ℕ)) → rows_text (xs ++ (y ∷ [])) ≡ rows_text xs ++ row_text default_writer y
 unfolding rows_text
 rows_text-push [] y = append-nil (row_text default_writer y)
@@ -18,7 +19,7 @@ rows_text-push (x ∷ xs) y =
     ap (λ (t : List ℕ). row_text default_writer x ++ t) (rows_text-push xs y)
     ∙ sym (append_assoc (row_text default_writer x) (rows_text xs) (row_text default_writer y))
 
--- Reading the text of rows returns these rows one by one.
+-- Reading the CSV text of rows returns these rows one by one.
 written-reached : (rows : List (List (List ℕ))) → Reached default_config st.StartRecord (rows_text rows) (map read_back rows) st.StartRecord []
 unfolding Reached rows_text
 written-reached [] = (refl, refl)
@@ -28,17 +29,17 @@ at-end : next_record default_config st.StartRecord [] [] [] ≡ None
 unfolding next_record
 at-end = refl
 
--- The records of a written text are the written rows.
+-- The records of a written CSV text are the written rows.
 pub written-read : (rows : List (List (List ℕ))) → records default_config (rows_text rows) ≡ map read_back rows
 written-read rows =
     let b = rows-begin st.StartRecord (rows_text rows) [] (map read_back rows) (written-reached rows) in
     b.1 ∙ ap (λ (l : List (List (List ℕ))). map read_back rows ++ l) (b.2 at-end) ∙ append-nil (map read_back rows)
 
--- The text of a header does not begin with a byte order mark.
+-- A CSV text that begins with the header of a point list does not begin with a byte order mark.
 no-mark : (rows : List (List (List ℕ))) → strip_bom (rows_text (header_row ∷ rows)) ≡ rows_text (header_row ∷ rows)
 unfolding strip_bom fields_text is_blank rows_text
 no-mark rows = refl
 
--- Reading a written text returns the header and the rows below it.
+-- Reading a written CSV text returns the header and the rows below it.
 pub written-rows : (rows : List (List (List ℕ))) → csv_rows (rows_text (header_row ∷ rows)) ≡ header_row ∷ map read_back rows
 written-rows rows = ap (λ (text : List ℕ). records default_config text) (no-mark rows) ∙ written-read (header_row ∷ rows)

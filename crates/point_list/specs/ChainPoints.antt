@@ -22,21 +22,21 @@ use Rattle.point_list.specs.declared.point.PointScale.{PointScale}
 use Rattle.point_list.specs.declared.point.PointScale.TheVariants.{Unscaled, Named}
 use Rattle.mb_wire.specs.declared.span.ReadFunction.TheVariants.{HoldingRegisters}
 
--- The name of a model's point in a point list: `m`, the model's number in the chain, `.` and the
--- point's name in the model.
+-- The name of a SunSpec model's point in a point list: `m`, the model's number in the chain, `.`
+-- and the point's name in the model.
 abbrev pub chain_name : ℕ → List ℕ → List ℕ
 chain_name place name = codes "m" ++ (decimal place ++ (codes "." ++ name))
 
--- The scale of a point of model number `place`: the scale point with this name if it was read,
--- otherwise `Unscaled`.
+-- The scale of a point of SunSpec model number `place`: the scale factor point with this name if it
+-- was read, otherwise `Unscaled`.
 abbrev pub chain_scale : ℕ → List ModelPoint → Option (List ℕ) → PointScale
 chain_scale place others None = Unscaled
 chain_scale place others (Some name) =
     if list_any (λ other. bytes_eq other.name name) others then Named (chain_name place name)
     else Unscaled
 
--- The point list's entry for a point of model number `place`, read from holding registers with area
--- number 0. `others` are all points of the model, among them the scale point, if it was read.
+-- The point list's entry for a point of SunSpec model number `place`, read from holding registers.
+-- `others` are all points of the model, among them the scale point (scale factor), if it was read.
 abbrev pub listed : ℕ → ℕ → List ModelPoint → ModelPoint → ListedPoint
 listed place id others point = record {
   name = chain_name place point.name;
@@ -47,30 +47,31 @@ listed place id others point = record {
   scale = chain_scale place others (scale_name_in (table_of id) point.name);
 }
 
--- True if the name of the point's scale point is valid in a point list, or the point has no scale
--- point.
+-- True if the name of the point's scale point (SunSpec scale factor) is valid in a point list, or
+-- the point has no scale point.
 abbrev pub HasScaleName : (place id : ℕ) → ModelPoint → Type 0
 HasScaleName place id point =
     IfSome (scale_name_in (table_of id) point.name)
     (λ name. IsTrue (is_name (chain_name place name)))
 
--- The point list's entries for all points of model number `place` that were read.
+-- The point list's entries for all points of SunSpec model number `place` that were read.
 abbrev pub model_points : Words → ℕ → Model → List ListedPoint
 model_points word place model =
     map (listed place model.id (points_in word model)) (points_in word model)
 
--- The point list's entries for consecutive models. The first model has number `place`.
+-- The point list's entries for consecutive SunSpec models. The first model has number `place`.
 abbrev pub points_from : Words → ℕ → List Model → List ListedPoint
 points_from word place [] = []
 points_from word place (model ∷ models) =
     model_points word place model ++ points_from word (place + 1) models
 
--- The point list's entries for a chain. The first model of the chain has number 1.
+-- The point list's entries for a device's chain of SunSpec models. The first model of the chain has
+-- number 1.
 abbrev pub points_of_chain : Chain → List ListedPoint
 points_of_chain chain = points_from (words_of chain) 1 (models_of chain)
 
--- The faulty rows of a chain's point list: `TooMany` on row 514 if there are more than 512 points,
--- otherwise none.
+-- The faulty rows of the point list of a chain of SunSpec models: `TooMany` on row 514 if there are
+-- more than 512 points, otherwise none.
 abbrev pub chain_faults : List ListedPoint → List FaultyRow
 chain_faults points =
     if nat_le (length points) POINT_LIMIT then []

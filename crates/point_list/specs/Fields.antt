@@ -20,25 +20,25 @@ abbrev pub number_within : ℕ → ℕ → List ℕ → Option ℕ
 number_within low high field =
     option_and_then (λ n. if nat_le low n && nat_le n high then Some n else None) (number_of field)
 
--- The function with this Modbus code: 3 reads holding registers, 4 reads input registers. `None`
--- for any other code.
+-- The read function with this Modbus function code: 3 reads holding registers, 4 reads input
+-- registers. `None` for any other code.
 abbrev pub function_coded : ℕ → Option ReadFunction
 function_coded n =
     if n == 3 then Some HoldingRegisters else if n == 4 then Some InputRegisters else None
 
--- The Modbus function that a field encodes, or `None`.
+-- The Modbus read function that a field encodes, or `None`.
 abbrev pub function_of : List ℕ → Option ReadFunction
 function_of field = option_and_then function_coded (number_of field)
 
--- The text type that a field encodes: `string` and a number of registers from 1 to 125. `None` for
--- any other field.
+-- The type of a text point that a field encodes: `string` and a number of registers from 1 to 125.
+-- `None` for any other field.
 abbrev pub text_type_of : List ℕ → Option PointType
 text_type_of field =
     if starts_with (λ a b. a == b) field (codes "string")
     then option_and_then (λ n. Some (kind.Text n))
     (number_within 1 MAX_READ_REGISTERS (drop 6 field)) else None
 
--- The point type that a field encodes, or `None`.
+-- The SunSpec point type that a field encodes, or `None`.
 abbrev pub type_of : List ℕ → Option PointType
 type_of field =
     if bytes_eq field (codes "int16") then Some kind.Int16

@@ -13,7 +13,7 @@ use Rattle.point_list.specs.declared.point.ListedPoint.{ListedPoint}
 use Rattle.point_list.specs.declared.point.PointScale.{PointScale}
 use Rattle.point_list.specs.declared.point.PointScale.TheVariants.{Unscaled, Fixed, Named}
 
--- True if the point type is `sunssf`, the type of scale points.
+-- True if the point type is `sunssf`, SunSpec's type of scale factors.
 abbrev pub is_sunssf : PointType → Bool
 is_sunssf kind.Sunssf = true
 is_sunssf _ = false
@@ -27,16 +27,16 @@ takes_scale kind.Uint32 = true
 takes_scale kind.Acc32 = true
 takes_scale _ = false
 
--- The address after a point's last register.
+-- The Modbus address after a point's last register.
 abbrev pub end_of : ListedPoint → ℕ
 end_of point = point.address + registers_of point.kind
 
--- The sunssf point of the list with this name, or `None`.
+-- The point of the list with this name and the type `sunssf` (SunSpec scale factor), or `None`.
 abbrev pub scale_point : List ListedPoint → List ℕ → Option ListedPoint
 scale_point points name = find (λ point. is_sunssf point.kind && bytes_eq point.name name) points
 
--- True if a point and its scale point have the same function and area number, and fit in one Modbus
--- read.
+-- True if one Modbus read can cover a point and its scale point: they have the same function and
+-- area number, and span at most 125 registers.
 pub record IsGroup (point scale : ListedPoint) : Type 0 where
   pub function : point.function ≡ scale.function
   pub area : point.area ≡ scale.area
@@ -44,7 +44,7 @@ pub record IsGroup (point scale : ListedPoint) : Type 0 where
       ≤ min point.address scale.address + MAX_READ_REGISTERS
 
 -- True if the scale of a point is valid: its type may have a scale, and a scale given by name is a
--- sunssf point of the list, close enough for one read.
+-- sunssf point (SunSpec scale factor) of the list, close enough for one read.
 abbrev pub HasLawfulScale : List ListedPoint → ListedPoint → PointScale → Type 0
 HasLawfulScale points point Unscaled = Unit {0}
 HasLawfulScale points point (Fixed exponent) =

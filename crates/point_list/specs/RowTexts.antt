@@ -27,7 +27,7 @@ scale_text Unscaled = []
 scale_text (Fixed exponent) = signed_decimal exponent
 scale_text (Named name) = name
 
--- The fields of the row of a point.
+-- The six fields of a point's row in a point list.
 abbrev pub row_of : ListedPoint → List (List ℕ)
 row_of point =
     point.name ∷ decimal (code_of point.function) ∷ decimal point.area ∷ decimal point.address
@@ -38,11 +38,11 @@ abbrev pub header_row : List (List ℕ)
 header_row = codes "name" ∷ codes "function" ∷ codes "area" ∷ codes "address" ∷ codes "type"
     ∷ codes "scale" ∷ []
 
--- The comma-separated text of a list of rows.
+-- The CSV text of a list of rows.
 unfoldable pub rows_text : List (List (List ℕ)) → List ℕ
 rows_text [] = []
 rows_text (row ∷ rows) = row_text default_writer row ++ rows_text rows
 
--- The comma-separated text of a point list, with its header.
+-- The CSV text of a point list, with its header.
 abbrev pub list_text : List ListedPoint → List ℕ
 list_text points = rows_text (header_row ∷ map row_of points)

@@ -76,8 +76,8 @@ fn chain_scale(
     }
 }
 
-// Returns the point list's entry for a point of a model. SunSpec models are read from holding
-// registers, with area number 0.
+// Returns the point list's entry for a point of a SunSpec model. SunSpec models are read from
+// holding registers.
 fn listed(
     alloc: Global,
     place: usize,
@@ -145,7 +145,7 @@ fn chain_points(alloc: Global, chain: &Chain<'_>) -> Result<Vec<ListedPoint>, Al
     Ok(points)
 }
 
-// Returns the fault of a chain with more than 512 points: `TooMany` on row 514.
+// Returns the fault of a chain of SunSpec models with more than 512 points: `TooMany` on row 514.
 fn too_many(alloc: Global) -> Result<FaultyRows, AllocError>
     ensures { IfOk result (λ rows. rows ≡ record { row = 514; fault = RowFault.TooMany } ∷ []) }
 {
@@ -157,10 +157,10 @@ fn too_many(alloc: Global) -> Result<FaultyRows, AllocError>
     Ok(FaultyRows::new(rows))
 }
 
-/// Returns the point list of all points of a chain's models that were read, model by model. The
-/// list includes points without a value (`Absent`). A point is named `m`, the model's number in the
-/// chain from 1, `.` and the point's name in the model. A point is read with function 3 and area
-/// number 0. Its scale is the name of its scale point, or empty if the scale point was not read.
+/// Returns the point list of all points of a chain's SunSpec models that were read, model by model.
+/// The list includes points without a value (`Absent`). A point is named `m`, the model's number in
+/// the chain from 1, `.` and the point's name in the model. A point is read with function 3. Its
+/// scale is the name of its scale point (scale factor), or empty if the scale point was not read.
 /// More than 512 points are the fault `TooMany` on row 514.
 pub fn from_chain(alloc: Global, chain: &Chain<'_>) -> Result<PointList, ListFault>
     ensures list { IfOk result (λ list. list ≡ points_of_chain chain.now) }

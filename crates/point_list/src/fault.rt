@@ -11,37 +11,39 @@ use std::marker::Model;
 /// `GroupTooWide` are checked last, and only if no row has another fault.
 #[derive(Clone, Copy, Debug, PartialEq, Eq)]
 pub enum RowFault {
-    /// The row does not have six fields.
+    /// The row of the point list does not have six fields.
     Csv,
-    /// The header is not `name,function,area,address,type,scale`.
+    /// The header of the point list is not `name,function,area,address,type,scale`.
     Header,
-    /// The name is not 1 to 32 letters, digits, `_` and `.` with a letter first.
+    /// The point's name is not 1 to 32 letters, digits, `_` and `.` with a letter first.
     Name,
-    /// An earlier row has the same name.
+    /// An earlier row of the point list has the same name.
     DoubleName,
-    /// The function is not 3 or 4.
+    /// The Modbus function of the point is not 3 or 4.
     Function,
-    /// The area number is not 0 to 255.
+    /// The area number is not 0 to 255. Points with different area numbers are never in one Modbus
+    /// read.
     Area,
-    /// The address is not 0 to 65535, or the point extends past address 65535.
+    /// The Modbus address of the point is not 0 to 65535, or the point extends past address 65535.
     Address,
-    /// The type is not a SunSpec point type.
+    /// The type of the point is not a SunSpec point type.
     Type,
-    /// The scale is not empty, -10 to 10 or a name, or the point's type allows no scale.
+    /// The scale of the point is not empty, -10 to 10 or a name, or the point's type allows no
+    /// scale.
     Scale,
-    /// The scale is a name, and no sunssf point has that name.
+    /// The scale of the point is a name, and no sunssf point (SunSpec scale factor) has that name.
     NoSuchScale,
-    /// The point and its scale point differ in function or area number, or span more than 125
-    /// registers.
+    /// The point and its scale point (SunSpec scale factor) differ in function or area number, or
+    /// span more than 125 registers.
     GroupTooWide,
-    /// The list has more than 512 rows after the header.
+    /// The point list has more than 512 rows after the header.
     TooMany,
 }
 
 impl RowFault {
     ghost use Rattle.point_list.specs.Faults.{fault_number};
 
-    /// Returns the number of the fault, counted from 1.
+    /// Returns the number of the row's fault, counted from 1.
     pub fn number(self) -> u8
         ensures { result ≡ fault_number self }
     {
@@ -89,7 +91,7 @@ impl Error for RowFault {}
 /// A row of a point list with a fault.
 #[derive(Clone, Copy, Debug, PartialEq, Eq)]
 pub struct FaultyRow {
-    /// The number of the row in the text. The header is row 1.
+    /// The number of the row in the CSV text. The header is row 1.
     pub row: usize,
     pub fault: RowFault,
 }
@@ -103,7 +105,7 @@ impl Display for FaultyRow {
 
 impl Error for FaultyRow {}
 
-/// The faulty rows of a point list. `read_list` returns them in order of row number.
+/// The faulty rows of a point list, in order of row number, as `read_list` returns them.
 #[derive(Debug, Drop)]
 pub struct FaultyRows {
     rows: Vec<FaultyRow>,
@@ -119,21 +121,21 @@ impl Model for FaultyRows {
 }
 
 impl FaultyRows {
-    /// Creates an error from faulty rows.
+    /// Creates an error value from the faulty rows of a point list.
     pub fn new(rows: Vec<FaultyRow>) -> Self
         ensures { result ≡ rows.items }
     {
         FaultyRows { rows }
     }
 
-    /// Returns the faulty rows.
+    /// Returns the faulty rows of the point list.
     pub fn rows(&self) -> &[FaultyRow]
         ensures { result.now ≡ self.now }
     {
         self.rows.as_slice()
     }
 
-    /// Returns the faulty rows as a vector.
+    /// Returns the faulty rows of the point list as a vector.
     pub fn into_rows(self) -> Vec<FaultyRow>
         ensures { result.items ≡ self }
     {
@@ -142,7 +144,7 @@ impl FaultyRows {
     }
 }
 
-// Prints the first faulty row and the number of faulty rows.
+// Prints the first faulty row of a point list and the number of faulty rows.
 impl Display for FaultyRows {
     fn fmt<W: fmt::Write>(&self, f: &mut Formatter<W>) -> fmt::Result {
         match self.rows.as_slice() {
@@ -155,19 +157,19 @@ impl Display for FaultyRows {
 
 impl Error for FaultyRows {}
 
-/// The reason why a text or a chain of models is not a point list.
+/// The reason why a text or a chain of SunSpec models is not a point list.
 #[derive(Debug, Drop)]
 pub enum ListFault {
     Memory,
-    /// At least one row is faulty. Each faulty row has its first fault.
+    /// At least one row of the point list is faulty. Each faulty row has its first fault.
     Faults(FaultyRows),
 }
 
 impl ListFault {
     ghost use Rattle.point_list.specs.Lists.{list_fault_number};
 
-    /// Returns the number that the program prints for the fault. `Faults` has no number, because
-    /// each faulty row is printed with its own number.
+    /// Returns the number that the program prints for the fault of a point list. `Faults` has no
+    /// number, because each faulty row is printed with its own number.
     pub fn number(&self) -> Option<u8>
         ensures { result ≡ list_fault_number self.now }
     {

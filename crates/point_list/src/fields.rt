@@ -7,7 +7,7 @@ ghost use Rattle.point_list.specs.Fields.{function_of, text_type_of, type_of};
 use mb_wire::{MAX_READ_REGISTERS, ReadFunction};
 use sun_points::{PointType, Scale, TextLength, number_of_digits};
 
-/// The maximum number of digits of a whole number in a field.
+/// The maximum number of digits of a whole number in a point list's field.
 const MOST_DIGITS: usize = 10;
 
 fn number(field: &[u8]) -> Option<u64>

@@ -28,15 +28,15 @@ pub fn is_scaled_type(kind: PointType) -> bool
     }
 }
 
-// Returns the address after the last register of a point.
+// Returns the Modbus address after the last register of a point.
 fn end_address(point: &ListedPoint) -> u32
     ensures { result ≡ end_of point.now }
 {
     u32::from(point.address) + u32::from(point.kind.registers())
 }
 
-/// Returns whether a point and its scale point have the same function and area number, and lie
-/// within 125 consecutive registers.
+/// Returns whether one Modbus read can cover a point and its scale point: they have the same
+/// function and area number, and lie within 125 registers.
 pub fn is_group(point: &ListedPoint, scale: &ListedPoint) -> bool
     ensures { IsTrue result ↔ IsGroup point.now scale.now }
 {

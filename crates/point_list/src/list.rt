@@ -5,8 +5,8 @@ use crate::lawful::is_lawful;
 use crate::point::ListedPoint;
 use std::marker::Model;
 
-/// A list of at most 512 points with distinct names. The scale point of each point is in the list,
-/// close enough for one Modbus read of both.
+/// A list of at most 512 points with distinct names. The scale point (SunSpec scale factor) of each
+/// point is in the list, close enough for one Modbus read of both.
 #[derive(Drop)]
 pub struct PointList {
     points: Vec<ListedPoint>,
@@ -49,7 +49,7 @@ impl PointList {
         PointList { points }
     }
 
-    /// Returns the points, in the order of the list.
+    /// Returns the points of the point list in order.
     pub fn points(&self) -> &[ListedPoint]
         ensures points { result.now ≡ self.now }
         ensures lawful { IsPointList self.now }
@@ -57,7 +57,7 @@ impl PointList {
         self.points.as_slice()
     }
 
-    /// Consumes the list, and returns its points.
+    /// Consumes the point list, and returns its points.
     pub fn into_points(self) -> Vec<ListedPoint>
         ensures points { result.items ≡ self }
         ensures lawful { IsPointList self }

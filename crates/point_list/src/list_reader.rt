@@ -50,8 +50,8 @@ fn scale_fault(points: &[ListedPoint], point: &ListedPoint) -> Option<RowFault>
     }
 }
 
-// Adds the fault of a row to `faults`, if the row has one. `place` is the row's index below the
-// header, from 0. The header is row 1, so index 0 is row 2.
+// Adds the fault of a point list's row to `faults`, if the row has one. `place` is the row's index
+// below the header, from 0. The header is row 1, so index 0 is row 2.
 fn add_fault(
     place: usize,
     fault: Option<RowFault>,
@@ -70,7 +70,8 @@ fn add_fault(
     Ok(())
 }
 
-// Returns the faulty rows, without faults of scale points, which `scale_faults` finds.
+// Returns the faulty rows of a point list, without faults of scale points (SunSpec scale factors),
+// which `scale_faults` finds.
 fn faulty_rows(alloc: Global, rows: &[ByteRecord]) -> Result<Vec<FaultyRow>, AllocError>
     requires { length rows.now ≤ 513 }
     ensures { IfOk result
@@ -96,7 +97,7 @@ fn scale_faults(alloc: Global, points: &[ListedPoint]) -> Result<Vec<FaultyRow>,
     Ok(faults)
 }
 
-// Returns the fault of a text whose header is missing or wrong.
+// Returns the fault of a CSV text whose header is missing or wrong.
 fn no_header(alloc: Global) -> ListFault
     ensures { ExplainsList (list_faults []) result }
 {
@@ -111,7 +112,8 @@ fn no_header(alloc: Global) -> ListFault
     }
 }
 
-// Checks the scale points of points that have no other fault, and creates the point list.
+// Checks the scale points (SunSpec scale factors) of points that have no other fault, and creates
+// the point list.
 fn list_of_points(alloc: Global, points: Vec<ListedPoint>) -> Result<PointList, ListFault>
     requires few { length points.items ≤ 513 }
     requires lawful { faulty_points points.items ≡ [] → IsPointList points.items }

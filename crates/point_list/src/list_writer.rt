@@ -15,16 +15,17 @@ use sun_points::Sink;
 /// The reason why a point list was not written.
 #[derive(Clone, Copy, Debug, PartialEq, Eq)]
 pub enum WriteListFault {
-    /// The sink failed to accept the text.
+    /// The output failed to accept the text of the point list.
     Write,
-    /// There was not enough memory for the text.
+    /// There was not enough memory for the text of the point list.
     Memory,
 }
 
 impl WriteListFault {
     ghost use Rattle.point_list.specs.ListWriter.{write_fault_number};
 
-    /// Returns the number of the fault, counted from 1. The program does not print this number.
+    /// Returns the number of the reason why a point list was not written, counted from 1. The
+    /// program does not print this number.
     pub fn number(self) -> u8
         ensures { result ≡ write_fault_number self }
     {

@@ -69,7 +69,7 @@ impl PointName {
         PointName { bytes }
     }
 
-    /// Returns the bytes of the name.
+    /// Returns the bytes of the point name.
     pub fn as_bytes(&self) -> &[u8]
         ensures bytes { result.now ≡ self.now }
         ensures lawful { IsTrue (is_name self.now) }
@@ -77,7 +77,7 @@ impl PointName {
         self.bytes.as_slice()
     }
 
-    /// Consumes the name, and returns its bytes.
+    /// Consumes the point name, and returns its bytes.
     pub fn into_bytes(self) -> Vec<u8>
         ensures bytes { result.items ≡ self }
         ensures lawful { IsTrue (is_name self) }

@@ -10,16 +10,16 @@ use sun_points::{PointType, Scale};
 /// The power of ten that multiplies the value of a point.
 #[derive(Drop)]
 pub enum PointScale {
-    /// The value has no scale and is printed unchanged.
+    /// The value of the point has no scale and is printed unchanged.
     Unscaled,
     /// A fixed power of ten, -10 to 10.
     Fixed(Scale),
-    /// The power of ten in the register of the sunssf point with this name.
+    /// The power of ten in the register of the scale factor point (type `sunssf`) with this name.
     Named(PointName),
 }
 
-/// A point of a point list: its registers from `address`, the function that reads them, and their
-/// area number. No Modbus read includes points with different area numbers.
+/// A point of a point list: its registers from `address`, the function that reads them, and an area
+/// number. No Modbus read includes points with different area numbers.
 #[derive(Drop)]
 pub struct ListedPoint {
     pub name: PointName,
@@ -30,7 +30,7 @@ pub struct ListedPoint {
     pub scale: PointScale,
 }
 
-/// Returns whether points of this type are scale points.
+/// Returns whether points of this type are scale points (SunSpec scale factors).
 pub(crate) fn is_scale_type(kind: PointType) -> bool
     ensures { result ≡ is_sunssf kind }
 {
@@ -40,7 +40,7 @@ pub(crate) fn is_scale_type(kind: PointType) -> bool
     }
 }
 
-/// Returns the sunssf point of the list with this name, or `None`.
+/// Returns the scale factor point (type `sunssf`) of the list with this name, or `None`.
 pub fn find_scale<'a>(points: &'a [ListedPoint], name: &[u8]) -> Option<&'a ListedPoint>
     ensures { option_copied result ≡ scale_point points.now name.now }
 {

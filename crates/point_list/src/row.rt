@@ -57,7 +57,8 @@ fn row_has_name(row: &ByteRecord, name: &[u8]) -> bool
     }
 }
 
-// Returns whether an earlier row has the name. Rows without six fields have no name.
+// Returns whether an earlier row of a point list has the name. Rows without six fields have no
+// name.
 fn is_taken(earlier: &[ByteRecord], name: &[u8]) -> bool
     ensures { result ≡ list_any (λ row. has_name name.now (fields_of row)) earlier.now }
 {
@@ -96,8 +97,8 @@ fn is_bad(scale: &[u8], kind: Option<PointType>) -> bool
     }
 }
 
-/// Returns the first fault of the row at index `place` below the header, from 0. Faults of the
-/// row's scale point are not checked.
+/// Returns the first fault of the row at index `place` below the header of a point list, from 0.
+/// Faults of the row's scale point (SunSpec scale factor) are not checked.
 pub fn least_row_fault(place: usize, earlier: &[ByteRecord], row: &ByteRecord) -> Option<RowFault>
     ensures { result ≡ least_fault place (map fields_of earlier.now) (fields_of row.now) }
 {

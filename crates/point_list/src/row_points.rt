@@ -1,4 +1,4 @@
-//! Creates the points of a point list from its rows.
+//! Creates the points of a point list from its CSV rows.
 ghost use Rattle.std.specs.Prelude.{◌≡◌, IfOk, map};
 ghost use Rattle.csv.specs.Records.{fields_of};
 ghost use Rattle.point_list.specs.Faults.{seen_row};
@@ -82,7 +82,8 @@ fn point_of_row(alloc: Global, row: &ByteRecord) -> Result<Option<ListedPoint>, 
     }
 }
 
-/// Returns the points that rows encode. Rows with an invalid field are skipped.
+/// Returns the points that the CSV rows of a point list encode. Rows with an invalid field are
+/// skipped.
 pub fn points_of_rows(alloc: Global, rows: &[ByteRecord]) -> Result<Vec<ListedPoint>, AllocError>
     ensures { IfOk result (λ points. points.items ≡ points_of (map fields_of rows.now)) }
 {

@@ -55,8 +55,8 @@ and_fresh : (g b : Bool) → b ≡ false → (g && not b) ≡ g
 and_fresh true b h = ap not h
 and_fresh false b h = refl
 
--- If the session is over after an event, and was not over before it, the event has a cause by which
--- it ended the session.
+-- If a session is over after an event, and was not over before the event, then the event gives a
+-- cause for its end.
 ending_at-over : (es : List Event) (e : Event) → is_over es ≡ false → is_over (es ++ e ∷ []) ≡ true → is_some (ending_at es e) ≡ true
 unfolding is_over ending_at
 ending_at-over es e going over =

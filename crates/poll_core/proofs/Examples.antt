@@ -15,7 +15,8 @@ use Rattle.poll_core.specs.declared.outcome.LostCause.TheVariants as cause
 abbrev registers : ℕ → ℕ → Span
 registers address count = record { function = HoldingRegisters; address = address; count = count }
 
--- The first poll, started at 100 with a timeout of 5 seconds, requests three registers of unit 1.
+-- The first poll of the examples, started at 100 with a timeout of 5 seconds. It requests three
+-- registers of unit 1.
 abbrev one : List Event
 one = Start 100 1 1 (registers 40094 3) ∷ []
 
@@ -80,7 +81,7 @@ both_silent : outcomes_at 5 two (Tick 1005) ≡ (1, Silent) ∷ (2, Silent) ∷ 
 unfolding outcomes_at pending frames_at ending_at stream next_id settled_by frames frames_in rest rest_in is_garbled
 both_silent = refl
 
--- ---- limits, as numbers
+-- Examples of the limits on times, timeouts and pending polls, as numbers.
 
 -- The beginning of 2100 in seconds: 130 years from 1970, 32 of them leap years.
 the_last_moment : LAST_MOMENT ≡ (130 * 365 + 32) * 86400
@@ -96,8 +97,8 @@ waits_60_seconds : outcomes_at MAX_TIMEOUT one (Tick 160) ≡ (1, Silent) ∷ []
 unfolding outcomes_at pending frames_at ending_at stream next_id settled_by frames frames_in rest rest_in is_garbled
 waits_60_seconds = refl
 
--- With the greatest window of 16 polls, a start succeeds while 15 are pending and is refused with
--- 16.
+-- With the greatest window of 16 pending polls, a start of a poll succeeds while 15 are pending and
+-- is refused with 16.
 abbrev starts : ℕ → List Event
 starts zero = []
 starts (suc count) = Start 100 count 1 (registers 0 1) ∷ starts count

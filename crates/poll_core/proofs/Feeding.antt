@@ -1,4 +1,5 @@
--- Lemmas about chunks that a session feeds to its reader, and the polls that their frames complete.
+-- Lemmas about chunks of received bytes that a polling session feeds to its frame reader, and the
+-- polls that their frames complete.
 use Rattle.std.proofs.Common.{◌≡◌, ℕ, suc, ◌+◌, ◌-◌, ◌≤◌, ◌⊎◌, Bool, true, false, not, ◌&&◌, List, [], ◌∷◌, ◌++◌, length, take, drop, map, refl, sym, ap, ◌∙◌, subst, arith, Option, Some, None, inl, inr, append_assoc, length-drop}
 use Rattle.std.specs.List.{filter}
 use Rattle.std.proofs.Math.Seq.{take-add}
@@ -31,7 +32,7 @@ own_id f own p = and_true _ _ (eq-eqb _ _ own)
 foreign_id : (f : List ℕ) → (IsOwn f → ⊥) → (p : Poll) → is_for p f ≡ false
 foreign_id f foreign p = and_false _ _ (ne_eqb _ _ foreign)
 
--- The outcomes of one frame are those of the polls with its transaction identifier.
+-- The outcomes that one frame gives are those of the polls with the frame's transaction identifier.
 by_one : (f : List ℕ) (ps : List Poll) → by_frame (f ∷ []) ps ≡ map (λ p. (p.number, answer p f)) (filter (λ p. is_for p f) ps)
 by_one f ps = append-nil _
 
@@ -81,7 +82,7 @@ Finds-nothing a buffered ps e =
       others_are = unmatched-nil ps;
     }
 
--- If the frames of a first chunk complete no poll, reading two chunks one after the other has the
+-- If the frames of a first chunk complete no poll, then reading two chunks one by one has the
 -- effect of reading both at once.
 pub Finds-then : (a p q : List ℕ) (mid buffered : Buffered) (ps qs : List Poll) (o : Option Poll) → Finds a p ps None mid ps → Finds mid.rest q ps o buffered qs → Finds a (p ++ q) ps o buffered qs
 Finds-then a p q mid buffered ps qs o first second =
@@ -99,14 +100,16 @@ Finds-then a p q mid buffered ps qs o first second =
 some_inj : {X : Type 0} (a b : X) → Some a ≡ Some b → a ≡ b
 some_inj a b e = cc
 
--- The frame that the reader returns completes the same poll as its buffered bytes.
+-- The frame that the frame reader returns completes the same poll as the bytes that the reader has
+-- buffered.
 pub FindsBy-lent : (buffered : Option (List ℕ)) (fields : Fields) (ps qs : List Poll) (o : Option Poll) → Some fields ≡ option_map fields_of buffered → AreApart ps → TakesOut (has_id fields.tid) ps o qs → (f : List ℕ) → buffered ≡ Some f → IsOwn f → FindsBy f ps o qs
 FindsBy-lent buffered fields ps qs o lent apart h f e own =
     let same : fields ≡ fields_of f = some_inj _ _ (lent ∙ ap (option_map fields_of) e) in
     let P : ℕ → Type 0 = λ id. TakesOut (has_id id) ps o qs in
     FindsBy-own f ps qs o own apart (subst P (ap (λ (x : Fields). x.tid) same) h)
 
--- The invariant of the feed loop: the bytes fed until now completed no poll.
+-- The invariant of the loop that feeds bytes to the frame reader: the bytes fed until now completed
+-- no poll.
 pub record Strays (old : List ℕ) (piece : List ℕ) (at : ℕ) (polls : List Poll) (buffered : Buffered) : Type 0 where
   pub within : at ≤ length piece
   pub apart : AreApart polls
@@ -118,7 +121,8 @@ piece-more at n piece = take-add at n piece ∙ ap (λ x. take at piece ++ take 
 abbrev slice_at : ℕ → List ℕ → List ℕ
 slice_at at piece = take (length piece - at) (drop at piece)
 
--- After one more call of `feed`, the loop invariant is true again, or the call completed a poll.
+-- After one more call of `feed`, the invariant of the feed loop (no poll was completed) is true
+-- again, or the call completed a poll.
 goes_on : (old piece : List ℕ) (at n : ℕ) (ps qs : List Poll) (o : Option Poll) (mid buffered : Buffered) → Strays old piece at ps mid → Finds mid.rest (take n (slice_at at piece)) ps o buffered qs → Finds old (take (at + n) piece) ps o buffered qs
 goes_on old piece at n ps qs o mid buffered strays more =
     let P : List ℕ → Type 0 = λ y. Finds old y ps o buffered qs in

@@ -23,8 +23,8 @@ none_lost : (c : LostCause) (ps : List Poll) → losses (Some c) ps ≡ [] → p
 none_lost c [] h = refl
 none_lost c (p ∷ ps) h = absurd (cc)
 
--- If a chunk ends a session, the chunk has an invalid length field: if a cause is computed from
--- `b`, then `b` is true.
+-- If a chunk of received bytes ends a session, then the chunk has an invalid length field, as the
+-- flag `b` says.
 lost_before : (b : Bool) (c : LostCause) → cond b (Some Garbled) None ≡ Some c → b ≡ true
 lost_before true c h = refl
 lost_before false c h = absurd (cc)

@@ -82,7 +82,7 @@ pending-push t es e =
     ∙ map-append (λ (r : Poll × Option Settlement). r.0) (filter (λ r. is_none r.1) (map (extend es e) old)) (filter (λ r. is_none r.1) new)
     ∙ ap (λ x. x ++ waiting new) (waiting-extend es e old)
 
--- A start appends its poll to the pending polls.
+-- The start of a poll appends the poll to the pending polls.
 pub pending-start : (t : ℕ) (es : List Event) (m n u : ℕ) (s : Span) (p : Poll) → started t es (Start m n u s) ≡ Some p → pending t (es ++ Start m n u s ∷ []) ≡ pending t es ++ p ∷ []
 unfolding settled_by
 pending-start t es m n u s p e =
@@ -124,8 +124,8 @@ not_started t es (Piece m b) h = refl
 not_started t es (Tick m) h = refl
 not_started t es (Close m c) h = refl
 
--- An event that is no start removes the polls that time out and the polls whose identifier a frame
--- has. If it ends the session, it removes all polls.
+-- An event other than the start of a poll removes the polls that time out, and the polls whose
+-- transaction identifier a frame has. If it ends the session, it removes all polls.
 pub pending-other : (t : ℕ) (es : List Event) (e : Event) → is_start e ≡ false → pending t (es ++ e ∷ []) ≡ if_going (ending_at es e) (unmatched (frames_at es e) (alive (moment_of e) (pending t es)))
 pending-other t es e other =
     pending-push t es e

@@ -1,4 +1,4 @@
--- Proves how many consecutive starts would succeed.
+-- Proves how many consecutive starts of polls would succeed.
 use Rattle.std.proofs.Common.{◌≡◌, ◌≢◌, ℕ, suc, ◌+◌, ◌-◌, ◌%◌, ◌<◌, ◌≤◌, Bool, ltb, true, false, not, ◌&&◌, ◌||◌, List, [], ◌∷◌, ◌++◌, length, refl, sym, ap, ◌∙◌, arith, inl, inr, Option, Some, None, leb, append_assoc, length-append, cond}
 use Rattle.std.specs.List.{list_any}
 use Rattle.std.specs.Prelude.{IsSome}
@@ -35,8 +35,8 @@ any-push : {X : Type 0} (t : X → Bool) (xs : List X) (x : X) → list_any t (x
 any-push t [] x = or_false (t x)
 any-push t (y ∷ xs) x = ap (λ b. t y || b) (any-push t xs x) ∙ or_assoc (t y) (list_any t xs) (t x)
 
--- The number of pending polls, the next identifier, and whether the session is over, after
--- consecutive starts.
+-- The number of pending polls, the next transaction identifier, and whether the session is over,
+-- after consecutive starts of polls.
 record Started (t : ℕ) (es starts : List Event) : Type 0 where
   count : length (pending t (es ++ starts)) ≡ length (pending t es) + length starts
   next : next_id (es ++ starts) ≡ (next_id es + length starts) % 65536
@@ -81,7 +81,7 @@ starts_add t es (Piece m b ∷ starts) h = absurd (let f : false ≡ true = h.0 
 starts_add t es (Tick m ∷ starts) h = absurd (let f : false ≡ true = h.0 in cc)
 starts_add t es (Close m c ∷ starts) h = absurd (let f : false ≡ true = h.0 in cc)
 
--- A pending poll keeps its transaction identifier after more starts.
+-- A pending poll keeps its transaction identifier after more polls are started.
 still_busy : (t : ℕ) (es starts : List Event) (id : ℕ) → AreStarts starts → list_any (has_id id) (pending t es) ≡ true → list_any (has_id id) (pending t (es ++ starts)) ≡ true
 still_busy t es [] id h busy = ap (λ xs. list_any (has_id id) (pending t xs)) (append-nil es) ∙ busy
 still_busy t es (Start m n u span ∷ starts) id h busy =
@@ -121,7 +121,7 @@ still_free t es (Close m c ∷ starts) id h others free = absurd (let f : false 
 apart_ids : (n j k : ℕ) → j < k → k < 65536 → (n + k) % 65536 ≢ (n + j) % 65536
 apart_ids n j k less few same = omega arith
 
--- A start that fits after the earlier starts is not refused.
+-- A start of a poll that fits in the limits after the earlier starts is not refused.
 fits_after : (t w m : ℕ) (es starts : List Event) → AreStarts starts → length starts < 65536 → start_fits w (pending t es) (next_id es) (is_over es) (length starts) ≡ true → last_moment (es ++ starts) ≤ m → start_fault t w (es ++ starts) m ≡ None
 fits_after t w m es starts h few fits late =
     let k = length starts in
@@ -183,7 +183,8 @@ ready_is t w es id count next few succeed no_more =
           after_full t w m es starts h e;
     }
 
--- `start_fits` has the same result for a session's state as for the events that led to the state.
+-- The test whether a start of a poll fits, `start_fits`, has the same result for a session's state
+-- as for the events before this state.
 fits_is : (s : State) (es : List Event) (k : ℕ) → Stands s es → start_fits s.window s.polls s.next (is_some s.ending) k ≡ start_fits s.window (pending s.timeout es) (next_id es) (is_over es) k
 fits_is s es k h =
     ap (λ ps. start_fits s.window ps s.next (is_some s.ending) k) h.polls

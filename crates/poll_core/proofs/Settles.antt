@@ -27,7 +27,7 @@ use Rattle.poll_core.specs.declared.outcome.Call.TheVariants as call
 use Rattle.poll_core.specs.declared.poll.SettledBy.TheVariants as by
 
 -- True if a session with these fields has reported some outcomes of the event and must still report
--- the others. It is the relation `Within`, stated over only the fields that it depends on.
+-- the others. This is the relation `Within`, reduced to the fields that it depends on.
 pub record Mid (t m n : ℕ) (r : List ℕ) (ps : List Poll) (x : Option LostCause) (es : List Event) (e : Event) (reported : List (ℕ × Settlement)) : Type 0 where
   pub last : m ≡ moment_of e
   pub next : n ≡ next_id (es ++ e ∷ [])
@@ -37,7 +37,8 @@ pub record Mid (t m n : ℕ) (r : List ℕ) (ps : List Poll) (x : Option LostCau
   pub none_after : is_closed es ≡ true → pending t es ≡ []
   pub buffered : x ≡ None → r ≡ rest (stream (es ++ e ∷ []))
 
--- The outcomes of an event that is no start: timeouts, responses by frame, and losses.
+-- The outcomes of an event that is not the start of a poll: timeouts, responses by frame, and
+-- losses.
 abbrev pub reported_at : ℕ → List Poll → List (List ℕ) → Option LostCause → List (ℕ × Settlement)
 reported_at m ps fs x = silences (filter (due m) ps) ++ by_frame fs (alive m ps) ++ losses x (unmatched fs (alive m ps))
 
@@ -80,7 +81,7 @@ last_moment-push [] e = refl
 last_moment-push (f ∷ []) e = refl
 last_moment-push (f ∷ g ∷ es) e = last_moment-push (g ∷ es) e
 
--- A session that reports an outcome continues to process the same event.
+-- A session that has just reported an outcome of an event continues to process the same event.
 pub tell : (t m n : ℕ) (r : List ℕ) (ps qs : List Poll) (x : Option LostCause) (es : List Event) (e : Event) (reported : List (ℕ × Settlement)) (taken : SettledPoll) (frame : Option (List ℕ)) → Mid t m n r ps x es e reported → ReportsOwed m x ps (Some taken) qs → Mid t m n r qs x es e (reported ++ reported_by taken frame ∷ [])
 tell t m n r ps qs x es e reported taken frame mid h =
     record {
@@ -149,7 +150,8 @@ is_over-closed : (es : List Event) → is_closed es ≡ true → is_over es ≡ 
 unfolding is_over
 is_over-closed es h = or_right _ _ h
 
--- An idle session before an event without bytes is processing that event, with no outcome reported.
+-- If an idle session gets an event without bytes, then it is processing this event, with no outcome
+-- reported yet.
 pub begin : (s : State) (es : List Event) (e : Event) → is_start e ≡ false → bytes_of e ≡ [] → Stands s es → Mid s.timeout (moment_of e) s.next s.reader.rest s.polls (option_or s.ending (closing_of e)) es e []
 begin s es e other none h =
     let m = moment_of e in
@@ -298,7 +300,8 @@ ending_at-garbled : (es : List Event) (m : ℕ) (p q : List ℕ) → is_garbled 
 unfolding ending_at
 ending_at-garbled es m p q g h = ap (λ b. cond (b && not (is_garbled (stream es))) (Some Garbled) None) (h ∙ sym g)
 
--- More bytes in a chunk change no outcome after an invalid length field or a close of the session.
+-- More bytes of a chunk change no outcome of a poll after an invalid length field or a close of the
+-- session.
 same_at : (one : OneReading) → (t m : ℕ) (p q : List ℕ) (es : List Event) → (is_closed es ≡ true → pending t es ≡ []) → (is_garbled (stream es ++ p) || is_closed es) ≡ true → (outcomes_at t es (Piece m (p ++ q)) ≡ outcomes_at t es (Piece m p)) × (pending t (es ++ Piece m (p ++ q) ∷ []) ≡ pending t (es ++ Piece m p ∷ [])) × ((is_garbled (stream es ++ (p ++ q)) || is_closed es) ≡ true)
 same_at one t m p q es none over =
     let e = Piece m p in
@@ -353,7 +356,7 @@ goes_with : (x : Option LostCause) (es : List Event) (e : Event) → is_some x �
 goes_with None es e h = closing_none (is_closed es) (closing_of e) (or_parts _ _ (sym (unfold_over es e) ∙ sym h)).1
 goes_with (Some c) es e h = refl
 
--- A session before a new or continued call for an event is processing that event.
+-- A session that is about to process an event in a new or repeated call is processing that event.
 pub enter : (s : State) (es : List Event) (e : Event) (reported : List (ℕ × Settlement)) → is_start e ≡ false → Before s es e reported → Mid s.timeout (moment_of e) s.next s.reader.rest s.polls (option_or s.ending (closing_of e)) es e reported
 enter s es e reported other (inl (stands, bare, none)) =
     let P : List (ℕ × Settlement) → Type 0 = λ y. Mid s.timeout (moment_of e) s.next s.reader.rest s.polls (option_or s.ending (closing_of e)) es e y in
@@ -372,13 +375,14 @@ enter s es e reported other (inr (settling, w)) =
       buffered = w.buffered;
     }
 
--- After a call that reports one more outcome, the session is still processing the same event.
+-- After a call that reports one more outcome of an event, the session is still processing the
+-- event.
 pub reported_more : (t m n w : ℕ) (r : Buffered) (ps : List Poll) (x : Option LostCause) (z : Option Call) (es : List Event) (e : Event) (reported : List (ℕ × Settlement)) → Mid t m n r.rest ps x es e reported → Within (record { timeout = t; window = w; last = m; next = n; reader = r; polls = ps; ending = x; settling = z }) es e reported
 reported_more t m n w r ps x z es e reported mid =
     record { last = mid.last; next = mid.next; whole = mid.whole; polls = mid.polls; over = mid.over; none_after = mid.none_after; buffered = mid.buffered }
 
--- After a call that only reports outcomes already due, the session is in a state that `After`
--- allows.
+-- After a call that only reports outcomes already due, the session is in a state that `After` (the
+-- state after a call) allows.
 pub settle : (t m n w : ℕ) (r : Buffered) (ps qs : List Poll) (x : Option LostCause) (call : Call) (taken : Option SettledPoll) (es : List Event) (e : Event) (reported : List (ℕ × Settlement)) → call_of e ≡ Some call → Mid t m n r.rest ps x es e reported → ReportsOwed m x ps taken qs → After (record { timeout = t; window = w; last = m; next = n; reader = r; polls = qs; ending = x; settling = call_if taken call }) es e reported (reported_of taken r.frame)
 settle t m n w r ps qs x call None es e reported by mid h = done t m n w r ps qs x es e reported mid h
 settle t m n w r ps qs x call (Some taken) es e reported by mid h =
@@ -397,7 +401,8 @@ pub closes : (s : State) (m : ℕ) (c : Closing) (qs : List Poll) (taken : Optio
 closes s m c qs taken h es reported b =
     settle s.timeout m s.next s.window s.reader s.polls qs (option_or s.ending (Some (cause_of c))) (call.Close c) taken es (Close m c) reported refl (enter s es (Close m c) reported refl b) h
 
--- A session before a new or continued call for a chunk is processing that chunk.
+-- A session that is about to process a chunk of bytes in a new or repeated call is processing that
+-- chunk.
 pub enters : (s : State) (m : ℕ) (p : List ℕ) (es : List Event) (reported : List (ℕ × Settlement)) → Before s es (Piece m p) reported → Mid s.timeout m s.next s.reader.rest s.polls s.ending es (Piece m p) reported
 enters s m p es reported b =
     let P : Option LostCause → Type 0 = λ y. Mid s.timeout m s.next s.reader.rest s.polls y es (Piece m p) reported in
@@ -437,8 +442,8 @@ piece_framed one s m n piece buffered qs rs poll g going h found bad clean es p 
     let mid' = subst P (ap garbled_end clean ∙ sym going) mid in
     (refl, reported_more s.timeout m s.next s.window buffered rs s.ending (Some call.Piece) es (Piece m (p ++ q)) (reported ++ reported_list (Some poll) buffered.frame) mid')
 
--- If no frame completed a poll, the call reports an outcome now due, or the chunk is processed
--- completely.
+-- If no frame completed a poll, the call reports a timeout or loss that is now due, or the chunk is
+-- processed completely.
 pub piece_ended : (one : OneReading) → (s : State) (m n k : ℕ) (piece : List ℕ) (buffered : Buffered) (qs rs us : List Poll) (g : Bool) (x : Option LostCause) (lost : Option SettledPoll) → s.ending ≡ None → ReportsOwed m s.ending s.polls None qs → Finds s.reader.rest (take n piece) qs None buffered rs → is_bad buffered.rest ≡ g → x ≡ garbled_end g → ReportsOwed m x rs lost us → n ≤ length piece → (g ≡ false → n ≡ length piece) → k ≡ cond (is_some lost) n (length piece) → (es : List Event) (p : List ℕ) (reported : List (ℕ × Settlement)) → Before s es (Piece m p) reported → After (record { timeout = s.timeout; window = s.window; last = m; next = s.next; reader = buffered; polls = us; ending = x; settling = call_if lost call.Piece }) es (Piece m (p ++ take k piece)) reported (reported_of lost buffered.frame)
 piece_ended one s m n k piece buffered qs rs us g x (Some taken) going h found bad x_is owes within all k_is es p reported b =
     let q = take n piece in

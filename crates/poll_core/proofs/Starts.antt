@@ -22,7 +22,7 @@ next_id-start es m n u span =
     let e : length (filter is_start (es ++ Start m n u span ∷ [])) ≡ k + 1 = ap length (filter-append is_start es (Start m n u span ∷ [])) ∙ length-append (filter is_start es) (Start m n u span ∷ []) in
     ap (λ x. x % 65536) e ∙ omega arith
 
--- A session that accepts a start has processed its earlier events and the start.
+-- A session that accepts the start of a poll has processed its earlier events and this start.
 pub starts : (s : State) (es : List Event) (m n u : ℕ) (span : Span) (poll : Poll) → Stands s es → s.ending ≡ None → poll ≡ record { number = n; id = s.next; unit = u; span = span; deadline = m + s.timeout } → Stands (record { timeout = s.timeout; window = s.window; last = m; next = (s.next + 1) % 65536; reader = s.reader; polls = s.polls ++ poll ∷ []; ending = s.ending; settling = s.settling }) (es ++ Start m n u span ∷ [])
 starts s es m n u span poll h going poll_is =
     let e = Start m n u span in
@@ -40,8 +40,8 @@ starts s es m n u span poll h going poll_is =
       buffered = λ _. h.buffered going ∙ ap rest (sym (stream-same es e refl));
     }
 
--- The fault of a start that `least_fault` computes from a session's state is the fault that
--- `start_fault` computes from the session's events.
+-- If a session refuses to start a poll, then `least_fault` computes the fault from the session's
+-- state. It is the fault that `start_fault` computes from the session's events.
 pub refused : (s : State) (es : List Event) (m : ℕ) (fault : Option StartFault) → fault ≡ least_fault s.window s.polls s.next s.last (is_some s.ending) m → Stands s es → fault ≡ start_fault s.timeout s.window es m
 refused s es m fault e h =
     e
@@ -72,7 +72,7 @@ any_none t (x ∷ xs) h =
     let both = or_parts _ _ h in
     cond-false _ _ _ both.0 ∙ any_none t xs both.1
 
--- A start completes no poll.
+-- The start of a poll completes no poll.
 pub nothing_reported : (t : ℕ) (es : List Event) (m n u : ℕ) (span : Span) → [] ≡ outcomes_at t es (Start m n u span)
 unfolding outcomes_at
 nothing_reported t es m n u span = refl

@@ -1,4 +1,4 @@
--- Lemmas about streams to which further bytes are appended.
+-- Lemmas about received byte streams to which further bytes are appended.
 use Rattle.std.proofs.Common.{◌≡◌, ℕ, ◌+◌, ◌≤◌, inl, inr, Bool, true, false, cond, not, ◌&&◌, List, [], ◌∷◌, ◌++◌, length, drop, refl, sym, ap, ◌∙◌, arith, append_assoc, length-append, Some}
 use Rattle.std.specs.List.{flat_map, AllByRecursion}
 use Rattle.std.proofs.lemmas.List.{append-nil, drop-append-le, get_or_append_left}
@@ -77,8 +77,8 @@ is_garbled-append one b q g =
     let bad : IsBad (rest b ++ q) = bad-append (rest b) q (bad_is (rest b) g) in
     ap is_bad (one.only (b ++ q) (frames b) (rest b ++ q) h).1 ∙ is_bad-bad _ bad
 
--- If the bytes after a stream's complete frames form the frames `gs` with new bytes, the longer
--- stream has its earlier frames followed by `gs`.
+-- Suppose that the bytes after a stream's complete frames form the frames `gs` together with new
+-- bytes. Then the longer stream has its earlier frames followed by `gs`.
 pub reads_on : (one : OneReading) → (b q : List ℕ) (gs : List (List ℕ)) (s : List ℕ) → Reads (rest b ++ q) gs s → Reads (b ++ q) (frames b ++ gs) s
 reads_on one b q gs s g =
     let h = one.exists b in

@@ -35,7 +35,7 @@ none_passes t (x ∷ xs) h =
     let others : filter t xs ≡ [] = sym (cond-false _ _ _ failing) ∙ h in
     ap (λ b. cond (not b) (x ∷ filter (λ y. not (t y)) xs) (filter (λ y. not (t y)) xs)) failing ∙ ap (λ ys. x ∷ ys) (none_passes t xs others)
 
--- If no poll is due and the session is not over, no outcome is left to report.
+-- If no poll is due and the session is not over, then the session has no outcome left to report.
 pub reports_none : (m : ℕ) (old new : List Poll) → TakesOut (due m) old None new → ReportsOwed m None old None new
 reports_none m old new h = (h.0, ap (λ ps. silences ps ++ []) h.1, none_passes (due m) old h.1, λ e. absurd (let f : false ≡ true = e in cc))
 

@@ -36,13 +36,13 @@ pub record IsSound (s : Inner) : Type 0 where
   pub room : length s.polls.items ≤ s.window
   pub apart : AreApart s.polls.items
 
--- The number and outcome of a removed poll, if there is one. `frame` is the frame in the session's
--- reader.
+-- The number and the outcome of a poll that was removed from the pending polls, if there is one.
+-- `frame` is the frame in the session's reader.
 abbrev pub reported_of : Option SettledPoll → Option (List ℕ) → Option (ℕ × Settlement)
 reported_of taken frame = option_map (λ t. reported_by t frame) taken
 
--- The effect of a step on the session: the bytes that it consumes and the outcome that it reports.
--- The outcome is computed from the frame in the session's reader.
+-- The effect of one step of a session: the bytes that the step consumes and the outcome that it
+-- reports. The outcome is computed from the frame in the session's reader.
 abbrev pub ReportsStep : State → State → (moment : ℕ) → (piece : List ℕ) → Step → Type 0
 ReportsStep old new moment piece step =
     ReportsPiece old new moment (take step.taken piece) (reported_of step.settled new.reader.frame)
@@ -52,8 +52,8 @@ ReportsStep old new moment piece step =
 abbrev pub ReportsTaken : State → State → Event → Option SettledPoll → Type 0
 ReportsTaken old new event taken = ReportsEvent old new event (reported_of taken new.reader.frame)
 
--- The call that must be repeated for further outcomes: `call` if it just reported the poll `taken`,
--- or `None` if it reported none. Each call reports at most one outcome.
+-- The kind of call that must be repeated for further outcomes: `call` if the call just reported the
+-- poll `taken`, or `None` if it reported none. Each call reports at most one outcome.
 abbrev pub call_if : Option SettledPoll → Call → Option Call
 call_if None call = None
 call_if (Some taken) call = Some call

@@ -18,13 +18,13 @@ with_outcome result = option_map (λ outcome. (result.0.number, outcome)) result
 abbrev pub outcomes_by_poll : ℕ → List Event → List (ℕ × Settlement)
 outcomes_by_poll timeout events = filter_map with_outcome (results timeout [] events)
 
--- The outcomes of the later events, event by event, after the events `before`.
+-- The outcomes of polls that the later events give after the events `before`, event by event.
 abbrev pub outcomes_after : ℕ → List Event → List Event → List (ℕ × Settlement)
 outcomes_after timeout before [] = []
 outcomes_after timeout before (event ∷ later) =
     outcomes_at timeout before event ++ outcomes_after timeout (before ++ event ∷ []) later
 
--- The outcomes of all events, event by event.
+-- The outcomes of polls that all events give, event by event.
 abbrev pub outcomes_by_event : ℕ → List Event → List (ℕ × Settlement)
 outcomes_by_event timeout events = outcomes_after timeout [] events
 

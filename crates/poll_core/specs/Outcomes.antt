@@ -1,4 +1,4 @@
--- The numbers of outcomes and of their causes, as the program prints them.
+-- The numbers under which the program prints the outcomes of polls and their causes.
 use Rattle.std.specs.Prelude.{ℕ}
 use Rattle.mb_wire.specs.declared.replies.ReplyFault.{ReplyFault}
 use Rattle.mb_wire.specs.declared.replies.ReplyFault.TheVariants as fault
@@ -26,7 +26,7 @@ cause_number cause.Garbled = 2
 cause_number cause.Failed = 3
 cause_number cause.Restart = 4
 
--- The number of each kind of outcome.
+-- The number of each kind of a poll's outcome.
 abbrev pub outcome_number : Outcome → ℕ
 outcome_number Answered = 1
 outcome_number (Exception code) = 2
@@ -34,8 +34,8 @@ outcome_number Silent = 3
 outcome_number (Malformed wrong) = 4
 outcome_number (Lost why) = 5
 
--- The second number of an outcome: its exception code, or the number of its malformation or cause.
--- Other outcomes have 0.
+-- The second number that is printed for a poll's outcome: its exception code, or the number of its
+-- malformation or cause. Other outcomes have 0.
 abbrev pub outcome_code : Outcome → ℕ
 outcome_code Answered = 0
 outcome_code (Exception code) = code

@@ -46,9 +46,11 @@ abbrev pub IsCall : Call → State → ℕ → Type 0
 IsCall call session moment =
     (session.settling ≡ None) ⊎ ((session.settling ≡ Some call) × (session.last ≡ moment))
 
--- The effect of a call that processes an event, or more bytes of a chunk. `before` and `after`
--- build the event before and after the call from the bytes consumed earlier. If the call reports an
--- outcome, fewer polls are pending.
+-- The effect on a session of a call that processes an event, or more bytes of a chunk. From the
+-- bytes consumed earlier, `before` builds the event before the call, and `after` the event after
+-- it.
+--
+-- If the call reports an outcome, fewer polls are pending.
 pub record ReportsOfCall (old new : State) (before after : List ℕ → Event)
     (settled : Option (ℕ × Settlement)) : Type 0 where
   pub timeout : new.timeout ≡ old.timeout
@@ -59,16 +61,18 @@ pub record ReportsOfCall (old new : State) (before after : List ℕ → Event)
   pub reported : (events : List Event) (bytes : List ℕ) (reported : List (ℕ × Settlement))
       → Before old events (before bytes) reported → After new events (after bytes) reported settled
 
--- The effect of a call of `next` at the time `moment` that consumes the bytes `taken` of a chunk.
+-- The effect on a session of a call of `next` (which processes received bytes) at the time
+-- `moment`. The call consumes the bytes `taken` of a chunk.
 abbrev pub ReportsPiece : State → State → ℕ → List ℕ → Option (ℕ × Settlement) → Type 0
 ReportsPiece old new moment taken =
     ReportsOfCall old new (λ bytes. Piece moment bytes) (λ bytes. Piece moment (bytes ++ taken))
 
--- The effect of a call that processes this event.
+-- The effect on a session of a call that processes this event.
 abbrev pub ReportsEvent : State → State → Event → Option (ℕ × Settlement) → Type 0
 ReportsEvent old new event = ReportsOfCall old new (λ _. event) (λ _. event)
 
--- True if the call consumes bytes of the chunk, or returns `ClockBack` and changes nothing.
+-- True if the call consumes bytes of the received chunk, or returns `ClockBack` (the time is too
+-- early) and changes nothing.
 abbrev pub TakesPiece : State → (moment : ℕ) → (piece : List ℕ) → Result Turn ClockBack → State
     → Type 0
 TakesPiece old moment piece result new =
@@ -76,7 +80,8 @@ TakesPiece old moment piece result new =
     × IfOk result (λ turn. ReportsPiece old new moment (take turn.taken piece)
     (option_map settled_of turn.settled))
 
--- True if the call processes the event, or returns `ClockBack` and changes nothing.
+-- True if the call processes the event, or returns `ClockBack` (the time is too early) and changes
+-- nothing.
 abbrev pub TakesEvent : State → Event → Result (Option Settled) ClockBack → State → Type 0
 TakesEvent old event result new =
     OnErr result (new ≡ old)

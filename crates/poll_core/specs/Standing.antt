@@ -47,7 +47,8 @@ pub record Stands (session : State) (events : List Event) : Type 0 where
   pub over : is_some session.ending ≡ is_over events
   -- No poll is pending once the session is over.
   pub none_after : is_over events ≡ true → pending session.timeout events ≡ []
-  -- Until the session ends, its reader has buffered the incomplete frame at the end of the stream.
+  -- Until the session ends, its frame reader has buffered the incomplete frame at the end of the
+  -- received bytes.
   pub buffered : session.ending ≡ None → session.reader.rest ≡ rest (stream events)
 
 -- The outcomes that a session must still report for a list of polls: timeouts, and losses of the
@@ -56,7 +57,8 @@ abbrev pub owed_by : ℕ → Option LostCause → List Poll → List (ℕ × Set
 owed_by moment ending polls =
     silences (filter (due moment) polls) ++ losses ending (alive moment polls)
 
--- The outcomes that a session must still report.
+-- The outcomes of polls that a session must still report: timeouts, and losses if the session
+-- ended.
 abbrev pub owed : State → List (ℕ × Settlement)
 owed session = owed_by session.last session.ending session.polls
 
@@ -78,22 +80,22 @@ pub record Within (session : State) (events : List Event) (event : Event)
   pub none_after : is_closed events ≡ true → pending session.timeout events ≡ []
   pub buffered : session.ending ≡ None → session.reader.rest ≡ rest (stream (events ++ event ∷ []))
 
--- The kind of call that processes the event, or `None` for a start.
+-- The kind of call that processes the event, or `None` for the start of a poll.
 abbrev pub call_of : Event → Option Call
 call_of (Start moment poll unit span) = None
 call_of (Piece moment bytes) = Some call.Piece
 call_of (Tick moment) = Some call.Tick
 call_of (Close moment closing) = Some (call.Close closing)
 
--- The state of a session before a call for this event: the event is new, or the call continues
--- after the outcomes `reported`.
+-- The state of a session before a call for this event. Either the event is new, or the session
+-- continues the event after it has reported the outcomes `reported`.
 abbrev pub Before : State → List Event → Event → List (ℕ × Settlement) → Type 0
 Before session events event reported =
     (Stands session events × (bytes_of event ≡ []) × (reported ≡ []))
     ⊎ ((session.settling ≡ call_of event) × Within session events event reported)
 
--- The state of a session after a call for this event: it reported one more outcome, or all outcomes
--- had been reported.
+-- The state of a session after a call for this event. Either the call reported one more outcome, or
+-- all outcomes had been reported.
 abbrev pub After : State → List Event → Event → List (ℕ × Settlement) → Option (ℕ × Settlement)
     → Type 0
 After session events event reported None =
@@ -102,20 +104,20 @@ After session events event reported (Some settled) =
     (session.settling ≡ call_of event) × Within session events event (reported ++ settled ∷ [])
 
 -- True if, after a successful call of `start`, the session has processed its earlier events and the
--- start.
+-- start of the poll.
 abbrev pub StartsOn : {X E : Type 0} → Result X E → (old new : State) → Event → Type 0
 StartsOn result old new start =
     (events : List Event) → Stands old events → OnOk result (After new events start [] None)
 
--- True if a call for the event leads from each state that `Before` allows to a state that `After`
--- allows.
+-- True if the call for the event leads from each state that is possible before it to a state that
+-- is possible after it.
 abbrev pub StepsOn : (old new : State) → Event → Option (ℕ × Settlement) → Type 0
 StepsOn old new event settled =
     (events : List Event) (reported : List (ℕ × Settlement)) →
     Before old events event reported → After new events event reported settled
 
--- True if a call that consumes bytes of a received chunk leads from each state that `Before` allows
--- to a state that `After` allows.
+-- True if a call that consumes bytes of a received chunk leads from each state possible before it
+-- to a state possible after it.
 abbrev pub TakesOn : (old new : State) → (moment : ℕ) → (taken : List ℕ)
     → Option (ℕ × Settlement) → Type 0
 TakesOn old new moment taken settled =

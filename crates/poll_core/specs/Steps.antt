@@ -41,8 +41,8 @@ outcome_by poll by.Silence frame = Silent
 outcome_by poll by.Frame frame = answer poll (unwrap_or frame [])
 outcome_by poll (by.End cause) frame = Lost cause
 
--- True if the session's reader has a frame, or no frame is needed for the outcome. Only the outcome
--- of a poll that a frame completed is decoded from that frame.
+-- True if the session's reader has a frame, or the removed poll was not completed by a frame. Only
+-- the outcome of a poll that a frame completed is decoded from that frame.
 abbrev pub HasFrame : SettledBy → Option (List ℕ) → Type 0
 HasFrame by.Silence frame = Unit {0}
 HasFrame by.Frame frame = IsSome frame
@@ -58,8 +58,8 @@ CanTell (Some taken) frame = HasFrame taken.by frame
 abbrev pub reported_by : SettledPoll → Option (List ℕ) → ℕ × Settlement
 reported_by taken frame = (taken.poll.number, outcome_by taken.poll taken.by frame)
 
--- True if the session reported the next outcome due and removed its poll. If no outcome was due,
--- nothing changes.
+-- True if the session reported the next timeout or loss that is due, and removed its poll. If none
+-- was due, nothing changes.
 abbrev pub ReportsOwed : ℕ → Option LostCause → List Poll → Option SettledPoll → List Poll → Type 0
 ReportsOwed moment ending old None new =
     (new ≡ old) × (owed_by moment ending old ≡ []) × (alive moment old ≡ old)

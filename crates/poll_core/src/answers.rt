@@ -11,16 +11,16 @@ pub struct Settled<'a> {
     pub reply: Option<Reply<'a>>,
 }
 
-/// The result of `next`: the number of bytes that the call consumed, and the completed poll, if
-/// any.
+/// The result of `next`, which processes received bytes: the number of bytes that the call
+/// consumed, and the completed poll, if any.
 #[derive(Drop)]
 pub struct Turn<'a> {
     pub taken: usize,
     pub settled: Option<Settled<'a>>,
 }
 
-/// The next transaction identifier, and the number of consecutive starts that would succeed, at
-/// times not before the session's latest time.
+/// The next transaction identifier, and the number of consecutive starts of polls that would
+/// succeed, at times not before the session's latest time.
 #[derive(Clone, Copy, PartialEq, Eq)]
 pub struct Ready {
     pub id: u16,

@@ -1,7 +1,8 @@
 //! The private fields of a polling session, and the steps of the session's calls.
 //!
 //! Contracts of `Session` mention only a model of the session, and its calls return borrowed
-//! frames. Contracts of the steps mention the private fields, and no step returns a borrowed frame.
+//! frames. Contracts of the private steps mention the private fields, and no step returns a
+//! borrowed frame.
 ghost use Rattle.std.specs.Prelude.{◌≡◌, ◌+◌, ◌≤◌, ◌<◌, List, length, take, is_some, true, false};
 ghost use Rattle.std.specs.Prelude.{if◌then◌else◌, OnOk, OnErr, IfOk};
 ghost use Rattle.std.specs.Result.{result_err};
@@ -52,8 +53,8 @@ fn write_request(id: u16, unit: u8, span: ReadSpan, out: &mut [u8; MAX_ADU]) -> 
     write_frame(id, unit, &pdu[..count], out)
 }
 
-// Returns `call` if it just reported a completed poll, because the caller must repeat it for
-// further polls. Returns `None` if it reported none, because the call is then complete.
+// Returns `call` if the call just reported a completed poll, because the caller must repeat the
+// call for further polls. Returns `None` if it reported none, because the call is then complete.
 fn call_while(taken: &Option<SettledPoll>, call: Call) -> Option<Call>
     ensures { result ≡ call_if taken.now call }
 {
@@ -128,8 +129,8 @@ impl Inner {
         Ok(size)
     }
 
-    /// Returns the number of consecutive starts that are now possible, at times not before the
-    /// session's latest time.
+    /// Returns the number of consecutive starts of polls that are now possible, at times not before
+    /// the session's latest time.
     pub fn room(&self) -> usize
         requires { IsSound self.now }
         ensures few { result ≤ self.now.window }

@@ -78,8 +78,8 @@ impl Session {
         self.inner.settling.is_some()
     }
 
-    /// Returns the next transaction identifier, and the number of consecutive starts that would
-    /// succeed, at times not before the session's latest time.
+    /// Returns the next transaction identifier, and the number of consecutive starts of polls that
+    /// would succeed, at times not before the session's latest time.
     pub fn ready(&self) -> Ready
         ensures id { result.id ≡ self.now.next }
         ensures room { HasRoom self.now result.count }

@@ -126,8 +126,8 @@ fn take_framed(reader: &FrameReader, polls: &mut Table) -> Option<PendingPoll>
     take_by_id(polls, frame.tid)
 }
 
-/// The result of `feed_until`: the number of bytes consumed, whether they end with an invalid
-/// length field, and the poll that a frame completed, if any.
+/// The result of `feed_until`: the number of bytes consumed, whether these bytes end with an
+/// invalid length field, and the poll that a frame completed, if any.
 #[derive(Drop)]
 pub struct Found {
     pub taken: usize,

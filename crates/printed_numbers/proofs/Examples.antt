@@ -1,5 +1,5 @@
--- Examples of `has_number` and `kind_named`: the first and the last number of each kind of printed
--- numbers, and the numbers just outside each range.
+-- Examples of the lookups of printed numbers: the first and the last number of each kind, and the
+-- numbers just outside each range.
 use Rattle.std.proofs.Common.{◌≡◌, Some, None, true, false, refl, codes}
 use Rattle.printed_numbers.specs.Kinds.{kind_named}
 use Rattle.printed_numbers.specs.Numbers.{has_number}
@@ -92,7 +92,7 @@ http_fault_405 : has_number HttpFault 405 ≡ true
 http_fault_405 = refl
 
 -- The body of an HTTP response with status 422 has the number of a refusal, or the faults of a
--- list. So 422 is no HTTP fault.
+-- point list (CSV). So 422 is no HTTP fault.
 no_http_fault_422 : has_number HttpFault 422 ≡ false
 no_http_fault_422 = refl
 

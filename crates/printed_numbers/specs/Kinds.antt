@@ -23,6 +23,6 @@ abbrev pub kinds : List Kind
 kinds =
     Refused ∷ Held ∷ Lost ∷ Malformed ∷ Exception ∷ RowFault ∷ ChainFault ∷ HttpFault ∷ Status ∷ []
 
--- The first kind in `kinds` that has the given word.
+-- The first kind of printed numbers in `kinds` that has the given word.
 abbrev pub kind_named : List ℕ → Option Kind
 kind_named word = find (λ kind. bytes_eq word (word_of kind)) kinds

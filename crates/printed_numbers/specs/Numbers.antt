@@ -19,7 +19,8 @@ is_fault_status number =
     number == 400 || is_from 403 405 number || number == 411 || number == 413 || number == 421
     || number == 431 || number == 503
 
--- True if the program prints the given number for the given kind, as 1 to 17 for `Refused`.
+-- True if the program prints the given number for the given kind: for example, the numbers 1 to 17
+-- for `Refused`.
 abbrev pub has_number : Kind → ℕ → Bool
 has_number Refused number = is_from 1 17 number
 has_number Held number = is_from 1 8 number
@@ -31,12 +32,12 @@ has_number ChainFault number = is_from 1 4 number
 has_number HttpFault number = is_fault_status number
 has_number Status number = nat_le number 3
 
--- States that a meaning explains the given number of the given kind.
+-- States that a meaning explains the given printed number of the given kind.
 abbrev pub IsMeaningOf : Kind → ℕ → Bor Meaning → Type 0
 IsMeaningOf kind number meaning = (meaning.now.kind ≡ kind) × (meaning.now.number ≡ number)
 
--- States that a lookup returns the meaning of the given number if the kind has the number, and
--- otherwise `None`.
+-- States that a lookup returns the meaning of the given number if the number is of the given kind,
+-- and otherwise `None`.
 abbrev pub Answers : Kind → ℕ → Option (Bor Meaning) → Type 0
 Answers kind number result =
     (is_some result ≡ has_number kind number) × IfSome result (IsMeaningOf kind number)

@@ -15,9 +15,10 @@ pub enum Kind {
     Malformed,
     /// `poll 7 exception 2`: the device responded with an exception instead of registers.
     Exception,
-    /// `row 3 fault 7`: row 3 of a point list describes no valid point.
+    /// `row 3 fault 7`: row 3 of a point list (the CSV text of the registers to poll) describes no
+    /// valid point.
     RowFault,
-    /// `fault 2 40070`: the chain of SunSpec models in a device lacks the word at address 40070.
+    /// `fault 2 40070`: a device's chain of SunSpec models has no word at address 40070.
     ChainFault,
     /// `{"fault":404}`: the server rejected an HTTP request.
     HttpFault,
@@ -37,7 +38,8 @@ static KINDS: [Kind; 9] = [
     Kind::Status,
 ];
 
-/// Returns all kinds of printed numbers, in the order in which `kind_named` searches them.
+/// Returns all kinds of printed numbers, in the order in which `kind_named` searches them for a
+/// word.
 pub fn kinds() -> &'static [Kind]
     ensures { result.now ≡ kinds }
 {
@@ -47,7 +49,7 @@ pub fn kinds() -> &'static [Kind]
 impl Kind {
     ghost use Rattle.printed_numbers.specs.Kinds.{word_of};
 
-    /// Returns the word that the program prints before a number of this kind, as `refused` in
+    /// Returns the word that the program prints before a number of this kind, such as `refused` in
     /// `refused 12`.
     pub fn word(self) -> &'static str
         ensures { result.now ≡ word_of self }
@@ -64,8 +66,8 @@ impl Kind {
     }
 }
 
-/// Returns the first kind in `kinds` that has the given word. Three kinds have the word `fault`;
-/// the first of the three is `RowFault`.
+/// Returns the first kind of printed numbers in `kinds` that has the given word. Three kinds have
+/// the word `fault`; the first of the three is `RowFault`.
 pub fn kind_named(word: &str) -> Option<Kind>
     ensures { result ≡ kind_named word.now }
 {

@@ -18,7 +18,7 @@ pub struct Meaning {
     pub remedy: &'static str,
 }
 
-/// Returns the meaning of a printed number, or `None` if the kind lacks the number.
+/// Returns the meaning of a printed number, or `None` if the kind does not have the number.
 pub fn meaning_of(kind: Kind, number: u32) -> Option<&'static Meaning>
     ensures has { is_some result ≡ has_number kind number }
     ensures own { IfSome result (IsMeaningOf kind number) }

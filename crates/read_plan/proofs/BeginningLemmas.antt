@@ -1,5 +1,5 @@
 -- Lemmas about the items (ranges that one read must contain) at which reads start. The next item in
--- order is within 125 registers from the start of the last read, or starts a new read.
+-- order is within 125 registers from the start of the last read, or a new read starts at the item.
 use Rattle.std.proofs.Common.{◌≡◌, ◌∙◌, ℕ, ◌+◌, ◌-◌, ◌<◌, ◌≤◌, ◌⊎◌, List, [], ◌∷◌, ◌++◌, length, get_or, take, sym, refl, ap, arith, inl, inr, subst}
 use Rattle.std.specs.List.{AllPairs, Any, Contains}
 use Rattle.std.proofs.lemmas.Bool.{cases_lt, cases_eq}
@@ -56,7 +56,7 @@ same-between a l x (inr (inr h)) never s = h.0
 pub not-before : (a x : Run) → ¬ ComesBefore x a → SameArea a x → a.first ≤ x.first
 not-before a x never s = elim (cases_lt x.first a.first) [ inl l ↦ absurd (never (inr (inr (same_area-sym a x s, l)))) | inr ge ↦ ge ]
 
--- In a sorted list, an element comes before none of the elements in front of it.
+-- In a sorted list, no element comes before an element in front of it.
 pub in-front : (sorted : List Run) (n : ℕ) (x : Run) → n < length sorted → x ≡ get_or sorted n x → AllPairs (λ a b. ¬ ComesBefore b a) sorted
     → (a : Run) → Contains (take n sorted) a → ¬ ComesBefore x a
 in-front sorted n x within is ordered a w less =

@@ -90,7 +90,8 @@ ends-before-further l x y (inr (inr h)) never =
       ]
     ]
 
--- In a list sorted by ends, the ranges that end at or before a limit come first.
+-- In a list of ranges sorted by their ends, the ranges that end at or before a limit are the first
+-- elements.
 pub ends-partitioned : (ended : List Run) (limit : Run) → AllPairs (λ a b. ¬ EndsBefore b a) ended → IsPartitionedBy (λ r. ends_by r limit) ended
 ends-partitioned ended limit ordered i j d below within e = elim (cases_eq i j) [
   | inl same ↦ ap (λ (k : ℕ). ends_by (get_or ended k d) limit) same ∙ e
@@ -122,8 +123,8 @@ area-between b i l s after before =
       ]
     ]
 
--- The last item that ends at or before the limit has the greatest end within 125 registers from the
--- start of the read.
+-- In items sorted by their ends, the last item that ends at or before the limit has the greatest
+-- end. The limit is 125 registers after the start of the read.
 pub greatest-end : (ended : List Run) (begin limit : Run) (count : ℕ) → AllPairs (λ a b. ¬ EndsBefore b a) ended → SameArea begin limit → limit.end ≡ begin.first + 125
     → Contains ended begin → begin.end ≤ begin.first + 125 → count ≤ length ended
     → IsPartitionPoint (λ r. ends_by r limit ≡ true) (λ r. ends_by r limit ≡ false) ended count

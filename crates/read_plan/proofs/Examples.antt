@@ -1,4 +1,4 @@
--- Checks the definitions by example plans, and at both limits of a read's size.
+-- Checks the definition of a read plan by example plans, and at both limits of a read's size.
 use native.Mathlib.Omega.{arith}
 use Rattle.std.proofs.Common.{◌≡◌, ℕ, zero, suc, ◌<◌, ◌≤◌, List, [], ◌∷◌, get_or, take, refl, ap, inl, inr}
 use Rattle.std.specs.List.{All, AllPairs}
@@ -6,7 +6,7 @@ use Rattle.mb_wire.specs.declared.span.ReadFunction.TheVariants.{HoldingRegister
 use Rattle.read_plan.specs.declared.run.Run.{Run}
 use Rattle.read_plan.specs.Plans.{SameArea, Holds, IsContained, IsReadable, LiesWithinReach, ComesBefore, BeginsAtFirstUnheld, EndsAtLastInReach, FollowsRule}
 
--- A range of holding registers with area number 0.
+-- An example range of holding registers, with area number 0.
 abbrev run : (first end : ℕ) → Run
 run first end = record { function = HoldingRegisters; area = 0; first = first; end = end }
 

@@ -1,5 +1,5 @@
--- Proves that each item of a point list (the registers of a point and its scale point) fits in one
--- read and lies within the registers of its area.
+-- Proves that each item of a point list fits in one read and lies within the registers of its area.
+-- An item is the range of a point and its scale factor.
 use Rattle.std.proofs.Common.{◌≡◌, ◌∙◌, ℕ, suc, [], ◌∷◌, ◌<◌, ◌≤◌, Bool, List, length, map, get_or, sym, refl, ap, arith, inl, inr, subst, Some, None, IsSomeAnd}
 use Rattle.std.specs.declared.option.Option.{Option}
 use Rattle.std.specs.List.{All, Any, Contains, find}

@@ -1,4 +1,5 @@
--- Proves that a point list has at most one plan by the planning rule.
+-- Proves that a point list has at most one plan by the planning rule: each read begins at the first
+-- uncovered register and covers as much as possible.
 use Rattle.std.proofs.Common.{◌≡◌, ◌∙◌, ℕ, ◌+◌, ◌≤◌, List, [], ◌∷◌, refl, ap, subst, arith}
 use Rattle.std.proofs.Math.Bridge.{le_prop}
 use Rattle.mb_wire.specs.declared.span.ReadFunction.{ReadFunction}
@@ -19,7 +20,7 @@ one_bound m n p q = le_prop p q
 abbrev span_of : (f : ReadFunction) (a c : ℕ) → 1 ≤ c → c ≤ 125 → a + c ≤ 65536 → ReadSpan
 span_of f a c s w i = record { function = f; address = a; count = c; some = s; few = w; inside = i }
 
--- True if the span has this function, this address and this register count.
+-- True if the range of registers has this function, this address and this register count.
 abbrev IsSpan : (x : ReadSpan) (f : ReadFunction) (a c : ℕ) → Type 0
 IsSpan x f a c = (s : 1 ≤ c) (w : c ≤ 125) (i : a + c ≤ 65536) → x ≡ span_of f a c s w i
 

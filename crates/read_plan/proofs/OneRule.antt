@@ -1,4 +1,5 @@
--- Proves that two lists of reads that follow the planning rule for the same items are equal.
+-- Proves that the planning rule allows only one list of reads. By the rule, each read begins at the
+-- first uncovered register and covers as much as possible.
 use Rattle.std.proofs.Common.{◌≡◌, ◌∙◌, ℕ, zero, suc, ◌+◌, ◌<◌, ◌≤◌, List, [], ◌∷◌, ◌++◌, length, get_or, take, sym, refl, ap, subst, arith, inl, inr}
 use Rattle.std.specs.List.{All, AllPairs}
 use Rattle.std.proofs.lemmas.Bool.{cases_lt}
@@ -15,8 +16,8 @@ use Rattle.read_plan.proofs.PlanLemmas.{any-take, same_area-sym, same_area-trans
 same_function : (a b : Run) → a.function ≡ b.function → code_of a.function ≡ code_of b.function
 same_function a b same = ap code_of same
 
--- If a read comes after the first register of an item, in the order of a plan, the read does not
--- contain the item.
+-- If a read begins after the first register of an item (a range that one read must contain), then
+-- the read does not contain the item.
 too_late : (x r item : Run) → SameArea x item → item.first ≡ x.first → ComesBefore x r → Holds r item → ⊥
 too_late x r item same first (inl lt) holds =
     omega (arith, same_function x item same.function, same_function r item holds.same_area.function, lt)
@@ -34,7 +35,7 @@ after_both x y r (inr (inr a)) (inl b) = inl (omega (arith, same_function x y a.
 after_both x y r (inr (inr a)) (inr (inl b)) = inr (inl (a.0.function ∙ b.0, omega (arith, a.0.area, b.1)))
 after_both x y r (inr (inr a)) (inr (inr b)) = inr (inr (same_area-trans x y r a.0 b.0, omega (arith, a.1, b.1)))
 
--- In a sorted list, a range before one read is before each later read.
+-- In a sorted list of reads, a range that comes before one read comes before each later read.
 before_later : (ys : List Run) (x : Run) (k j : ℕ) (d : Run) → AllPairs ComesBefore ys → k ≤ j → j < length ys
     → ComesBefore x (get_or ys k d) → ComesBefore x (get_or ys j d)
 before_later ys x k j d ordered le lt before =
@@ -43,14 +44,14 @@ before_later ys x k j d ordered le lt before =
       | inr ge ↦ subst (λ (n : ℕ). ComesBefore x (get_or ys n d)) (omega (arith, le, ge)) before
     ]
 
--- If each item of a list is contained in a read, any single item of the list is contained in a
+-- If each item of a list is contained in a read, then any single item of the list is contained in a
 -- read.
 contained_item : (reads items : List Run) (item : Run) (k : ℕ) → All (IsContained reads) items → k < length items → get_or items k item ≡ item
     → IsContained reads item
 contained_item reads items item k all lt is = subst (IsContained reads) is (all k item lt)
 
--- If two plans follow the planning rule and have the same first `k` reads, the next read of one
--- plan does not come before the next read of the other.
+-- Suppose that two plans by the planning rule have the same first `k` reads. Then the next read of
+-- one plan does not come before that of the other.
 not_before : (items xs ys : List Run) (k : ℕ) (d : Run) → FollowsRule items xs → FollowsRule items ys → k < length xs → k < length ys
     → take k xs ≡ take k ys → ComesBefore (get_or xs k d) (get_or ys k d) → ⊥
 not_before items xs ys k d hx hy there here same before =
@@ -118,7 +119,8 @@ same_front items xs ys (suc k) hx hy there here =
     ∙ ap (λ (r : Run). take k ys ++ r ∷ []) (same_read items xs ys k a_run hx hy in_xs in_ys same)
     ∙ sym (take_more ys k a_run in_ys) ∙ ap (λ n. take n ys) next
 
--- If two plans follow the planning rule for the same items, neither has fewer reads.
+-- If two plans by the planning rule cover the same items (register ranges), then neither plan has
+-- fewer reads.
 no_longer : (items xs ys : List Run) → FollowsRule items xs → FollowsRule items ys → length xs < length ys → ⊥
 no_longer items xs ys hx hy less =
     let n : ℕ = length xs in

@@ -1,4 +1,4 @@
--- Lemmas about lists sorted by function, area number and a register.
+-- Lemmas about register ranges sorted by function, area number and register.
 use Rattle.std.proofs.Common.{◌≡◌, ℕ, ◌<◌, ◌⊎◌, true, false, List, length, get_or, sym, refl, arith, inl, inr, Bor, Ordering}
 use Rattle.std.specs.Cmp.{IsTotalOrder, nat_cmp_is}
 use Rattle.std.specs.Fn.{Called, ComputesKey}
@@ -15,7 +15,7 @@ use denote.Param.Members.{Mut}
 abbrev pub Key : Type 0
 Key = ℕ × ℕ × ℕ
 
--- The lexicographic comparison of two keys of three numbers.
+-- The lexicographic comparison of two keys, each of three numbers.
 abbrev pub key_cmp : Key → Key → Ordering
 key_cmp x y = ordering_then (ordering_then (nat_cmp x.0 y.0) (nat_cmp x.1 y.1)) (nat_cmp x.2 y.2)
 

@@ -60,7 +60,7 @@ module _ (items runs : List Run) (rule : FollowsRule items runs) (readable : All
           let b = e.1 in
           inr (inr (same_area-trans (run_at i) (run_at j) x c.0 e.0, omega (arith, rises, b)))
 
-  -- The search result is the first read that contains the item.
+  -- The binary search returns the first read that contains the item (a range of registers).
   first-holding : (x : Run) (count : ℕ) → IsContained runs x → ((k : ℕ) → k < count → k < length runs → EndsBefore (run_at k) x)
       → ((k : ℕ) → count ≤ k → k < length runs → ¬ EndsBefore (run_at k) x) → IsFirstHolding runs x count
   first-holding x count contained before after =
@@ -143,7 +143,8 @@ module _ (items : List Run) (reads : List PlannedRead) (rule : FollowsRule items
           let inside : k < length reads = omega (arith, within, size) in
           ends-not (get_or reads k d) (point.1 k d above inside) (subst (λ (r : Run). EndsBefore r x) (at-run k d inside) ends))
 
--- The properties of the read and the offset that a search finds for a point.
+-- The properties of the search result for a point: the read that contains the point, and the
+-- point's offset in this read.
 pub record PlaceFacts (plan : Planned) (point count : ℕ) (x : Run) : Type 0 where
   pub read_within : count < length plan.reads
   pub point_within : point < length plan.starts

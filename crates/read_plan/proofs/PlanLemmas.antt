@@ -1,4 +1,5 @@
--- Proves that the plan that follows the planning rule has the fewest reads of all valid plans.
+-- Proves that the planning rule gives the fewest reads of all valid plans. By the rule, each read
+-- begins at the first uncovered register and covers as much as possible.
 use Rattle.std.proofs.Common.{◌≡◌, ◌∙◌, ℕ, ◌<◌, ◌≤◌, List, length, get_or, take, sym, ap, arith, inl, inr, subst}
 use Rattle.std.specs.List.{All, Any, Contains}
 use Rattle.std.proofs.lemmas.List.{get_or-take, get_or_default, length-take-le}
@@ -17,8 +18,8 @@ same_area-sym a b s = record { function = sym s.function; area = sym s.area }
 pub same_area-trans : (a b c : Run) → SameArea a b → SameArea b c → SameArea a c
 same_area-trans a b c s t = record { function = s.function ∙ t.function; area = s.area ∙ t.area }
 
--- If an element of a list has a property, each front part that includes it has an element with the
--- property.
+-- If an element of a list has a property, then each prefix of the list that includes this element
+-- has an element with the property.
 pub any-take : {X : Type 0} (P : X → Type 0) (xs : List X) (k j : ℕ) (d : X) → j < k → k ≤ length xs → P (get_or xs j d) → Any P (take k xs)
 any-take {X} P xs k j d below within p =
     let inside : j < length xs = omega (arith, below, within) in (
@@ -35,7 +36,7 @@ first-before a b (inl f) s = let e = ap code_of s.function in absurd (omega (ari
 first-before a b (inr (inl h)) s = let e = s.area in absurd (omega (arith, e, h.1))
 first-before a b (inr (inr h)) s = h.1
 
--- A property of all elements of a list is a property of each value in the list.
+-- If all elements of a list have a property, then each value in the list has the property.
 pub all-at : {X : Type 0} (P : X → Type 0) (xs : List X) → All P xs → (x : X) → Contains xs x → P x
 all-at {X} P xs all x w = subst P w.2 (all w.0 x w.1)
 

@@ -42,8 +42,8 @@ module _ (items begins reads : List Run) (readable : All IsReadable items) (from
   abbrev read_at : ℕ → Run
   read_at k = get_or reads k anything
 
-  -- An item that begins before the start of a read in its area lies within 125 registers from the
-  -- start of an earlier read.
+  -- If an item begins before the start of a read in its area, then the item lies within 125
+  -- registers from the start of an earlier read.
   earlier : (x : Run) (k : ℕ) → k < length begins → SameArea (begin_at k) x → x.first < (begin_at k).first → Any (λ b. LiesWithinReach b x) begins
       → (j : ℕ) × (j < k) × LiesWithinReach (begin_at j) x
   earlier x k within area lower w =
@@ -65,7 +65,8 @@ module _ (items begins reads : List Run) (readable : All IsReadable items) (from
         ]
       ]
 
-  -- A read contains each item that lies within 125 registers from the start of the read.
+  -- A read contains each item (a range that one read must contain) that lies within 125 registers
+  -- from the start of the read.
   holds-reach : (x : Run) → Contains items x → (j : ℕ) → j < length begins → LiesWithinReach (begin_at j) x → Holds (read_at j) x
   holds-reach x among j within reach =
       let f = each j within in
@@ -77,7 +78,8 @@ module _ (items begins reads : List Run) (readable : All IsReadable items) (from
         to_end = all-at (λ item. SameArea (begin_at j) item → item.end ≤ (begin_at j).first + 125 → item.end ≤ (read_at j).end) items f.end.last x among reach.same_area reach.in_reach;
       }
 
-  -- An earlier read ends before the end of the item at which a later read in the same area starts.
+  -- An earlier read ends before the end of the item (a range of registers) at which a later read in
+  -- the same area starts.
   unreached : (j k : ℕ) → j < k → k < length begins → SameArea (begin_at j) (begin_at k) → (read_at j).end < (begin_at k).end
   unreached j k below within area =
       let a = (from.apart j k anything below within).1 area in
@@ -173,8 +175,8 @@ module _ (items begins reads : List Run) (readable : All IsReadable items) (from
         );
   }
 
--- If the reads begin and end as computed from sorted items, they follow the planning rule for the
--- same items in any order.
+-- Reads that begin and end as computed from sorted items (register ranges) follow the planning rule
+-- for the same items in any order.
 pub rule-of-sorted : (items sorted ended begins reads : List Run) → IsPermutation items sorted → IsPermutation items ended → All IsReadable items → AreBeginnings sorted begins
     → AllZip (ReadsFrom ended) begins reads → FollowsRule items reads
 rule-of-sorted items sorted ended begins reads same-sorted same-ended readable from zipped =
@@ -185,7 +187,8 @@ rule-of-sorted items sorted ended begins reads same-sorted same-ended readable f
     let f = AllZip-get_or (ReadsFrom ended) begins reads k anything anything zipped within in
     record { same_area = f.same_area; first = f.first; end = greatest-permutation ended items (get_or begins k anything) (get_or reads k anything).end back f.end })
 
--- Each item at which a read starts is in the list of items, in whatever order the items are sorted.
+-- Each item (register range) at which a read starts is in the list of items, in whatever order the
+-- items are sorted.
 pub beginnings-among : (items sorted ended begins : List Run) → IsPermutation items sorted → IsPermutation items ended → AreBeginnings sorted begins → All (Contains ended) begins
 beginnings-among items sorted ended begins same-sorted same-ended from =
     All-weaker (Contains sorted) (Contains ended)

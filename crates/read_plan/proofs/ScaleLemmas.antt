@@ -1,5 +1,5 @@
--- Lemmas about the map from scale points' names to their registers, built from the last point to
--- the first.
+-- Lemmas about the map from names of scale points (scale factor registers) to their register
+-- ranges. A loop builds the map from the last point of a list to the first.
 use Rattle.std.proofs.Common.{◌≡◌, ◌∙◌, ℕ, Bool, true, false, List, [], ◌∷◌, ◌++◌, Bor, ap, cond, map, refl, reverse, subst, sym, Some, None}
 use Rattle.std.specs.Prelude.{◌&&◌}
 use Rattle.std.specs.declared.option.Option.{Option}
@@ -18,7 +18,7 @@ use Rattle.read_plan.specs.declared.run.Run.{Run}
 use Rattle.point_list.specs.declared.point.PointScale.TheVariants.{Named}
 use Rattle.read_plan.specs.Items.{AreScaleRuns, item_of, joined, point_run, run_named, with_scale, with_scale_of}
 
--- The points that the loop has visited, in the order of the list.
+-- The points that the loop over a point list has visited, in the order of the list.
 abbrev pub points-read : List (Bor ListedPoint) → List ListedPoint
 points-read yielded = reverse (map (λ p. p.now) yielded)
 
@@ -42,8 +42,9 @@ scale-first points before after p scale runs puts name =
     ∙ ap (cond (bytes_eq p.name name) (Some (point_run p))) (runs name)
     ∙ chosen (is_sunssf p.kind) (bytes_eq p.name name) p (scale_point points name) scale
 
--- If the loop stores one more scale point, the map has the first scale point of each name among the
--- points visited. The loop visits the list from its last point to its first.
+-- After the loop stores one more scale point (a scale factor register), the map has the first scale
+-- point of each name among the visited points. The loop visits the list from its last point to its
+-- first.
 pub scale-read : (yielded : List (Bor ListedPoint)) (p : Bor ListedPoint) (before after : BTreeMap (Bor (List ℕ)) Run) (name : List ℕ) (run : Run) → is_sunssf p.now.kind ≡ true
     → name ≡ p.now.name → run ≡ point_run p.now
     → AreScaleRuns (points-read yielded) before → Puts before after name run → AreScaleRuns (points-read (yielded ++ p ∷ [])) after
@@ -60,10 +61,12 @@ missing-run run None e = refl
 missing-run run (Some q) e = absurd (none-some (point_run q) (sym e))
 
 module _ (points : List ListedPoint) (runs : BTreeMap (Bor (List ℕ)) Run) (right : AreScaleRuns points runs) (p : ListedPoint) (name : List ℕ) (named : p.scale ≡ Named name) where
-  -- If the map has a point's scale point, the point's item is the range that contains both.
+  -- If the map has the scale factor register that a point names, then the point's item is the range
+  -- that contains both.
   pub item-found : (scale : Run) → run_named runs name ≡ Some scale → item_of points p ≡ joined (point_run p) scale
   item-found scale e = ap (with_scale_of points (point_run p)) named ∙ found-run (point_run p) scale (scale_point points name) (sym (right name) ∙ e)
 
-  -- If the map does not have a point's scale point, the point's item is its own range.
+  -- If the map does not have the scale factor register that a point names, then the point's item is
+  -- its own range.
   pub item-missing : run_named runs name ≡ None → item_of points p ≡ point_run p
   item-missing e = ap (with_scale_of points (point_run p)) named ∙ missing-run (point_run p) (scale_point points name) (sym (right name) ∙ e)

@@ -23,7 +23,7 @@ point_run point =
       end = end_of point;
     }
 
--- The smallest range that contains two ranges of the same area.
+-- The smallest range that contains two register ranges of the same area (function and area number).
 abbrev pub joined : Run → Run → Run
 joined a b = record {
   function = a.function;
@@ -32,20 +32,20 @@ joined a b = record {
   end = max a.end b.end;
 }
 
--- The smallest range that contains a range and the registers of a scale point. Without a scale
--- point, the range itself.
+-- The smallest range that contains a register range and a scale factor's registers. Without a scale
+-- factor, the range itself.
 abbrev pub with_scale : Run → Option ListedPoint → Run
 with_scale run None = run
 with_scale run (Some scale) = joined run (point_run scale)
 
--- The smallest range that contains the range of a point and the registers of the scale point that
--- `scale` names, if any.
+-- The smallest range that contains a point's registers and those of the scale factor that `scale`
+-- names, if any.
 abbrev pub with_scale_of : List ListedPoint → Run → PointScale → Run
 with_scale_of points run Unscaled = run
 with_scale_of points run (Fixed exponent) = run
 with_scale_of points run (Named name) = with_scale run (scale_point points name)
 
--- The register range that the map has for this name, or `None`.
+-- The register range that the map of scale points has for this name, or `None`.
 abbrev pub run_named : BTreeMap (Bor (List ℕ)) Run → List ℕ → Option Run
 run_named runs name = get_by (λ key. slice_cmp nat_cmp name key.now) runs
 
@@ -64,6 +64,7 @@ item_of points point = with_scale_of points (point_run point) point.scale
 abbrev pub items_of : List ListedPoint → List Run
 items_of points = map (item_of points) points
 
--- The register ranges of all points of a list. They determine where each area begins and ends.
+-- The register ranges of all points of a list. They determine where each area (function and area
+-- number) begins and ends.
 abbrev pub runs_of : List ListedPoint → List Run
 runs_of points = map point_run points

@@ -31,8 +31,8 @@ pub record Planned : Type 0 where
 abbrev pub BeginsInside : Run → ℕ → Type 0
 BeginsInside item start = (item.first ≤ start) × (start < item.end)
 
--- The invariant of a plan: each point begins inside its item, each item fits in one read, and the
--- reads follow the planning rule.
+-- The invariant of a plan: each point begins inside its item (a range that one read must contain),
+-- each item fits in one read, and the reads follow the planning rule.
 pub record IsPlan (plan : Planned) : Type 0 where
   pub each : length plan.starts ≡ length plan.items
   pub begun : (k : ℕ) (d : Run) → k < length plan.items

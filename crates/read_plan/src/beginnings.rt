@@ -1,4 +1,4 @@
-//! Finds the first and the last register of each read.
+//! Finds the first and the last register of each Modbus read in a plan.
 ghost use Rattle.std.specs.Prelude.{◌≡◌, ◌+◌, ◌-◌, ◌<◌, ◌≤◌, ◌↔◌, IfOk, IsTrue, length};
 ghost use Rattle.std.specs.Prelude.{slice_index_or};
 ghost use Rattle.std.specs.Bool.{OnTrue, OnFalse};
@@ -20,8 +20,8 @@ fn lies_within_reach(begin: &Run, item: &Run) -> bool
         && item.end.saturating_sub(READ_LIMIT) <= begin.first
 }
 
-// Returns whether the item lies within 125 registers from the start of an item in `found`. The
-// items are in order, so only the last of them is compared.
+// Returns whether a register range lies within 125 registers from the start of a range in `found`.
+// The ranges are in order, so only the last of `found` is compared.
 fn is_reached(found: &[Run], item: &Run) -> bool
     ensures reached { OnTrue result (Any (λ begin. LiesWithinReach begin item.now) found.now) }
     ensures beyond { OnFalse result ((d : Run) → 0 < length found.now
@@ -33,8 +33,8 @@ fn is_reached(found: &[Run], item: &Run) -> bool
     }
 }
 
-/// Returns the items at which reads start. Each is the first item that does not lie within 125
-/// registers from the start of the previous read.
+/// Returns the items (ranges that one read must contain) at which reads start. Each is the first
+/// item that does not lie within 125 registers from the start of the previous read.
 pub fn beginnings(alloc: Global, items: &[Run]) -> Result<Vec<Run>, AllocError>
     requires ordered { AllPairs (λ a b. ¬ ComesBefore b a) items.now }
     requires readable { All IsReadable items.now }
@@ -61,8 +61,8 @@ pub fn ends_by_limit(run: &Run, limit: &Run) -> bool
             && (run.area < limit.area || run.area == limit.area && run.end <= limit.end)
 }
 
-/// Returns the greatest end of the items that lie within 125 registers from the start of `begin`.
-/// The items must be in order of their ends.
+/// Returns the greatest end of the items (register ranges) that lie within 125 registers from the
+/// start of `begin`. The items must be in order of their ends.
 pub fn end_within_reach(items: &[Run], begin: &Run) -> u32
     requires ordered { AllPairs (λ a b. ¬ EndsBefore b a) items.now }
     requires among { Contains items.now begin.now }

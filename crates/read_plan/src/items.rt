@@ -1,5 +1,5 @@
-//! Finds the items of a point list: the registers of a point and its scale point, which one read
-//! must contain.
+//! Finds the items of a point list. An item is a range that one read must contain: the registers of
+//! a point and its scale factor.
 ghost use Rattle.std.specs.Prelude.{◌≡◌, IfOk, List};
 ghost use Rattle.point_list.specs.Points.{is_sunssf};
 ghost use Rattle.point_list.specs.declared.point.ListedPoint.{ListedPoint};
@@ -42,8 +42,8 @@ fn is_scale(point: &ListedPoint) -> bool
     matches!(point.kind, PointType::Sunssf)
 }
 
-// Returns the ranges of the scale points of a list, by name. If two sunssf points have the same
-// name, the map has the first.
+// Returns the register ranges of the scale factors in a list, by name. If two sunssf points have
+// the same name, the map has the first.
 fn scale_runs<'a>(alloc: Global, points: &'a [ListedPoint]) -> Result<ScaleRuns<'a>, AllocError>
     ensures { IfOk result (λ runs. AreScaleRuns points.now runs) }
 {

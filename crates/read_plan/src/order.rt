@@ -1,4 +1,4 @@
-//! Sorts register ranges by function, area number and a register, as plans of reads require.
+//! Sorts register ranges by function, area number and register, as plans of Modbus reads require.
 ghost use Rattle.std.specs.Prelude.{IfOk};
 ghost use Rattle.std.specs.List.{AllPairs};
 ghost use Rattle.std.specs.List.Sorted.{IsPermutation};
@@ -7,7 +7,7 @@ ghost use Rattle.read_plan.specs.Plans.{ComesBefore, EndsBefore};
 use crate::run::Run;
 use std::alloc::{AllocError, Global};
 
-/// Returns the ranges in order of function, area number and first register.
+/// Returns the register ranges in order of function, area number and first register.
 pub fn by_first(alloc: Global, runs: &[Run]) -> Result<Vec<Run>, AllocError>
     ensures same { IfOk result (λ v. IsPermutation runs.now v.items) }
     ensures ordered { IfOk result (λ v. AllPairs (λ a b. ¬ ComesBefore b a) v.items) }
@@ -17,7 +17,7 @@ pub fn by_first(alloc: Global, runs: &[Run]) -> Result<Vec<Run>, AllocError>
     Ok(sorted)
 }
 
-/// Returns the ranges in order of function, area number and last register.
+/// Returns the register ranges in order of function, area number and last register.
 pub fn by_end(alloc: Global, runs: &[Run]) -> Result<Vec<Run>, AllocError>
     ensures same { IfOk result (λ v. IsPermutation runs.now v.items) }
     ensures ordered { IfOk result (λ v. AllPairs (λ a b. ¬ EndsBefore b a) v.items) }

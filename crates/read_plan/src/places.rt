@@ -1,4 +1,4 @@
-//! Plans of reads, and the location of each point in the reads.
+//! A plan of Modbus reads, and the location of each point in these reads.
 ghost use Rattle.std.specs.Prelude.{◌≡◌, ◌<◌, length, slice_index_or};
 
 use crate::beginnings::ends_by_limit;

@@ -1,5 +1,5 @@
-//! Creates the reads that the planning rule gives for a list of items. An item is a range of
-//! registers (a point and its scale point) that one read must contain.
+//! Creates the plan of reads for a list of items. An item is a range of registers (a point and its
+//! scale factor) that one read must contain.
 ghost use Rattle.std.specs.Prelude.{◌<◌, IfOk};
 ghost use Rattle.std.specs.List.{All, AllPairs, AllZip, Contains};
 ghost use Rattle.read_plan.specs.Beginnings.{ReadsFrom};
@@ -11,8 +11,8 @@ use crate::run::Run;
 use mb_wire::ADDRESSES;
 use std::alloc::{AllocError, Global};
 
-// Returns one read for each item of `begins`, at which the read starts. `items` must be in order of
-// their ends.
+// Returns one read for each item (register range) of `begins`, at which the read starts. `items`
+// must be in order of their ends.
 fn reads_from(alloc: Global, items: &[Run], begins: &[Run]) -> Result<Vec<Run>, AllocError>
     requires ordered { AllPairs (λ a b. ¬ EndsBefore b a) items.now }
     requires among { All (Contains items.now) begins.now }
@@ -28,7 +28,8 @@ fn reads_from(alloc: Global, items: &[Run], begins: &[Run]) -> Result<Vec<Run>, 
     Ok(reads)
 }
 
-/// Returns the reads that the planning rule gives for items of 1 to 125 registers.
+/// Returns the reads by the planning rule for items (ranges that one read must contain) of 1 to 125
+/// registers.
 pub fn rule_reads(alloc: Global, items: &[Run]) -> Result<Vec<Run>, AllocError>
     requires readable { All IsReadable items.now }
     requires inside { All (λ item. item.first < ADDRESSES) items.now }

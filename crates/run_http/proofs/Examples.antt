@@ -1,5 +1,5 @@
--- Worked examples, computed from the definitions: the lines of meters, request targets, refusals,
--- and headers for browsers.
+-- Worked examples, computed from the definitions: request targets, refusals, response lines about
+-- meters, and the response headers that browsers need.
 use Rattle.std.proofs.Common.{◌≡◌, ℕ, List, [], ◌∷◌, Option, Some, None, Err, true, false, refl}
 use Rattle.std.specs.Prelude.{pos, negsuc, codes}
 use Rattle.std.specs.Fmt.{digits}
@@ -16,7 +16,8 @@ use Rattle.run_http.specs.declared.route.RunRoute.{RunRoute}
 use Rattle.run_http.specs.declared.route.RunRoute.TheVariants.{Own, Meters}
 use Rattle.run_http.specs.declared.route.StatusRoute.TheVariants.{Rejected}
 
--- ---- The text lines of meters at an accounting register.
+-- Examples of the text lines that describe the meters at an accounting register (a named energy
+-- counter).
 
 -- An open meter with the shortest name and the least numbers: opened at time 0, counter 0, least
 -- scale.
@@ -64,7 +65,7 @@ both : meters_text (greatest ∷ least ∷ [])
 unfolding digits
 both = refl
 
--- ---- The routes of request targets.
+-- Examples of the routes of request targets.
 
 abbrev asks : List ℕ → Option RunRoute
 asks name = Some (Meters (Some name))
@@ -96,7 +97,7 @@ one_byte_more = refl
 no_register : IsRegisterTarget (codes "/registers/meters") None
 no_register = refl
 
--- ---- The routes of request targets with more segments, or with a question mark.
+-- Examples of the routes of request targets with too many segments, or with a question mark.
 
 past_the_last_day : IsRegisterTarget (codes "/registers/main/days/2026-01-01/2026-01-02/") None
 past_the_last_day = refl
@@ -118,7 +119,7 @@ a_question_mark = refl
 a_question_mark_in_a_name : IsTarget (codes "/registers/ma?in/meters") None
 a_question_mark_in_a_name = refl
 
--- ---- The routes of requests with a method other than GET.
+-- Examples of the routes of requests with a method other than GET.
 
 by_get : IsRouteNamed (codes "GET") (codes "/registers/main/meters") (asks (codes "main"))
 by_get = (asks (codes "main"), refl, refl)
@@ -126,7 +127,7 @@ by_get = (asks (codes "main"), refl, refl)
 by_post : IsRouteNamed (codes "POST") (codes "/registers/main/meters") (Some (Own (Rejected MethodNotAllowed)))
 by_post = (asks (codes "main"), refl, refl)
 
--- ---- Responses that report the program's refusal of a query.
+-- Examples of responses that report the program's refusal of a query.
 
 unknown_is_refused : with_rows_reply meters_text (Err refusal.NotFound) []
     ≡ codes "HTTP/1.1 404 Not Found\r\nContent-Type: application/json\r\nContent-Length: 13\r\nConnection: close\r\n\r\n{\"refused\":1}"
@@ -138,7 +139,7 @@ a_stopped_office_refuses : with_rows_reply meters_text (Err refusal.Stopped) []
 unfolding digits
 a_stopped_office_refuses = refl
 
--- ---- Responses with the headers for browsers.
+-- Examples of responses with the headers for browsers.
 
 after_the_first_line : with_headers (codes "A: b\r\n") (codes "HTTP/1.1 200 OK\r\nC: d\r\n\r\n\n") ≡ codes "HTTP/1.1 200 OK\r\nA: b\r\nC: d\r\n\r\n\n"
 after_the_first_line = refl

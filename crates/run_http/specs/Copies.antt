@@ -48,7 +48,8 @@ changes_of facts place None = 0
 changes_of facts place (Some opening) = quarter_of (stood_at facts opening place)
 
 -- The time from which quarter hours of the meter can change, if no entry before the sequence number
--- `place` is voided. It is the start of the quarter hour with the last valid entry before `place`.
+-- `place` is voided (cancelled). It is the start of the quarter hour with the last valid entry
+-- before `place`.
 abbrev pub changes_from : List Fact → (meter : List ℕ) → (place : ℕ) → ℕ
 changes_from facts meter place = changes_of facts place (opening_of facts meter)
 

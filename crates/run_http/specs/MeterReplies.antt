@@ -1,5 +1,5 @@
--- The responses to queries for rows of a meter, or for the meters at an accounting register (a
--- named counter of a device).
+-- The responses to queries for quarter hours or entries of a meter, or for meters at an accounting
+-- register (a named counter).
 use Rattle.std.specs.Prelude.{◌≡◌, ℕ, true, List, [], ◌∷◌, ◌++◌, Option, Result, Ok, Err, IfOk, OnOk, codes}
 use Rattle.std.specs.declared.alloc.Global.{Global}
 use Rattle.std.specs.declared.vec.Vec.{Vec}
@@ -15,14 +15,14 @@ use Rattle.run_http.specs.SiteReply.{with_refusal}
 use Rattle.run_http.specs.StatusRoute.{with_reply}
 use Rattle.run_http.specs.declared.kept_rows.KeptRows.{KeptRows}
 
--- The row is appended to the collected rows. If memory ran out for any row, then `is_whole` is
--- false.
+-- The row of a quarter hour's energy is appended to the collected rows. If memory ran out for any
+-- row, then `is_whole` is false.
 abbrev pub KeepsRow : KeptRows → Share → KeptRows → Type 0
 KeepsRow old row new = new.is_whole ≡ true
     → (old.is_whole ≡ true) × (new.rows.items ≡ old.rows.items ++ row ∷ [])
 
--- The program answers the query for rows from the records of its accepted events. The call fails if
--- memory for the rows runs out.
+-- States that the program answers a query for rows from the records of its accepted events. The
+-- call fails if memory for the rows runs out.
 pub record AsksRows {B T : Type 0} (ledger : B → Ledger) (old new : Office B)
     (says : List Fact → Option (List T)) {E : Type 0}
     (result : Result (Result (Vec T Global) Refusal) E) : Type 0 where

@@ -92,6 +92,7 @@ abbrev pub meter_asked : Option (List ℕ) → Option RunRoute
 meter_asked None = None
 meter_asked (Some text) = meter_in text
 
--- The route of a request target for rows of a meter. Other targets have no route of this kind.
+-- The route of a request target for quarter hours, entries or voided (withdrawn) entries of a
+-- meter. Other targets have no route of this kind.
 abbrev pub meter_target : (target : List ℕ) → Option RunRoute
 meter_target target = meter_asked (after (codes "/meters/") target)

@@ -14,8 +14,8 @@ use Rattle.office_http.specs.declared.messages.head.head.HeadState.TheVariants.{
 use Rattle.interval_core.specs.Lines.{intervals_text}
 use Rattle.run_http.specs.MeterTargets.{after}
 
--- The bytes request all quarter hours of the meter. Whatever the program answers to that query
--- (`office.intervals`), the response reports that answer.
+-- States that the bytes request the energy of all quarter hours of the meter. The response reports
+-- the program's answer to that query (`office.intervals`), whatever the answer is.
 abbrev pub AsksAllRows : Table → (bytes : List ℕ) → (meter : Option (List ℕ)) → Type 0
 AsksAllRows table bytes meter = (office : Office)
     → IsReply office table bytes (reply_bytes (lines_reply intervals_text (office.intervals meter)))
@@ -34,7 +34,7 @@ may_void_in bytes NoHead = false
 may_void_in bytes (Whole at) =
     may_void_by (span_bytes bytes at.method) (span_bytes bytes at.target)
 
--- The result says whether the bytes hold the head of a request that may void (withdraw) an entry.
+-- The result is true if the bytes hold the head of a request that may void (withdraw) an entry.
 pub record MayVoid (bytes : List ℕ) (result : Bool) : Type 0 where
   pub head_state : HeadState
   pub looks : Looks bytes head_state

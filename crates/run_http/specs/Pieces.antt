@@ -72,10 +72,10 @@ TextStays = (further facts : List Fact) (meter : List ℕ) (opening : Opening) (
     → All (VoidsFrom meter (next_place facts opening)) further
     → text_left (further ++ facts) left ≡ text_left facts left
 
--- ---- The beginning of a streamed response.
+-- Definitions on the beginning of a streamed response.
 
--- The start of the rows to query: `from`, or the quarter hour of the meter's opening entry if that
--- is later.
+-- The start of the rows to query: `from`, or the quarter hour of the meter's opening (the first
+-- entry) if that is later.
 abbrev pub first_asked : Installation → (from : ℕ) → ℕ
 first_asked it from = max from (quarter_of it.opening.at)
 
@@ -128,7 +128,7 @@ with_rows text rows = with_reply Fine (codes "text/plain") (intervals_text rows)
 abbrev pub with_all_rows : List ℕ → List Share → List ℕ
 with_all_rows text rows = text ++ reply_bytes (lines_reply intervals_text (Ok rows))
 
--- ---- The size of a streamed response.
+-- Definitions on the size of a streamed response.
 
 -- The sizes are the number of bytes in the rows' lines, and the number of rows.
 abbrev pub AreSizes : Sizes → List Share → Type 0
@@ -176,7 +176,7 @@ pub record SizesRows {B : Type 0} (ledger : B → Ledger) (old new : Office B) (
   pub asks : OnlyAsks ledger old new answer
   pub sizes : AreSized ledger old new left answer result
 
--- ---- The chunks of a streamed response.
+-- Definitions on the chunks of a streamed response.
 
 -- The progress of a streamed response by one chunk, whose rows start within the next `seconds`
 -- seconds. If rows were still to be queried, then fewer rows are left. The meter and the end of the
@@ -215,21 +215,23 @@ abbrev pub ReportsRest : RemainingRows → (from to : List ℕ) → Type 0
 ReportsRest left from to =
     (facts : List Fact) → left.till ≤ left.from → to ≡ from ++ text_left facts left
 
--- ---- The complete streamed response.
+-- Definitions on the complete streamed response.
 
--- A chunk of a response: all records added since the response began, the state after the chunk, and
--- the text written so far.
+-- A chunk of a streamed response: all records added since the response began, what the response
+-- still has to send after the chunk, and the text written so far.
 pub record Piece : Type 0 where
   pub further : List Fact
   pub later : RemainingRows
   pub text : List ℕ
 
--- The state of a streamed response after some chunks, which the list has with the latest first.
+-- The state of a streamed response after the chunks in the list, whose first element is the latest
+-- chunk.
 abbrev pub left_after : RemainingRows → List Piece → RemainingRows
 left_after left [] = left
 left_after left (piece ∷ earlier) = piece.later
 
--- The text of a streamed response after some chunks, which the list has with the latest first.
+-- The text of a streamed response after the chunks in the list, whose first element is the latest
+-- chunk.
 abbrev pub text_after : List ℕ → List Piece → List ℕ
 text_after text [] = text
 text_after text (piece ∷ earlier) = piece.text
@@ -245,8 +247,8 @@ pub record IsPiece (facts : List Fact) (meter : List ℕ) (opening : Opening) (l
   pub reports : piece.text ++ text_left (piece.further ++ facts) piece.later
       ≡ text ++ text_left (piece.further ++ facts) left
 
--- Each chunk in the list continues the response after the chunks before it. The latest chunk comes
--- first.
+-- Each chunk in the list continues the response after the chunks sent before. The list has the
+-- latest chunk first.
 abbrev pub ArePieces : List Fact → (meter : List ℕ) → Opening → RemainingRows → (text : List ℕ)
     → List Piece → Type 0
 ArePieces facts meter opening left text [] = Unit {0}

@@ -30,7 +30,7 @@ pub record PutsLast {W E : Type 0} (contents : W → Option (List ℕ))
   pub whole : OnOk result (new.failed ≡ false)
 
 -- The condition `Is` holds for the text of the report on a register's daily energy. The report
--- covers the days that the form requests, in the site's time zone.
+-- covers the range of days that the query names, in the site's time zone.
 abbrev pub IsReport : Zone → History → (register : Option (List ℕ)) → ReportForm
     → (Is : List ℕ → Type 0) → Type 0
 IsReport zone past register form Is =
@@ -49,7 +49,7 @@ pub record ReportsDays (zone : Zone) (past : History) (register : Option (List �
       IsFound (there ≡ Some tt) there before after answer
   pub report : OnOk answer (IsReport zone past register form Is)
 
--- The report follows from the events that the program accepted earlier, as `ReportsDays` states.
+-- States that the report follows from the events that the program accepted earlier (`ReportsDays`).
 abbrev pub ReportsDaysReport : {B : Type 0} → (B → Ledger) → (old new : Office B)
     → (register : Option (List ℕ)) → ReportForm → Result (Unit {0}) Refusal → (Is : List ℕ → Type 0)
     → Type 0

@@ -18,28 +18,28 @@ use Rattle.run_http.specs.declared.route.RunRoute.{RunRoute}
 use Rattle.run_http.specs.declared.route.RunRoute.TheVariants.{Own, Energy, Meters}
 use Rattle.run_http.specs.declared.route.StatusRoute.TheVariants.{Rejected}
 
--- ---- Ranges of days in request targets.
+-- Definitions on ranges of days in request targets.
 
 -- The range of days from `first` on and before `last`.
 abbrev pub from_till : (first last : Date) → DayRange
 from_till first last = record { from = Some first; till = Some last }
 
--- The two texts are the days at the ends of the range. `backward` says whether the second day is
+-- The two texts are the days at the ends of the range. `backward` is true if the second day is
 -- before the first.
 abbrev pub SpellRange : (from till : List ℕ) → DayRange → (backward : Bool) → Type 0
 SpellRange from till range backward =
     (first last : Date) × Spells from first × Spells till last × (range ≡ from_till first last)
     × (is_backward range ≡ backward)
 
--- The two texts are the ends of this range. None if a text is no day, or if the second day is
--- before the first.
+-- The range between the days in two texts. None if a text is no day, or if the second day is before
+-- the first.
 abbrev pub IsRangeOf : (from till : List ℕ) → Option DayRange → Type 0
 IsRangeOf from till (Some range) = SpellRange from till range false
 IsRangeOf from till None =
     IsReadAs from None ⊎ IsReadAs till None
     ⊎ ((range : DayRange) × SpellRange from till range true)
 
--- ---- Request targets for an accounting register.
+-- Definitions on request targets for an accounting register (a named energy counter).
 
 -- The form of a report with one plain-text line for each period, in mWh.
 abbrev pub lines_of : DayRange → Period → ReportForm

@@ -36,18 +36,19 @@ path_named target =
     else if bytes_eq target (codes "/site") then Some Site
     else option_map (λ part. Own (Page part)) (part_of target)
 
--- The route of a target. If it is no fixed path such as `/status`, then the target may request rows
--- of a meter.
+-- The route of a target. If it is no fixed path such as `/status`, then the target may request
+-- quarter hours or entries of a meter.
 abbrev pub or_meter : (target : List ℕ) → Option RunRoute → Option RunRoute
 or_meter target None = meter_target target
 or_meter target (Some route) = Some route
 
--- The route of a target that is a fixed path or requests rows of a meter.
+-- The route of a target that is a fixed path such as `/status`, or requests quarter hours or
+-- entries of a meter.
 abbrev pub plain_target : (target : List ℕ) → Option RunRoute
 plain_target target = or_meter target (path_named target)
 
--- The route of a target. If it is no fixed path and requests no rows of a meter, then it may
--- request the energy or the meters of an accounting register.
+-- The route of a request target. A target that is no fixed path and does not request a meter's rows
+-- may still request the energy or the meters of an accounting register (a named counter).
 abbrev pub IsElse : (target : List ℕ) → Option RunRoute → Option RunRoute → Type 0
 IsElse target None route = IsRegisterTarget target route
 IsElse target (Some plain) route = route ≡ Some plain
@@ -144,7 +145,7 @@ pub record AsksEnergy (names : List (List ℕ)) (bytes : List ℕ) (result : Boo
   pub for : IsFor names bytes route
   pub is : result ≡ is_energy route
 
--- The status line and the headers of a response, for a body of this type and size.
+-- The status line and the headers of a response, for a body with this type and size.
 abbrev pub with_start_of : HttpStatus → (kind : List ℕ) → (size : ℕ) → List ℕ → List ℕ
 with_start_of status kind size text =
     text ++ codes "HTTP/1.1 " ++ decimal (number_of_status status) ++ codes " "
@@ -152,7 +153,7 @@ with_start_of status kind size text =
     ++ codes "\r\nContent-Type: " ++ kind ++ codes "\r\nContent-Length: " ++ decimal size
     ++ codes "\r\nConnection: close"
 
--- The status line and the headers of a response, for this body and its type.
+-- The status line and the headers of a response, given the body and its content type.
 abbrev pub with_start : HttpStatus → (kind body : List ℕ) → List ℕ → List ℕ
 with_start status kind body text = with_start_of status kind (length body) text
 

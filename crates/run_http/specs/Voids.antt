@@ -18,7 +18,7 @@ is_voided (Later row sf) = not row.stands
 abbrev pub voided_in : List MeterEntry → List MeterEntry
 voided_in entries = filter is_voided entries
 
--- The voided entries of the meter with this name. None if no meter has the name.
+-- The voided (withdrawn) entries of the meter with this name. None if no meter has the name.
 abbrev pub voids_of : List Fact → (meter : Option (List ℕ)) → Option (List MeterEntry)
 voids_of facts meter =
     option_map (λ opening. voided_in (entries_at facts (Some opening)))

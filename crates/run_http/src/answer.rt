@@ -11,9 +11,10 @@ use std::alloc::Global;
 /// The result of looking for a request in the bytes that a client has sent so far.
 #[derive(Drop)]
 pub enum ClientResponse {
-    /// The bytes hold no complete request, and nothing was executed.
+    /// The bytes hold no complete request, so the program executed none.
     Open,
-    /// The bytes of the response. It is cut off if the store failed while rows were written.
+    /// The bytes of the response. The response is cut off if the store failed while rows were
+    /// written.
     Replied(Vec<u8>),
     /// Memory for the response ran out, or the request took too many reads.
     Failed,

@@ -1,9 +1,10 @@
-//! A row visitor that collects all interval rows in memory.
+//! Collects in memory all interval rows (energy of quarter hours) that a query passes to it.
 use interval_core::Share;
 use office_books::RowSink;
 use std::alloc::{AllocError, Global};
 
-/// The interval rows received so far. `is_whole` is false after memory ran out for a row.
+/// The interval rows (energy of quarter hours) received so far. `is_whole` is false after memory
+/// ran out for a row.
 #[derive(Drop)]
 pub struct KeptRows {
     rows: Vec<Share>,
@@ -13,7 +14,7 @@ pub struct KeptRows {
 impl KeptRows {
     ghost use Rattle.std.specs.Prelude.{◌≡◌, [], true, IfOk};
 
-    /// Makes a row visitor without rows.
+    /// Makes a row visitor that has received no rows.
     pub fn new(alloc: Global) -> KeptRows
         ensures none { result.rows.items ≡ [] }
         ensures whole { result.is_whole ≡ true }
@@ -24,7 +25,7 @@ impl KeptRows {
         }
     }
 
-    /// Returns all rows. Fails if memory ran out for any of the rows.
+    /// Returns all collected interval rows. Fails if memory ran out for any of the rows.
     pub fn into_rows(self) -> Result<Vec<Share>, AllocError>
         ensures whole { IfOk result (λ rows. self.is_whole ≡ true) }
         ensures rows { IfOk result (λ rows. rows ≡ self.rows) }

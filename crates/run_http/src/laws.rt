@@ -6,10 +6,10 @@ use interval_core::shares_add_up;
 
 /// Theorem: a client's copy of old quarter hours of a meter stays correct.
 ///
-/// Suppose no later record voids (withdraws) an entry before a sequence number. The last valid
-/// entry before that number lies in some quarter hour. All earlier quarter hours are unchanged. So
-/// the copy of the earlier quarter hours and the server's rows from that quarter hour on are
-/// complete.
+/// Suppose no later record voids (withdraws) an entry below a given sequence number. Consider the
+/// last valid entry below that number, and its quarter hour. All earlier quarter hours are
+/// unchanged. So a copy of the earlier quarter hours, and the server's rows from that quarter hour
+/// on, are complete.
 pub fn rows_before_stay()
     ensures { RowsBeforeStay }
 {

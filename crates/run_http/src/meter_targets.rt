@@ -43,8 +43,8 @@ fn intervals_asked(name: &[u8], span: Option<Span>) -> RunRoute
     }
 }
 
-// Parses the two timestamps of a target for quarter hours. A target with a further segment has no
-// route.
+// Parses the two timestamps of a target for quarter hours. A target with another segment after them
+// has no route.
 fn intervals_till(name: &[u8], from: &[u8], till: &[u8]) -> Option<RunRoute>
     ensures { result ≡ targets.intervals_till name.now from.now till.now }
 {
@@ -76,7 +76,8 @@ fn entries_asked(name: &[u8], place: Option<u64>) -> RunRoute
     }
 }
 
-// Parses the sequence number in a target for entries. A target with a further segment has no route.
+// Parses the sequence number in a target for entries. A target with another segment after the
+// number has no route.
 fn entries_at(name: &[u8], place: &[u8]) -> Option<RunRoute>
     ensures { result ≡ targets.entries_at name.now place.now }
 {

@@ -24,7 +24,8 @@ use std::alloc::{AllocError, Global};
 #[derive(Drop)]
 pub struct RemainingRows {
     meter: Option<Name>,
-    /// Rows that start at `from` or later and before `till` are still to be queried.
+    /// The start of the rows that are still to be queried. They start at `from` or later and before
+    /// `till`.
     from: u64,
     till: u64,
     /// The last rows of the response. They are copied when the response begins, because new entries
@@ -64,8 +65,8 @@ pub fn is_long_response(it: &Installation, from: u64, till: u64, seconds: u64) -
     end_of_streamed(it, from, till).saturating_sub(first_asked(it, from)) > seconds
 }
 
-// Queries the last rows of a response, which new entries may change, and keeps them in memory. All
-// other rows are queried later, chunk by chunk.
+// Queries the last rows of a response, which new entries may change, and keeps these rows in
+// memory. All other rows are queried later, chunk by chunk.
 fn begin_rows<B: Books>(
     alloc: Global,
     office: &mut Office<B>,
@@ -302,7 +303,7 @@ pub fn write_last_rows(text: &mut Vec<u8>, left: &RemainingRows) -> Result<(), A
 }
 
 /// Theorem: later records do not change the text of a response that is still to be written. The
-/// exception is a record that voids (withdraws) an entry that the meter had when the response
+/// exception is a record that voids (withdraws) an entry which the meter had when the response
 /// began.
 pub fn text_stays()
     ensures { TextStays }

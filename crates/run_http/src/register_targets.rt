@@ -42,7 +42,7 @@ fn range_of(from: &[u8], till: &[u8]) -> Option<DayRange>
     Some(range)
 }
 
-// Returns the form of a report with one plain-text line for each period, in mWh.
+// Returns the format of an energy report with one plain-text line for each period, in mWh.
 fn lines_of(range: DayRange, period: Period) -> ReportForm
     ensures { result ≡ targets.lines_of range period }
 {
@@ -78,7 +78,8 @@ fn months_asked(name: &[u8]) -> RunRoute
     }
 }
 
-// Parses the two days of a target for daily energy. A target with a further segment has no route.
+// Parses the two days of a target for daily energy. A target with another segment after them has no
+// route.
 fn days_till(name: &[u8], from: &[u8], till: &[u8]) -> Option<RunRoute>
     ensures { targets.IsDaysTill name.now from.now till.now result }
 {

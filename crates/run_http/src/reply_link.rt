@@ -1,11 +1,12 @@
-//! A link in memory that reads a request and collects the response.
+//! An in-memory connection from which the program reads a request, and to which it writes the
+//! response.
 ghost use Rattle.std.specs.Prelude.{Some};
 
 use mb_wire::{LastTake, Link, LinkFailed, Took};
 use std::alloc::Global;
 
-/// A link in memory. A read returns bytes of a request, and a write appends to the response. A
-/// write fails if memory runs out.
+/// A connection in memory, without a socket. A read returns bytes of a request, and a write appends
+/// to the response. A write fails if memory runs out.
 #[derive(Drop)]
 pub struct ReplyLink<'a> {
     pub input: &'a [u8],
@@ -19,7 +20,7 @@ pub struct ReplyLink<'a> {
 impl<'a> ReplyLink<'a> {
     ghost use Rattle.std.specs.Prelude.{◌≡◌, [], None};
 
-    /// Makes a link that reads `input` and has written nothing.
+    /// Makes an in-memory connection that reads the bytes `input` and has written nothing.
     pub fn new(alloc: Global, input: &'a [u8]) -> ReplyLink<'a>
         ensures input { result.input.now ≡ input.entry.now }
         ensures reply { result.reply.items ≡ [] }
@@ -37,7 +38,7 @@ impl<'a> ReplyLink<'a> {
         }
     }
 
-    /// Returns the bytes that were written to the link.
+    /// Returns the bytes that were written to the in-memory connection.
     pub fn into_reply(self) -> Vec<u8>
         ensures { result ≡ self.entry.reply }
     {

@@ -23,7 +23,7 @@ use web_page::{PagePart, part_of};
 pub enum StatusRoute {
     /// The counts, the device states, and what the devices lack, as JSON (`/status`).
     Status,
-    /// A part of the web page.
+    /// A part of the web page, such as its script.
     Page(PagePart),
     /// An error response with this status. A rejected host gets 421, a page of another site 403, a
     /// method other than GET 405, and a malformed target 400.
@@ -54,7 +54,7 @@ pub enum RunRoute {
     Voids {
         meter: Option<Name>,
     },
-    /// The energy of an accounting register in the form of a report, as plain text. `None` means an
+    /// The energy of an accounting register, as plain text in the requested format. `None` means an
     /// invalid register name.
     Energy {
         register: Option<Name>,
@@ -80,7 +80,7 @@ fn path_named(target: &[u8]) -> Option<RunRoute>
     }
 }
 
-// Finds the route of a fixed path, or of a target for rows of a meter.
+// Finds the route of a fixed path such as `/status`, or of a target for rows of a meter.
 fn plain_target(target: &[u8]) -> Option<RunRoute>
     ensures { result ≡ texts.plain_target target.now }
 {

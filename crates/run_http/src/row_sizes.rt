@@ -1,4 +1,4 @@
-//! A row visitor that measures the lines of interval rows without storing the rows.
+//! Measures the text lines of interval rows (energy of quarter hours) without storing the rows.
 use crate::texts::write_share;
 use interval_core::Share;
 use office_books::RowSink;
@@ -11,7 +11,7 @@ pub struct Sizes {
     pub count: usize,
 }
 
-/// The sizes of the rows so far. `is_whole` is false after memory ran out.
+/// The sizes of the interval rows received so far. `is_whole` is false after memory ran out.
 #[derive(Drop)]
 pub struct RowSizes {
     line: Vec<u8>,
@@ -23,7 +23,7 @@ impl RowSizes {
     ghost use Rattle.std.specs.Prelude.{◌≡◌, ◌+◌, length, true, IfOk, IfSome, OnOk};
     ghost use Rattle.interval_core.specs.Lines.{share_line};
 
-    /// Makes a row visitor that has measured no rows.
+    /// Makes a row visitor that has measured no interval rows.
     pub fn new(alloc: Global) -> RowSizes
         ensures sizes { result.sizes ≡ record { bytes = 0; count = 0 } }
         ensures whole { result.is_whole ≡ true }
@@ -64,7 +64,7 @@ impl RowSizes {
         }
     }
 
-    /// Returns the sizes of all rows. Fails if memory ran out for any line.
+    /// Returns the sizes of all interval rows. Fails if memory ran out for any line.
     pub fn whole(&self) -> Result<Sizes, AllocError>
         ensures whole { IfOk result (λ sizes. self.now.is_whole ≡ true) }
         ensures sizes { IfOk result (λ sizes. sizes ≡ self.now.sizes) }

@@ -1,4 +1,5 @@
-//! The bodies of responses: `/site`, `/metrics`, rows of a meter, and the meters at a register.
+//! Formats the bodies of responses: `/site`, `/metrics`, rows of a meter, and the meters at an
+//! accounting register.
 
 mod energy_lines;
 mod families;

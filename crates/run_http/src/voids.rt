@@ -14,8 +14,8 @@ use office_events::{Name, Refusal};
 use office_http::messages::Status;
 use std::alloc::{AllocError, Global};
 
-// The most entries that one query returns, and the most queries for one response: nearly 2^64
-// entries in all.
+// The maximum number of entries that one query returns, and of queries for one response: nearly
+// 2^64 entries in all.
 const PIECE: u32 = 65536;
 
 const MOST_PIECES: u64 = 281_474_976_710_655;
@@ -39,7 +39,7 @@ fn keep_if_voided(kept: &mut Vec<MeterEntry>, entry: &MeterEntry) -> Result<(), 
     Ok(())
 }
 
-// Appends the voided entries among `piece` to the list.
+// Appends the voided (withdrawn) entries among the entries in `piece` to the list.
 fn keep_voided(kept: &mut Vec<MeterEntry>, piece: &[MeterEntry]) -> Result<(), AllocError>
     ensures { OnOk result (kept.new.items ≡ kept.old.items ++ voids.voided_in piece.now) }
 {
@@ -92,8 +92,8 @@ fn write_reported_voids(
     }
 }
 
-/// Queries the voided entries of a meter, and appends the response. Each query returns up to 65,536
-/// entries. If memory runs out, a part of the response remains.
+/// Queries the voided (withdrawn) entries of a meter, and appends the response. Each query returns
+/// up to 65,536 entries. If memory runs out, a part of the response remains.
 pub fn reply_voids<B: Books>(
     alloc: Global,
     text: &mut Vec<u8>,

@@ -1,4 +1,4 @@
--- Lemmas on the search for the current file of the store, name by name.
+-- Lemmas on the search for the store's current file among the file names, name by name.
 use Rattle.std.proofs.Common.{◌≡◌, ◌⊎◌, inl, inr, ℕ, ◌+◌, ◌<◌, ◌≤◌, nat_lt, Bool, true, false, List, [], ◌∷◌, ◌++◌, Some, None, refl, sym, ap, ◌∙◌, subst, arith}
 use Rattle.std.specs.Prelude.{Option, codes, Contains, ◌||◌}
 use Rattle.std.specs.Borrow.{Bor}
@@ -22,8 +22,8 @@ or_left : (a b : Bool) → a ≡ true → (a || b) ≡ true
 or_left true b is = refl
 or_left false b is = absurd (cc)
 
--- If a file name has no period of the configured length, then any period in the name has the
--- alternative length.
+-- If a file name contains no period (such as `2026-11`) of the configured length, then any period
+-- in the name has the alternative length.
 pub reported_by_other : (file : List ℕ) (length : Period) (name : List ℕ) (r : Option (Bor (List ℕ))) → IsPeriodIn file length name None
     → IsPeriodIn file (other_length length) name r → IsReportedBy file length name r
 reported_by_other file length name (Some text) own is = record {
@@ -36,7 +36,7 @@ reported_by_other file length name None own other = λ text is.
       | inr spelled ↦ other text (record { spelled = spelled; named = is.named })
     ]
 
--- Equal file names contain equal periods.
+-- Equal file names contain equal periods, such as the month `2026-11`.
 same_text : (file text other : List ℕ) → file_of file text ≡ file_of file other → text ≡ other
 same_text file text other both =
     let fronts : stem_of file ++ codes "-" ++ text ≡ stem_of file ++ codes "-" ++ other = append_cancel_right _ _ (suffix_of file) both in

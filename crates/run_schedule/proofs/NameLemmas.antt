@@ -1,4 +1,5 @@
--- Lemmas on the part of a file name between its stem and its extension.
+-- Lemmas on the part of a file name between its stem and its extension, such as `2026-11` in
+-- `office-2026-11.db`.
 use Rattle.std.proofs.Common.{◌≡◌, ◌≢◌, List, ℕ, ◌++◌, Some, None, sym, ◌∙◌, ap, append_assoc}
 use Rattle.std.specs.Prelude.{Option, codes, false, true}
 use Rattle.std.specs.Borrow.{Bor}
@@ -34,13 +35,14 @@ ends_so name stem suffix rest more None front hyphen none = λ text is. none tex
 ends_so name stem suffix rest more (Some text) front hyphen is =
     grouped stem text.now suffix ∙ sym (front ∙ ap (λ l. stem ++ l) (hyphen ∙ ap (λ l. codes "-" ++ l) is))
 
--- ---- The periods in file names.
+-- Lemmas on the periods in file names, such as `2026-11` in `office-2026-11.db`.
 
 pub no_name : (file name : List ℕ) (period : Period) → ((text : List ℕ) → stem_of file ++ codes "-" ++ text ++ suffix_of file ≢ name)
     → IsPeriodIn file period name None
 no_name file name period none = λ text called. none text called.named
 
--- If the text in a file name does not have the form of a period, the name has no period.
+-- If the text in a file name does not have the form of a period, such as `2026-11`, then the name
+-- has no period.
 pub other_text : (file name text : List ℕ) (period : Period) → stem_of file ++ codes "-" ++ text ++ suffix_of file ≡ name → spells period text ≡ false
     → IsPeriodIn file period name None
 other_text file name text period is unspelled = λ other called.

@@ -1,4 +1,4 @@
--- Worked examples of file names and periods, computed from the definitions.
+-- Worked examples of file names with a calendar period, such as `office-2026-11.db`.
 use Rattle.std.proofs.Common.{◌≡◌, codes, nat_lt, true, false, refl}
 use Rattle.energy_report.specs.declared.form.Period.TheVariants as period
 use Rattle.run_schedule.specs.Periods.Led.{rank, reports}
@@ -41,7 +41,7 @@ last_day_of_a_month = refl
 day_32 : spells period.Day (codes "2026-12-32") ≡ false
 day_32 = refl
 
--- ---- The current file among several names.
+-- Examples of the current file among several file names.
 
 a_later_month_is_led : nat_lt (rank period.Month (codes "2026-11")) (rank period.Month (codes "2026-12")) ≡ true
 a_later_month_is_led = refl

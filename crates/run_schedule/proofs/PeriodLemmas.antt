@@ -36,7 +36,7 @@ not_past zone last at early =
     let bound = offset_range zone at in
     omega (arith, signed_arith, bound.1, early)
 
--- ---- The values of integers that were converted to 64-bit numbers.
+-- Lemmas on the values of integers that were converted to 64-bit numbers.
 
 natural : (z : ℤ) → FitsUnsignedBits 64 z → z ≡ pos (unsigned_abs z)
 natural (pos n) fits = refl
@@ -53,7 +53,7 @@ as_natural z n bound fits is =
     let here : FitsUnsignedBits 64 z = subst (FitsUnsignedBits 64) back fits in
     natural z here ∙ ap pos (sym (is ∙ ap unsigned_abs back))
 
--- ---- The order of two integers, from the result of comparing them.
+-- Lemmas on the order of two integers, from the result of comparing them.
 
 pub earlier : (x y : ℤ) → is_lt (int_cmp x y) ≡ true → x <ℤ y
 earlier x y test =

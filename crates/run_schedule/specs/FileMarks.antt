@@ -1,5 +1,5 @@
--- Compares the file at a path with the open file by their marks: device, inode and size. So the
--- program detects that the store's file was removed or replaced.
+-- Compares the file at a path with the open file by their marks: device, inode and size. The
+-- program thus detects that the store's file was removed or replaced.
 use Rattle.std.specs.Prelude.{◌≡◌, ◌≤◌, ◌==◌, ◌&&◌, ℕ, nat_lt, if◌then◌else◌, Bool, Option, None, Some}
 use Rattle.run_schedule.specs.declared.file_marks.FileMark.{FileMark}
 use Rattle.run_schedule.specs.declared.file_marks.FileLoss.{FileLoss}
@@ -9,7 +9,8 @@ use Rattle.run_schedule.specs.declared.file_marks.FileLoss.TheVariants.{Missing,
 abbrev pub is_same_file : (known found : FileMark) → Bool
 is_same_file known found = (known.device == found.device) && (known.inode == found.inode)
 
--- The loss of a file by its size: `Shortened` if the file is shorter than before.
+-- The loss of a file, judged by its size: `Shortened` if the file is shorter than before, otherwise
+-- none.
 abbrev pub loss_of_size : (known found : FileMark) → Option FileLoss
 loss_of_size known found = if nat_lt found.size known.size then Some Shortened else None
 
@@ -20,7 +21,7 @@ file_loss known None = Some Missing
 file_loss known (Some found) =
     if is_same_file known found then loss_of_size known found else Some Replaced
 
--- The path leads to the open file, and the file is no shorter than before.
+-- True if the path leads to the open file, and the file is no shorter than before.
 abbrev pub IsStill : (known : FileMark) → (found : Option FileMark) → Type 0
 IsStill known None = ⊥
 IsStill known (Some found) =

@@ -30,8 +30,8 @@ fn is_same_file(known: FileMark, found: FileMark) -> bool
     known.device == found.device && known.inode == found.inode
 }
 
-/// Compares the file at a path with the open file. `known` is the last known mark of the open file,
-/// `found` the mark of the file at the path.
+/// Compares the file at a path with the open file. `known` is the last known mark (device, inode,
+/// size) of the open file, `found` the mark of the file at the path.
 ///
 /// A longer file is no loss, because the program only appends to its file. Marks do not show bytes
 /// that another program overwrote in place.

@@ -14,7 +14,8 @@ use script_text::{
 use std::alloc::Global;
 use std::io::{self, ErrorKind, Read, Write};
 
-// Passes an event to the `Office` (the core of `sunreg`), and writes its answer or refusal.
+// Passes an event to the program (`Office`), which accepts or refuses the event, and writes the
+// answer or refusal.
 fn feed_event<B: Books, W: Write>(
     office: &mut Office<B>,
     at: u64,
@@ -121,7 +122,8 @@ fn play_text<B: Books, W: Write>(
     output: &mut W,
 ) -> Result<ExitStatus, io::Error> {
     let mut lines = InputLines::new(text);
-    // A script has fewer than 2^64 - 1 lines, so the bound of the loop is never reached.
+    // A script has fewer than 2^64 - 1 lines, so the loop over its lines always ends before its
+    // bound.
     for _ in 0..u64::MAX {
         let Some(line) = lines.next_line() else {
             break;
@@ -138,7 +140,7 @@ fn play_text<B: Books, W: Write>(
     Ok(ExitStatus::Fine)
 }
 
-// Opens an `Office` (the core of `sunreg`) over a store, at the latest timestamp in the store.
+// Starts the program (`Office`) over a store, at the latest timestamp in the store.
 fn open_office<B: Books>(alloc: Global, books: B) -> Result<Office<B>, Refusal> {
     let mut books = books;
     let moment = match books.latest() {
@@ -151,7 +153,7 @@ fn open_office<B: Books>(alloc: Global, books: B) -> Result<Office<B>, Refusal> 
     }
 }
 
-// Opens an `Office` (the core of `sunreg`) over a store, and executes the lines of a script.
+// Starts the program (`Office`) over a store, and executes the lines of a script.
 fn play_books<B: Books, W: Write>(
     alloc: Global,
     books: B,

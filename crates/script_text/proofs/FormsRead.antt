@@ -1,4 +1,5 @@
--- Proofs that the parser returns a script line if and only if the words spell that line.
+-- Proofs that the parser returns a script line (a command, an event or a query) if and only if the
+-- words spell this line.
 use Rattle.std.proofs.Common.{◌≡◌, ℕ, List, [], ◌∷◌, Some, None, Option, refl, sym, ◌∙◌, subst}
 use Rattle.std.specs.Prelude.{codes}
 use Rattle.office_events.specs.declared.commands.Command.TheVariants as command
@@ -71,7 +72,8 @@ question_known question.Intervals = refl
 question_known question.Days = refl
 question_known question.Poll = refl
 
--- No verb of a query parses as a number, so the parser never takes a query's verb for a timestamp.
+-- No verb of a query parses as a number, so the parser of script lines never interprets a query's
+-- verb as a timestamp.
 not_number : (q : Question) → number_of (question_text q) ≡ None
 not_number question.Meter = refl
 not_number question.Intervals = refl
@@ -81,8 +83,8 @@ not_number question.Poll = refl
 question_word : (word : List ℕ) (q : Question) → question_of word ≡ Some q → word ≡ question_text q
 question_word word q h = meant (λ q w. w ≡ question_text q) questions word q (refl, (refl, (refl, (refl, tt)))) h
 
--- The form of an event or a command is its timestamp, its verb and the fields of its values, in
--- this order.
+-- The script line of an event or a command has the timestamp, the verb and the fields of the
+-- values, in this order.
 
 verb_form : (v : Verb) (at : ℕ) (values : Values (kinds_of v)) → form_of (line_of v at values) ≡ Some (Of Number at ∷ Word (verb_text v) ∷ fields (kinds_of v) values)
 verb_form verb.Device at values = refl

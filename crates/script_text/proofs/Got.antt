@@ -21,8 +21,8 @@ part_after a b c x y z first second joined = (
   appends_both a b c x second.0 (x ++ second.0) first second.3 refl,
 )
 
--- If a writer received a text and then a second text or a part of it, it received both texts or a
--- part of both.
+-- If a writer received a text and then all or a part of a second text, the writer received both
+-- texts or a part of both.
 pub got_both : {X E : Type 0} (result : Result X E) (a b c : Option (List ℕ)) (x y z : List ℕ) → Appends a b x → GotText result y b c → x ++ y ≡ z
     → GotText result z a c
 got_both (Ok done) a b c x y z first second joined = appends_both a b c x y z first second joined
@@ -62,7 +62,7 @@ pub got_at : {X Y E : Type 0} (f : X → List ℕ) (xs : List X) (i : ℕ) (d : 
 got_at f xs i d result a b c inside failed first second =
     got_some f xs i (get_or xs i d) result a b c inside (same_inside xs i d (get_or xs i d) inside) failed first second
 
--- A statement about a received text also applies to every equal text.
+-- A fact about a received text also applies to every equal text.
 pub got_this : {X E : Type 0} (result : Result X E) (a b : Option (List ℕ)) (x y : List ℕ) → x ≡ y → GotText result x a b → GotText result y a b
 got_this result a b x y same got = rw same at got
 

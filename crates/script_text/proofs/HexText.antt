@@ -20,20 +20,22 @@ pub none_got : (a : Option (List ℕ)) → Appends a a (encode_lower [])
 unfolding encode_with
 none_got a = Appends-nil a
 
--- If the first `n` unwritten bytes are appended to the written bytes, all bytes stay in order.
+-- If the first `n` unwritten bytes are appended to the bytes written before, the written and the
+-- unwritten bytes together are still all bytes in order.
 pub cut_off : (bytes done rest piece after : List ℕ) (n : ℕ) → bytes ≡ done ++ rest → piece ≡ take n rest → after ≡ drop n rest → bytes ≡ (done ++ piece) ++ after
 cut_off bytes done rest piece after n split front back =
     split ∙ ap (λ (l : List ℕ). done ++ l) (sym (take-append-drop n rest)) ∙ ap (λ (l : List ℕ). done ++ (l ++ drop n rest)) (sym front)
     ∙ ap (λ (l : List ℕ). done ++ (piece ++ l)) (sym back) ∙ sym (append_assoc done piece after)
 
--- If a writer received the hex text of some bytes and then of the next piece, it received the hex
--- text of both.
+-- If a writer received the hex text of some bytes and then that of the next bytes, the writer
+-- received the hex text of both.
 pub piece_got : (a b c : Option (List ℕ)) (done piece : List ℕ) → Appends a b (encode_lower done) → Appends b c (encode_lower piece)
     → Appends a c (encode_lower (done ++ piece))
 piece_got a b c done piece first second =
     appends_both a b c (encode_lower done) (encode_lower piece) (encode_lower (done ++ piece)) first second (sym (encode_lower-append done piece))
 
--- If the write of a piece failed, the writer received a part of the complete hex text.
+-- If one write of a part of the hex text failed, the writer received a part of the complete hex
+-- text.
 pub piece_failed : {X E : Type 0} (result : Result X E) (a b c : Option (List ℕ)) (bytes done piece after : List ℕ) → IsErr result → bytes ≡ (done ++ piece) ++ after
     → Appends a b (encode_lower done) → GotPart (encode_lower piece) b c → GotText result (encode_lower bytes) a c
 piece_failed result a b c bytes done piece after failed is first second =

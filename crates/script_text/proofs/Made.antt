@@ -1,12 +1,12 @@
--- Lemmas that relate the values that the function `made` parses from words to the fields that these
--- words spell.
+-- Lemmas on the function `made`, which parses the words of a script line: its result has the values
+-- that the words spell.
 use Rattle.std.proofs.Common.{◌≡◌, ℕ, List, [], ◌∷◌, Some, None, Option, refl, sym, ap, ◌∙◌, subst}
 use Rattle.std.specs.Prelude.{option_map}
 use Rattle.script_text.specs.LineWords.Fields.{Kind, Value, Field, Of, Spell, first_value, missing, spelled, ◌>>=◌}
 use Rattle.script_text.specs.LineReader.{Values, made}
 use Rattle.script_text.proofs.Chosen.{same}
 
--- The fields of a script line that have the given kinds and the given values.
+-- The fields of a script line whose values have the given kinds and the given values.
 abbrev pub fields : (kinds : List Kind) → Values kinds → List Field
 fields [] values = []
 fields (kind ∷ kinds) values = Of kind values.0 ∷ fields kinds values.1
@@ -23,8 +23,8 @@ paired (Some x) words v h =
     let p = same (x, words) v h in
     (ap (λ (q : _ × List (List ℕ)). Some q.0) p, ap (λ (q : _ × List (List ℕ)). q.1) p)
 
--- If a value of a kind was parsed, then the first word spells this value, or the word is optional
--- and missing.
+-- If the parser of a script line returned a value, then the first word spells this value, or the
+-- word is optional and missing.
 pub first_spelled : (kind : Kind) (words : List (List ℕ)) (first : Value kind × List (List ℕ)) (more : List Field)
     → first_value kind words ≡ Some first → Spell first.1 more → Spell words (Of kind first.0 ∷ more)
 first_spelled kind [] first more h rest =
@@ -39,8 +39,8 @@ first_read : (kind : Kind) (value : Value kind) (words : List (List ℕ)) (more 
 first_read kind value [] more h = ([], ap (option_map (λ v. (v, []))) h.0, h.1)
 first_read kind value (word ∷ words) more h = (words, ap (option_map (λ v. (v, words))) h.0, h.1)
 
--- If `made` returns a result, then the words spell the values to which `made` applied the function
--- `make`.
+-- If the parser `made` returns a result, then the words of the script line spell the values to
+-- which `made` applied the function `make`.
 pub made_spelled : {X : Type 0} (kinds : List Kind) (make : Values kinds → X) (words : List (List ℕ)) (x : X) → made kinds make words ≡ Some x
     → (values : Values kinds) × Spell words (fields kinds values) × (make values ≡ x)
 made_spelled [] make [] x h = (tt, tt, same (make tt) x h)
@@ -50,7 +50,8 @@ made_spelled (kind ∷ kinds) make words x h =
     let rest = made_spelled kinds (λ values. make (first.0.0, values)) first.0.1 x first.2 in
     ((first.0.0, rest.0), first_spelled kind words first.0 (fields kinds rest.0) first.1 rest.1, rest.2)
 
--- If the words spell values of the given kinds, then `made` returns `make` applied to these values.
+-- If the words of a script line spell values of the given kinds, then the parser `made` returns
+-- `make` applied to these values.
 pub spelled_made : {X : Type 0} (kinds : List Kind) (make : Values kinds → X) (values : Values kinds) (words : List (List ℕ))
     → Spell words (fields kinds values) → made kinds make words ≡ Some (make values)
 spelled_made [] make values [] h = refl
@@ -59,8 +60,8 @@ spelled_made (kind ∷ kinds) make values words h =
     let first = first_read kind values.0 words (fields kinds values.1) h in
     rw first.1 (spelled_made kinds (λ rest. make (values.0, rest)) values.1 first.0 first.2)
 
--- If `made` returns `x` for the function `make`, then `made` returns `f x` for the composition of
--- `f` and `make`.
+-- If the parser `made` returns `x` for the function `make`, then it returns `f x` for the
+-- composition of `f` and `make`.
 pub made_again : {X Y : Type 0} (kinds : List Kind) (make : Values kinds → X) (f : X → Y) (words : List (List ℕ)) (x : X)
     → made kinds make words ≡ Some x → made kinds (λ values. f (make values)) words ≡ Some (f x)
 made_again kinds make f words x h =

@@ -39,15 +39,15 @@ abbrev pub outcome_line : ℕ → Outcome → List ℕ
 outcome_line poll outcome =
     codes "poll " ++ decimal poll ++ codes " " ++ outcome_text outcome ++ codes "\n"
 
--- The part of an accepted reading's line after the meter's name: the meter's count, its number of
--- rollovers, and the energy since the previous entry, in mWh.
+-- The part of the output line of an accepted meter reading after the meter's name: the meter's
+-- count, its number of rollovers, and the energy since the previous entry, in mWh.
 abbrev pub reading_text : ℕ → ℕ → ℕ → List ℕ
 reading_text raw rolls step =
     codes " " ++ decimal raw ++ codes " rolls " ++ decimal rolls ++ codes " step " ++ decimal step
     ++ codes "\n"
 
--- The part of a rejected reading's line after the meter's name: the meter's count, and the numeric
--- code of the cause.
+-- The part of the output line of a rejected meter reading after the meter's name: the meter's
+-- count, and the numeric code of the cause.
 abbrev pub held_text : ℕ → ℕ → List ℕ
 held_text raw cause = codes " " ++ decimal raw ++ codes " cause " ++ decimal cause ++ codes "\n"
 
@@ -59,14 +59,14 @@ note_line (note.Reading meter raw rolls step) =
     codes "reading " ++ meter ++ reading_text raw rolls step
 note_line (note.Held meter raw cause) = codes "held " ++ meter ++ held_text raw (cause_number cause)
 
--- The beginning of the line for started polls: the number of the first poll, the number of started
--- polls, and the number of reads in the plan.
+-- The beginning of the output line for started polls (Modbus reads): the number of the first poll,
+-- the number of started polls, and the total number of reads for the device's point list.
 abbrev pub counts_text : ℕ → ℕ → ℕ → List ℕ
 counts_text first count of =
     codes "started " ++ decimal first ++ codes " " ++ decimal count ++ codes " " ++ decimal of
     ++ codes " "
 
--- The line for the answer to an event. It is `ok`, or for started polls their numbers and the
+-- The output line for the answer to an event: `ok`, or the numbers of the started polls and the
 -- Modbus frames to send, in hex.
 abbrev pub answer_line : Answer → List ℕ → List ℕ
 answer_line Noted frames = codes "ok\n"
@@ -84,13 +84,13 @@ accepted_text answer notes frames = flat_map note_line notes ++ answer_line answ
 abbrev pub refused_line : Refusal → List ℕ
 refused_line refusal = codes "refused " ++ decimal (refusal_number refusal) ++ codes "\n"
 
--- The last word of a meter's line: `open`, or `ended` for a meter that was closed.
+-- The last word of a meter's output line: `open`, or `ended` for a meter that was closed.
 abbrev pub end_word : Bool → List ℕ
 end_word true = codes " ended\n"
 end_word false = codes " open\n"
 
--- The part of a meter's line after the meter's name: the last count and its scale, the total energy
--- in mWh, and `open` or `ended`.
+-- The part of a meter's output line after the meter's name: the last count and its scale factor,
+-- the total energy in mWh, and `open` or `ended`.
 abbrev pub standing_text : Last → ℕ → Bool → List ℕ
 standing_text last total ended =
     codes " last " ++ decimal last.raw ++ codes " sf " ++ signed_decimal last.sf ++ codes " at "
@@ -101,7 +101,8 @@ standing_text last total ended =
 abbrev pub meter_line : Installation → List ℕ
 meter_line row = codes "meter " ++ row.opening.meter ++ standing_text row.last row.total row.ended
 
--- The line `poll N STATE` for a poll, where STATE is its outcome or `pending`.
+-- The output line `poll N STATE` for a poll (a Modbus read), where STATE is the poll's outcome or
+-- `pending`.
 abbrev pub poll_line : PollRow → List ℕ
 poll_line row =
     codes "poll " ++ decimal row.poll.number ++ codes " " ++ ending_text row.ended ++ codes "\n"
@@ -112,6 +113,7 @@ fault_line faulty =
     codes "row " ++ decimal faulty.row ++ codes " fault " ++ decimal (fault_number faulty.fault)
     ++ codes "\n"
 
--- The line `bad line N` for input line N, which has no valid form. Input lines are numbered from 1.
+-- The output line `bad line N`, which reports that input line N is malformed. Input lines are
+-- numbered from 1.
 abbrev pub bad_line : ℕ → List ℕ
 bad_line number = codes "bad line " ++ decimal number ++ codes "\n"

@@ -1,4 +1,5 @@
--- Defines the form of each script line: the list of fields that its words spell in order.
+-- Defines the fields of each script line (a command, an event or a query). The words of the line
+-- spell these fields in order.
 use Rattle.std.specs.Prelude.{ℕ, List, [], ◌∷◌, Option, Some, None, codes, option_map}
 use Rattle.office_events.specs.declared.commands.Command.{Command}
 use Rattle.office_events.specs.declared.commands.Command.TheVariants as command
@@ -16,8 +17,8 @@ abbrev pub closing_word : Closing → List ℕ
 closing_word closing.Gone = codes "gone"
 closing_word closing.Failed = codes "failed"
 
--- The fields of a command's script line after the timestamp. `None` for a point list or the start
--- of a read, which have their own types of script lines.
+-- The fields of a command's script line after the timestamp. `None` for the commands that store a
+-- point list or start a Modbus read, whose lines have other definitions.
 abbrev pub command_form : Command → Option (List Field)
 command_form (command.AddDevice c) =
     Some (Word (codes "device") ∷ Of AnyName c.name ∷ Of Number c.unit ∷ Of Number c.timeout
@@ -61,7 +62,8 @@ event_form (event.Gone device closing) = Some (Word (closing_word closing) ∷ O
 event_form (event.Command c) = command_form c
 event_form (event.Asked asked) = None
 
--- The fields of a script line. `None` for an event or a command that no script line can express.
+-- The fields of a script line (a command, an event or a query), or `None` for an event or command
+-- that no script line can express.
 abbrev pub form_of : ScriptLine → Option (List Field)
 form_of (line.Event at event) = option_map (λ form. Of Number at ∷ form) (event_form event)
 form_of (line.List at list) =
@@ -80,6 +82,6 @@ abbrev pub HasForm : List (List ℕ) → Option (List Field) → Type 0
 HasForm words None = ⊥
 HasForm words (Some form) = Spell words form
 
--- States that the words spell the given script line.
+-- States that the words spell the given script line (a command, an event or a query).
 abbrev pub IsLine : List (List ℕ) → ScriptLine → Type 0
 IsLine words line = HasForm words (form_of line)

@@ -15,7 +15,7 @@ use Rattle.script_text.specs.declared.verbs.Question.TheVariants as question
 use Rattle.script_text.specs.declared.script.ScriptLine.{ScriptLine}
 use Rattle.script_text.specs.declared.script.ScriptLine.TheVariants as line
 
--- A tuple with one value for each of the given kinds.
+-- A tuple with one value for each of the given kinds of words in a script line.
 abbrev pub Values : List Kind → Type 0
 Values [] = Unit {0}
 Values (kind ∷ kinds) = Value kind × Values kinds
@@ -24,14 +24,14 @@ Values (kind ∷ kinds) = Value kind × Values kinds
 abbrev pub said_last : ScriptLine → List (List ℕ) → Option ScriptLine
 said_last line words = end_of_words words >>= λ none. Some line
 
--- Parses each word as a value of its expected kind, and applies `make` to the values. `None` if a
--- word has another kind, or if words are left over.
+-- Parses each word of a script line as a value of its expected kind, and applies `make` to the
+-- values. The result is `None` if a word has another kind, or if words are left over.
 abbrev pub made : {X : Type 0} (kinds : List Kind) → (Values kinds → X) → List (List ℕ) → Option X
 made [] make words = end_of_words words >>= λ none. Some (make none)
 made (kind ∷ kinds) make words =
     first_value kind words >>= λ first. made kinds (λ values. make (first.0, values)) first.1
 
--- The kinds of the words that follow the verb of an event or a command.
+-- The kinds of the words that follow the verb of an event or a command in a script line.
 abbrev pub kinds_of : Verb → List Kind
 kinds_of verb.Device = AnyName ∷ Number ∷ Number ∷ Number ∷ []
 kinds_of verb.List = AnyName ∷ Hex ∷ []
@@ -139,7 +139,7 @@ said_by verb.Tick at words = made (kinds_of verb.Tick) (line_of verb.Tick at) wo
 said_by verb.Gone at words = made (kinds_of verb.Gone) (line_of verb.Gone at) words
 said_by verb.Failed at words = made (kinds_of verb.Failed) (line_of verb.Failed at) words
 
--- The kinds of the words that follow the verb of a query.
+-- The kinds of the words that follow the verb of a query in a script line.
 abbrev pub kinds_asked : Question → List Kind
 kinds_asked question.Meter = AnyName ∷ []
 kinds_asked question.Intervals = AnyName ∷ []
@@ -162,7 +162,7 @@ asked_by question.Intervals words =
 asked_by question.Days words = made (kinds_asked question.Days) (line_asked question.Days) words
 asked_by question.Poll words = made (kinds_asked question.Poll) (line_asked question.Poll) words
 
--- The table of the verbs of events and commands, by name.
+-- The table of the verbs of events and commands in script lines, by name.
 abbrev pub verbs : List (List ℕ × Verb)
 verbs =
     (codes "device", verb.Device)
@@ -184,11 +184,12 @@ verbs =
     ∷ (codes "failed", verb.Failed)
     ∷ []
 
--- The verb of an event or a command with the given name, or `None` if no verb has the name.
+-- The verb of an event or a command that has the given name in scripts, or `None` if no verb has
+-- the name.
 abbrev pub verb_of : List ℕ → Option Verb
 verb_of word = meaning_in verbs word
 
--- The table of the verbs of queries, by name.
+-- The table of the verbs of queries in script lines, by name.
 abbrev pub questions : List (List ℕ × Question)
 questions =
     (codes "meter", question.Meter)
@@ -197,11 +198,11 @@ questions =
     ∷ (codes "poll", question.Poll)
     ∷ []
 
--- The verb of a query with the given name, or `None` if no query has the name.
+-- The verb of a query that has the given name in scripts, or `None` if no query has the name.
 abbrev pub question_of : List ℕ → Option Question
 question_of word = meaning_in questions word
 
--- The script line with timestamp `at` that the words after the timestamp spell.
+-- The event or command with the timestamp `at` that the words after the timestamp spell.
 abbrev pub timed_said : ℕ → List (List ℕ) → Option ScriptLine
 timed_said at [] = None
 timed_said at (word ∷ words) = verb_of word >>= λ verb. said_by verb at words
@@ -212,7 +213,8 @@ abbrev pub said_from : Option ℕ → List ℕ → List (List ℕ) → Option Sc
 said_from None word words = question_of word >>= λ question. asked_by question words
 said_from (Some at) word words = timed_said at words
 
--- The script line that the words spell, or `None` if they spell no line.
+-- The script line (a command, an event or a query) that the words spell, or `None` if they spell no
+-- line.
 abbrev pub line_said : List (List ℕ) → Option ScriptLine
 line_said [] = None
 line_said (word ∷ words) = said_from (number_of word) word words

@@ -1,5 +1,5 @@
--- Defines the contract for parsing a script line. The words spell the parsed script line, and no
--- other script line.
+-- Defines the contract for parsing a script line (a command, an event or a query): the words spell
+-- the parsed script line, and no other script line.
 use Rattle.std.specs.Prelude.{◌≡◌, ◌<◌, ℕ, List, [], length, Ok, Err}
 use Rattle.std.specs.declared.result.Result.{Result}
 use Rattle.office_events.specs.declared.events.Event.TheVariants.{Bytes}
@@ -9,7 +9,8 @@ use Rattle.script_text.specs.declared.line_fault.LineFault.TheVariants.{Bad, Mem
 use Rattle.script_text.specs.declared.script.ScriptLine.{ScriptLine}
 use Rattle.script_text.specs.declared.script.ScriptLine.TheVariants.{Event, List as PointList}
 
--- States that the words spell the given script line, and no other line.
+-- States that the words spell the given script line (a command, an event or a query), and no other
+-- script line.
 pub record IsOnly (words : List (List ℕ)) (line : ScriptLine) : Type 0 where
   pub is : IsLine words line
   pub only : (other : ScriptLine) → IsLine words other → other ≡ line
@@ -27,8 +28,8 @@ pub record BringBytes (words : List (List ℕ)) : Type 0 where
   pub is : IsLine words line
   pub some : 0 < length (bytes_in line)
 
--- States that parsing returns the only script line that the words spell, or `Bad` if they spell
--- none. `Memory` is possible only for a line that carries bytes.
+-- States that parsing returns the only script line that the words spell, or `Bad` if the words
+-- spell no script line. `Memory` is possible only for a line that carries bytes.
 abbrev pub Reads : List (List ℕ) → Result ScriptLine LineFault → Type 0
 Reads words (Ok line) = IsOnly words line
 Reads words (Err Bad) = (line : ScriptLine) → IsLine words line → ⊥

@@ -15,15 +15,15 @@ use office_events::{
     StartRound, VoidEntry,
 };
 
-// Returns the script line of a command, or `None` if words of the line are left to parse.
+// Returns the script line of a command, or `None` if words are left after the command's arguments.
 fn command_line(at: u64, command: Command, words: &mut Words<'_>) -> Option<ScriptLine>
     ensures { result ≡ said_last (line.Event at (event.Command command)) words.old }
 {
     event_line(at, Event::Command(command), words)
 }
 
-// Parses `NAME UNIT TIMEOUT WINDOW`, the words after `device` in a line. They describe a new Modbus
-// device.
+// Parses `NAME UNIT TIMEOUT WINDOW`, the words after `device` in a script line. These words
+// describe a new Modbus device.
 pub(crate) fn device(at: u64, words: &mut Words<'_>) -> Option<ScriptLine>
     ensures { result ≡ said_by verb.Device at words.old }
 {
@@ -36,8 +36,8 @@ pub(crate) fn device(at: u64, words: &mut Words<'_>) -> Option<ScriptLine>
     command_line(at, command, words)
 }
 
-// Parses `NAME DEVICE FUNCTION ADDRESS SCALE`, the words after `register` in a line. They describe
-// a new accounting register (a named counter).
+// Parses `NAME DEVICE FUNCTION ADDRESS SCALE`, the words after `register` in a script line. These
+// words describe a new accounting register (a named counter).
 pub(crate) fn register(at: u64, words: &mut Words<'_>) -> Option<ScriptLine>
     ensures { result ≡ said_by verb.Register at words.old }
 {
@@ -51,8 +51,8 @@ pub(crate) fn register(at: u64, words: &mut Words<'_>) -> Option<ScriptLine>
     command_line(at, command, words)
 }
 
-// Parses `REGISTER METER RAW SF CEILING [RANGE]`, the words after `install` in a line. They
-// describe the installation of a meter.
+// Parses `REGISTER METER RAW SF CEILING [RANGE]`, the words after `install` in a script line. These
+// words describe the installation of a meter.
 pub(crate) fn install(at: u64, words: &mut Words<'_>) -> Option<ScriptLine>
     ensures { result ≡ said_by verb.Install at words.old }
 {
@@ -67,8 +67,8 @@ pub(crate) fn install(at: u64, words: &mut Words<'_>) -> Option<ScriptLine>
     command_line(at, command, words)
 }
 
-// Parses `REGISTER LAST ROLLS METER RAW SF CEILING [RANGE]`, the words after `exchange` in a line.
-// They describe the exchange of a meter for another meter.
+// Parses `REGISTER LAST ROLLS METER RAW SF CEILING [RANGE]`, the words after `exchange` in a script
+// line. These words describe the exchange of a meter for another meter.
 pub(crate) fn exchange(at: u64, words: &mut Words<'_>) -> Option<ScriptLine>
     ensures { result ≡ said_by verb.Exchange at words.old }
 {
@@ -85,8 +85,8 @@ pub(crate) fn exchange(at: u64, words: &mut Words<'_>) -> Option<ScriptLine>
     command_line(at, command, words)
 }
 
-// Parses `REGISTER BEFORE AFTER`, the words after `reset` in a line. They describe the reset of a
-// meter's counter.
+// Parses `REGISTER BEFORE AFTER`, the words after `reset` in a script line. These words describe
+// the reset of a meter's counter.
 pub(crate) fn reset(at: u64, words: &mut Words<'_>) -> Option<ScriptLine>
     ensures { result ≡ said_by verb.Reset at words.old }
 {
@@ -112,8 +112,8 @@ pub(crate) fn rescale(at: u64, words: &mut Words<'_>) -> Option<ScriptLine>
     command_line(at, command, words)
 }
 
-// Parses `REGISTER RAW ROLLS [AT]`, the words after `manual` in a line. They describe a reading
-// entered by hand.
+// Parses `REGISTER RAW ROLLS [AT]`, the words after `manual` in a script line. These words describe
+// a reading entered by hand.
 pub(crate) fn manual(at: u64, words: &mut Words<'_>) -> Option<ScriptLine>
     ensures { result ≡ said_by verb.Manual at words.old }
 {
@@ -126,8 +126,8 @@ pub(crate) fn manual(at: u64, words: &mut Words<'_>) -> Option<ScriptLine>
     command_line(at, command, words)
 }
 
-// Parses `REGISTER RAW ROLLS`, the words after `close` in a line. They describe the closing of a
-// meter with its last count.
+// Parses `REGISTER RAW ROLLS`, the words after `close` in a script line. These words describe the
+// closing of a meter with its last count.
 pub(crate) fn close(at: u64, words: &mut Words<'_>) -> Option<ScriptLine>
     ensures { result ≡ said_by verb.Close at words.old }
 {
@@ -139,8 +139,8 @@ pub(crate) fn close(at: u64, words: &mut Words<'_>) -> Option<ScriptLine>
     command_line(at, command, words)
 }
 
-// Parses `METER PLACE`, the words after `void` in a line. They cancel (void) the meter's entry with
-// index PLACE.
+// Parses `METER PLACE`, the words after `void` in a script line. The command cancels (voids) the
+// meter's entry with index PLACE.
 pub(crate) fn void_entry(at: u64, words: &mut Words<'_>) -> Option<ScriptLine>
     ensures { result ≡ said_by verb.Void at words.old }
 {
@@ -151,8 +151,8 @@ pub(crate) fn void_entry(at: u64, words: &mut Words<'_>) -> Option<ScriptLine>
     command_line(at, command, words)
 }
 
-// Parses `DEVICE FROM`, the words after `round` in a line. They start a round of polls of the
-// device, one for each Modbus read of its plan.
+// Parses `DEVICE FROM`, the words after `round` in a script line. The command starts a round of
+// polls, one for each Modbus read that the device needs.
 pub(crate) fn round(at: u64, words: &mut Words<'_>) -> Option<ScriptLine>
     ensures { result ≡ said_by verb.Round at words.old }
 {

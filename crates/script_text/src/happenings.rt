@@ -10,7 +10,7 @@ use crate::verbs::Question;
 use office_events::Event;
 use poll_core::Closing;
 
-/// Returns the script line of an event, or `None` if words of the line are left to parse.
+/// Returns the script line of an event, or `None` if words are left after the event's arguments.
 pub(crate) fn event_line(at: u64, event: Event, words: &mut Words<'_>) -> Option<ScriptLine>
     ensures { result ≡ said_last (line.Event at event) words.old }
 {
@@ -18,8 +18,8 @@ pub(crate) fn event_line(at: u64, event: Event, words: &mut Words<'_>) -> Option
     Some(ScriptLine::Event { at, event })
 }
 
-// Parses `DEVICE FUNCTION ADDRESS COUNT`, the words after `start` in a line. They describe the
-// start of a Modbus read.
+// Parses `DEVICE FUNCTION ADDRESS COUNT`, the words after `start` in a script line. These words
+// describe the start of a Modbus read.
 pub(crate) fn start(at: u64, words: &mut Words<'_>) -> Option<ScriptLine>
     ensures { result ≡ said_by verb.Start at words.old }
 {

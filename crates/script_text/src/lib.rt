@@ -1,6 +1,6 @@
-//! Reads the lines of scripts, and writes the texts that a run of a script prints. After a failed
-//! write, the writer has received a beginning of the text. No function that writes a text allocates
-//! memory.
+//! Reads the lines of scripts (commands, events and queries), and writes the texts that a run of a
+//! script prints. After a failed write, the writer has received a beginning of the text. No
+//! function that writes a text allocates memory.
 #![tactic(auto)]
 
 mod accepted_events;

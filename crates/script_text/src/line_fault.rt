@@ -9,13 +9,14 @@ use std::fmt::{Display, Formatter};
 /// The reason why a script line was not parsed or executed.
 #[derive(Clone, Copy, Debug)]
 pub enum LineFault {
-    /// The line has none of the forms of a script line.
+    /// The line is malformed: it is no command, event or query.
     Bad,
     Memory,
 }
 
 impl LineFault {
-    /// Returns the number of the fault: 1 for a malformed line, 2 for out of memory.
+    /// Returns the numeric code of a script line's fault: 1 for a malformed line, 2 for out of
+    /// memory.
     pub fn number(self) -> u8
         ensures { result ≡ line_fault_number self }
     {

@@ -18,7 +18,8 @@ use std::alloc::{AllocError, Global};
 impl ScriptLine {
     ghost use Rattle.script_text.specs.Seen.{Reads};
 
-    /// Parses a line of a script. Parsing can fail with `Memory` only if the line contains bytes.
+    /// Parses a line of a script. Parsing can fail with `Memory` only if the line contains bytes in
+    /// hexadecimal.
     pub fn read(alloc: Global, line: &[u8]) -> Result<ScriptLine, LineFault>
         ensures { Reads (words_of line.now) result }
     {
@@ -112,8 +113,8 @@ fn line_by(
     }
 }
 
-// Parses `DEVICE HEX`, the words after `list` in a line. They describe a point list as the bytes of
-// its CSV text.
+// Parses `DEVICE HEX`, the words after `list` in a script line. These words describe a point list
+// as the bytes of its CSV text.
 fn list_line(
     alloc: Global,
     at: u64,
@@ -131,7 +132,8 @@ fn list_line(
     }
 }
 
-// Parses `DEVICE HEX`, the words after `bytes` in a line. They describe bytes that a device sent.
+// Parses `DEVICE HEX`, the words after `bytes` in a script line. These words describe bytes that a
+// device sent.
 fn bytes_line(
     alloc: Global,
     at: u64,

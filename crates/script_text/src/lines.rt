@@ -63,7 +63,8 @@ fn end_word(ended: bool) -> &'static [u8]
     if ended { b" ended\n" } else { b" open\n" }
 }
 
-/// Writes the line `poll N OUTCOME`. The outcome of a pending poll is `pending`.
+/// Writes the output line `poll N OUTCOME` for a poll (a Modbus read), with `pending` as the
+/// outcome before the poll has ended.
 pub fn write_poll<W: Write>(row: &PollRow, output: &mut W) -> io::Result<()>
     ensures { GotText result (text.poll_line row.now)
         (W.contents output.old) (W.contents output.new) }

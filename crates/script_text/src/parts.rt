@@ -12,7 +12,7 @@ const PIECE: usize = 32;
 /// The maximum number of hex digits in one write.
 const DIGITS: usize = 2 * PIECE;
 
-/// Writes the complete text, or fails after a beginning of it.
+/// Writes the complete text, or fails after a beginning of the text.
 pub(crate) fn write_text<W: Write>(text: &[u8], output: &mut W) -> io::Result<()>
     ensures { GotText result text.now (W.contents output.old) (W.contents output.new) }
 {

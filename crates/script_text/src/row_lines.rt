@@ -1,4 +1,4 @@
-//! Writes the lines for quarter hours and for days, without allocating memory.
+//! Writes the lines for the energies of quarter hours and of days, without allocating memory.
 
 mod line;
 mod rows;

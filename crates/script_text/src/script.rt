@@ -4,8 +4,8 @@ ghost use Rattle.std.specs.Prelude.{◌≡◌, ◌↔◌, IfSome, IsSome};
 use mb_wire::ReadSpan;
 use office_events::{Event, Name, Piece};
 
-/// The script line that starts a Modbus read. Its numbers are as written in the line, and may be
-/// out of range.
+/// The script line that starts a Modbus read. The numbers of the read are those in the line, and
+/// may be out of range.
 #[derive(Clone, Copy)]
 pub struct GivenStart {
     /// The name of the device, or `None` if the word is not a valid name.
@@ -32,7 +32,7 @@ impl GivenStart {
     }
 }
 
-/// The script line with a device's point list as CSV text, which parsing leaves unchecked.
+/// The script line with a device's point list as CSV text, which the parser does not check.
 #[derive(Drop)]
 pub struct GivenList {
     /// The name of the device, or `None` if the word is not a valid name.
@@ -40,22 +40,23 @@ pub struct GivenList {
     pub text: Piece,
 }
 
-/// A line of a script. Timestamps are seconds since 1970-01-01 UTC. Numbers may be out of range,
-/// and a name is `None` if the word is not a valid name.
+/// A line of a script: an event, a command or a query. Timestamps are seconds since 1970-01-01 UTC.
+/// Numbers may be out of range, and a name is `None` if the word is not a valid name.
 #[derive(Drop)]
 pub enum ScriptLine {
-    /// An event or a command, with its timestamp.
+    /// A script line with an event or a command, and the line's timestamp.
     Event { at: u64, event: Event },
-    /// A command that stores a new point list for a device.
+    /// A script line that stores a new point list for a device.
     List { at: u64, list: GivenList },
-    /// A command that starts a read.
+    /// A script line that starts a Modbus read.
     Start { at: u64, start: GivenStart },
-    /// A query for the last count and the total energy of a meter.
+    /// A script line that queries the last count and the total energy of a meter.
     Meter { name: Option<Name> },
-    /// A query for the energy of a meter in each quarter hour.
+    /// A script line that queries the energy of a meter in each quarter hour.
     Intervals { name: Option<Name> },
-    /// A query for the energy of an accounting register (a named counter) on each day.
+    /// A script line that queries the energy of an accounting register (a named counter) on each
+    /// day.
     Days { name: Option<Name> },
-    /// A query for the outcome of a poll.
+    /// A script line that queries the outcome of a poll (a Modbus read).
     Poll { number: u64 },
 }

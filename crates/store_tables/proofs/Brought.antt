@@ -23,14 +23,15 @@ use Rattle.store_tables.proofs.Grown.{has_not, has_split}
 abbrev SetsVersion : Content → Content → Type 0
 SetsVersion = Edits meta meta_columns (changed_where every (with_version 3))
 
--- The rows of all tables after the upgrade of a version 2 file created the empty table `voids`.
+-- The rows of all tables after a version 2 file was upgraded. The upgrade creates the empty table
+-- `voids`.
 abbrev after_second : Content → Content
 after_second content = with_rows 20 [] content
 
 abbrev after_first : Content → Content
 after_first content = with_rows 18 [] (after_second content)
 
--- ---- upgrading files of version 2: the tables other than `meta` and `voids` keep their rows
+-- Lemmas on upgrading files of version 2: the tables except `meta` and `voids` keep their rows.
 
 second_same : (content : Content) (t : ℕ) → HasTree (first_tables 12).tables t → after_second content t ≡ content t
 second_same content t there = with_others 20 [] content t (λ is. has_not (first_tables 12).tables 20 refl (subst (HasTree (first_tables 12).tables) is there))
@@ -68,7 +69,8 @@ brought_second a b c x r one two =
       last.2,
     ))
 
--- ---- upgrading files of version 1: the tables other than `meta` and the new ones keep their rows
+-- Lemmas on upgrading files of version 1: the tables except `meta` and the new tables keep their
+-- rows.
 
 first_same : (content : Content) (t : ℕ) → HasTree (first_tables 11).tables t → after_first content t ≡ content t
 first_same content t there =
@@ -122,7 +124,8 @@ brought_first {E} {D} {F} shown a b c d x r one two three =
       last.2,
     ))
 
--- ---- the connection after a file was opened: it satisfies the contract `OpensFile`
+-- Lemmas: a call that opens a file satisfies the contract `OpensFile`, and the connection is then
+-- open to the file.
 
 module _ (layout : Layout) (zone : List ℕ) (content : Content) where
   -- If a query runs before a file is opened, both together satisfy the contract of opening the
@@ -162,8 +165,8 @@ module _ (layout : Layout) (zone : List ℕ) (content : Content) where
   passed_on a b e (Ok y) Q fails it = absurd fails
   passed_on a b e (Err d) Q fails it = record { ok = tt; err = it.err; survives = it.survives }
 
-  -- If opening a file satisfies the contract `OpensFile`, it also satisfies the contract with
-  -- another value in Ok.
+  -- If opening a file satisfies the contract `OpensFile`, it also satisfies the contract with any
+  -- other value in Ok.
   pub reported_as : {X Y E D : Type 0} (a b : State) (x : X) (y : Y) → OpensFile {X = X} {E = E} layout zone content a b (Ok x) → OpensFile {X = Y} {E = D} layout zone content a b (Ok y)
   reported_as a b x y it = record { ok = it.ok; err = tt; survives = it.survives }
 

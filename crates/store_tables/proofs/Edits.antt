@@ -24,7 +24,8 @@ use Rattle.store_tables.proofs.Fresh.{write_fresh}
 abbrev pub picks : List ℤ → Row → Bool
 picks ids r = list_any (λ id. has_rowid id r) ids
 
--- ---- deleting rows one rowid after another leaves the rows whose rowids are not in the list
+-- Lemmas: deleting rows one rowid after another leaves the rows whose rowids are not in the list of
+-- rowids.
 
 filter_twice : (a b : Row → Bool) (rows : List Row) → filter (λ r. not (b r)) (filter (λ r. not (a r)) rows) ≡ filter (λ r. not (a r || b r)) rows
 filter_twice a b [] = refl
@@ -68,8 +69,8 @@ module _ (p : Row → Bool) where
   abbrev chosen : List Row → List ℤ
   chosen rows = ids_of (filter p rows)
 
-  -- If a row's rowid differs from the rowids of all rows of a list, the rowids of the list's
-  -- passing rows do not select the row.
+  -- If a row's rowid differs from the rowids of all rows in a list, it differs from those of the
+  -- rows that pass test `p`.
   none_of : (r : Row) (rows : List Row) → rowid r ≡ Int (id_of r) → AllByRecursion (λ y. same_id (id_of r) y ≡ false) (map id_of rows) → picks (chosen rows) r ≡ false
   none_of r [] keyed apart = refl
   none_of r (s ∷ rows) keyed apart = elim (cases_Bool (p s)) [
@@ -118,7 +119,7 @@ left_are p rows ids apart same =
     without_is rows ids ∙ (same_filter (picks ids) (picks (ids_of (filter p rows))) rows (same_picks (ids_of (filter p rows)) ids rows same)
     ∙ same_filter (picks (ids_of (filter p rows))) p rows (picked_are p rows apart.keyed apart.distinct))
 
--- ---- an UPDATE removes the changed rows and inserts their new versions, with the same rowids
+-- Lemmas: an UPDATE removes the changed rows and inserts their new versions, with the same rowids.
 
 first_free : (b c : Bool) → not b && c ≡ true → (b ≡ false) × (c ≡ true)
 first_free true c e = absurd (let f = e in cc)
@@ -135,7 +136,7 @@ pub given_are : (rows news : List Row) → numbered Given rows news ≡ news
 given_are rows [] = refl
 given_are rows (n ∷ news) = ap (λ ns. n ∷ ns) (given_are (put_row n rows) news)
 
--- ---- an UPDATE changes the rows that pass its test, and no other row
+-- Lemmas: an UPDATE changes the rows that pass its test, and no other row.
 
 module _ (p : Row → Bool) (f : Row → Row) where
   abbrev pub changed : Row → Row
@@ -171,7 +172,7 @@ module _ (p : Row → Bool) (f : Row → Row) where
       subst (λ ls. IsPermutation (map f (filter p rows) ++ filter (λ r. not (p r)) rows) (news ++ ls)) (sym left) (IsPermutation-append_left (filter (λ r. not (p r)) rows) (map f (filter p rows)) news same_news) in
       IsPermutation-trans _ _ _ (IsPermutation-sym _ _ (parted rows)) (IsPermutation-trans _ _ _ joined put)
 
--- ---- a table scan finds exactly the rows that pass its test
+-- Lemmas: a table scan finds exactly the rows that pass its test.
 
 pub picked : {X : Type 0} (p : Row → Bool) (e : Row → X) (rows : List Row) → flat_map (λ r. cond (p r) (e r ∷ []) []) rows ≡ map e (filter p rows)
 picked p e [] = refl

@@ -1,5 +1,5 @@
--- Examples of accounting registers whose counter and scale fit one read of 125 Modbus registers,
--- and of the first ones that do not fit.
+-- Examples of accounting registers (named counters) whose counter and scale fit in one read of 125
+-- Modbus registers, and of registers that just don't fit.
 use Rattle.std.proofs.Common.{◌≡◌, ℕ, true, false, pos, negsuc, List, [], ◌∷◌, Ok, Err, codes, refl}
 use Rattle.mb_wire.specs.declared.span.ReadFunction.TheVariants.{HoldingRegisters}
 use Rattle.sqlite.specs.declared.types.Value.TheVariants.{Int, Text}
@@ -36,8 +36,8 @@ too_far_before = refl
 row : (address : ℕ) → (scale : ℕ) → Row
 row address scale = Int (pos 1) ∷ Text (codes "r1") ∷ Text (codes "d1") ∷ Int (pos 3) ∷ Int (pos address) ∷ Int (pos 1) ∷ Int (pos scale) ∷ []
 
--- Examples of rows of the table `registers`. If a row spans 125 Modbus registers, the reader
--- returns it. If a row spans 126, the reader reports `Damaged`.
+-- Examples of rows of the table `registers`. If a counter and its scale span 125 Modbus registers,
+-- the reader returns the row. If they span 126, the reader reports `Damaged`.
 reached : register_in (row 0 124) ≡ Ok (record { place = 1; function = HoldingRegisters; address = 0; scale = At 124 })
 unfolding row
 reached = refl

@@ -67,7 +67,7 @@ pub passed : {X E : Type 0} (P : E → Type 0) (e : E) (r : Result X E) → IsEr
 passed P e (Ok x) fails h = absurd fails
 passed P e (Err d) fails h = subst P (sym fails) h
 
--- ---- a query of the store fails only for a cause in `IsStoreError`
+-- Lemmas: a query of the store fails only for a cause in `IsStoreError`.
 
 -- True if a database with the schema `schema` can answer the query `sql` with the parameters
 -- `params`.
@@ -137,7 +137,7 @@ pub failed_on : {A : Type 0} (P : A → Type 0) (Q : Error → Type 0) (e : Erro
 failed_on P Q e (Ok a) fails h = absurd fails
 failed_on P Q e (Err d) fails h = subst Q (sym fails) h
 
--- ---- if the second of two calls fails, its cause is also a cause of both calls together
+-- Lemmas: if the second of two calls fails, its cause is also a cause of both calls together.
 
 pub on_err : {X E : Type 0} {P Q : E → Type 0} (r : Result X E) → ((e : E) → P e → Q e) → IfErr r P → IfErr r Q
 on_err (Ok x) f h = tt
@@ -182,8 +182,8 @@ pub later_fault : (a b c : State) (Sound : Type 0) (f : RowFault) → StateAfter
 later_fault a b c Sound (Sql e) goes up why = later_error a b c e goes up why
 later_fault a b c Sound Damaged goes up why = why
 
--- If damage in a part of a table's rows justifies the fault `Damaged`, damage justifies it for all
--- rows of the table.
+-- If the fault `Damaged` is permitted because of a damaged row in a part of a table, it is also
+-- permitted for the complete table.
 pub less_fault : (a b : State) (Sound Part : Type 0) (f : RowFault) → (Sound → Part) → IsFault a b Part f → IsFault a b Sound f
 less_fault a b Sound Part (Sql e) part why = why
 less_fault a b Sound Part Damaged part not = λ sound. not (part sound)

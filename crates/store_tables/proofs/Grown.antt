@@ -27,7 +27,7 @@ use Rattle.store_tables.specs.Schema.{books_schema}
 use Rattle.store_tables.specs.Layouts.{first_tables}
 use Rattle.store_tables.specs.Growing.{HasFirst, Grows}
 
--- ---- which tables are among the first ones of the schema, by the numbers of their B-trees
+-- Lemmas on which tables are among the first tables of the schema, by the numbers of their B-trees.
 
 pub has_not : (tables : List Table) (t : ℕ) → list_any (λ (x : Table). x.tree == t) tables ≡ false → HasTree tables t → ⊥
 has_not [] t off has = has
@@ -75,7 +75,7 @@ kept [] db next all t has = absurd has
 kept (x ∷ tables) db next all t (inl is) = subst (λ n. next n ≡ db n) (sym is) all.0
 kept (x ∷ tables) db next all t (inr more) = kept tables db next all.1 t more
 
--- ---- one CREATE TABLE statement adds the next empty table to the schema
+-- Lemmas: one CREATE TABLE statement adds the next empty table to the schema.
 
 record IsMade (schema : Schema) (table : Table) (old new : Database) : Type 0 where
   schema_is : new.schema ≡ created schema table
@@ -139,7 +139,7 @@ module _ (n : ℕ) (text : List ℕ) (table : Table)
       going old new (Err e) h = tt
       going old new (Ok count) h = λ content has. grown old.now new.now (makes old new (Ok count) has.schema h) content has
 
--- ---- several CREATE TABLE statements in sequence add several tables
+-- Lemmas: several CREATE TABLE statements in sequence add several tables.
 
 pub first_of : (n : ℕ) (db : Database) (content : Content) → AreTablesIn (first_tables n) db content → ((t : ℕ) → HasTree books_schema.tables t → (HasTree (first_tables n).tables t → ⊥) → content t ≡ []) → HasFirst n db content
 first_of n db content has none = record { schema = has.schema; rows = has.rows; apart = has.apart; none = none }

@@ -87,7 +87,7 @@ module _ {S A X : Type 0} (g : Ghosts S) (old new : Held S) (tree : ℕ) (column
         (row_fault (state g old) (state g new) (AllByRecursion IsSound rows) (IsSound one.0) e (λ sound. one_sound rows it.0 one.0 it.1 sound one.1) (reads.fault one.0 one.2));
   }
 
--- ---- a look-up of one integer returns the first column of the first result row
+-- Lemmas: a look-up of one integer returns the first column of the first result row.
 
 module _ {S X : Type 0} (g : Ghosts S) (old new : Held S) (tree : ℕ) (columns : X → Row) (IsSound : X → Type 0) (asks : Asks g old new) (passes : X → Bool) (Later : X → X → Type 0) (shown : X → Row)
     (items : List Row) (shows : ReportsAnswer {A = List Row} g old new tree columns (Ok items) (ShowsFirst passes Later shown)) (Answers : List X → Option ℕ → Type 0) (low high : ℕ) (of : X → ℕ)

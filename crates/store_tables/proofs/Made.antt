@@ -26,8 +26,8 @@ filled zone a b c x r one two =
     let turned = turns nothing (grows nothing (blank a.now is)) in
     (turned.0, record { marked = turned.1.rows [] (IsPermutation-refl []); empty = λ t off. turned.1.others t off }, turned.2))
 
--- If a transaction satisfies the contract `TransactsTo`, it also satisfies the contract with
--- another value in Ok.
+-- If a transaction satisfies the contract `TransactsTo`, it also satisfies the contract with any
+-- other value in Ok.
 pub made_as : {X Y E D : Type 0} (a b : State) (x : X) (y : Y) (Goes : Database → Database → Type 0) → TransactsTo {X = X} {E = E} a b (Ok x) Goes → TransactsTo {X = Y} {E = D} a b (Ok y) Goes
 made_as a b x y Goes it = record { ok = it.ok; err = λ clean. tt; survives = it.survives }
 

@@ -67,10 +67,10 @@ pub then_read : {A B : Type 0} (first : Result A RowFault) (next : A → Result 
 then_read (Ok a) next b e = (a, refl, e)
 then_read (Err f) next b e = absurd (let g = e in cc)
 
--- ---- if a row was read successfully, each of its values is within its bounds
+-- Lemmas: if a row was read successfully, each of its values is within its bounds.
 
--- Splits a successful read of a row: `value` is from the first column, and `b` from the other
--- columns.
+-- True if reading a row returned `b`: the first column has `value`, and `next` returned `b` from
+-- the other columns.
 pub record HasRead {X B : Type 0} (o : Option X) (next : X → Result B RowFault) (b : B) : Type 0 where
   pub value : X
   pub is : o ≡ Some value
@@ -117,7 +117,7 @@ pub or_is : {A : Type 0} (o : Option A) (a : A) → or_damaged o ≡ Ok a → o 
 or_is (Some b) a e = ap Some (ok_is e)
 or_is None a e = absurd (let f = e in cc)
 
--- ---- an integer that was read from the first column is within its bounds
+-- Lemmas: an integer that was read from the first column is within its bounds.
 
 pub number_bounds : (low high : ℕ) (row : Row) (r : Result ℕ RowFault) → r ≡ or_damaged (whole_in low high (column row 0)) → IfOk r (λ n. (low ≤ n) × (n ≤ high))
 number_bounds low high row (Err f) is = tt
@@ -128,7 +128,7 @@ pub reads_number : {X : Type 0} (low high : ℕ) (shown : X → Row) (of : X →
 reads_number low high shown of Sound first bounds row r is = reads_row row shown (λ x n. n ≡ of x) Sound r (λ x seen.
     subst (IsFair (Sound x) (λ n. n ≡ of x)) (sym (is ∙ ap (λ v. or_damaged (whole_in low high v)) (ap (λ r. column r 0) seen ∙ first x))) (fair_last (Sound x) (λ m. m ≡ of x) low high (of x) (bounds x) refl))
 
--- ---- the stored code of a Modbus read function is read back as this function
+-- Lemmas: the stored code of a Modbus read function is read back as this function.
 
 pub function_back : (f : ReadFunction) → function_in (Int (pos (code_of f))) ≡ Some f
 function_back HoldingRegisters = refl

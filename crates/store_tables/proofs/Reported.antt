@@ -26,7 +26,7 @@ apart_from : (e d f g : OpenFault) → (e ≡ d) ⊎ (e ≡ f) → d ≢ g → f
 apart_from e d f g (inl is) off away same = off (sym is ∙ same)
 apart_from e d f g (inr is) off away same = away (sym is ∙ same)
 
--- ---- if the database itself fails, the fault is `Store` or `Memory`
+-- Lemmas: if the database itself fails, the fault is `Store` or `Memory`.
 
 own_kind : (a b : State) (e : OpenFault) → IsOwnFault a b e → (e ≡ Store) ⊎ (e ≡ Memory)
 own_kind a b Store own = inl refl
@@ -38,7 +38,7 @@ is_store : (a b : State) (e : OpenFault) → (e ≡ Store) ⊎ (e ≡ Memory) �
 is_store a b e (inl is) own = subst (IsOwnFault a b) (sym is) own
 is_store a b e (inr is) own = subst (IsOwnFault a b) (sym is) tt
 
--- If a call of the database fails, the reported fault is one of the database itself, not one of the
+-- If a call of the database fails, the reported fault is about the database itself, not about the
 -- file's content.
 pub own_fault : (a b : State) (error : Error) (e : OpenFault) → e ≡ fault_of error → (e ≡ Store) ⊎ (e ≡ Memory) → a.faults ≤ b.faults → IsStoreError a b error → IsOwnFault a b e
 own_fault a b error e is kind up (inl want) = subst (IsOwnFault a b) (sym (is ∙ ap fault_of want)) tt
@@ -51,7 +51,7 @@ later_own a b c Memory goes own = tt
 later_own a b c NotOurs goes own = absurd own
 later_own a b c NoZone goes own = absurd own
 
--- ---- the result of opening a file, by its version and time zone
+-- Lemmas on the result of opening a file, by its version and time zone.
 
 -- If the database itself fails, the contract of opening a file is satisfied, whatever version and
 -- time zone the file has.

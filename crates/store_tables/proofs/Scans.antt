@@ -98,7 +98,7 @@ asked params tree tests project db rows a =
     subst (IsPermutation (map (shows params project) (filter (passes params tests) (db tree)))) (sym a.shown)
     (subst (λ xs. IsPermutation xs (map (λ (o : Output). o.1) a.ordered)) (ap (map (λ (o : Output). o.1)) (kept_are params tree tests project [] no_limit db rows a) ∙ shown_are params tree tests project [] no_limit (filter (passes params tests) (db tree))) shown)
 
--- ---- a test of a WHERE clause is true exactly if its Boolean value is true
+-- Lemmas: a test of a WHERE clause is true exactly if its Boolean value is true.
 
 truth_back : (b : Bool) → is_true (from_truth (Some b)) ≡ b
 truth_back true = refl

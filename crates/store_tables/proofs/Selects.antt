@@ -29,7 +29,7 @@ use Rattle.store_tables.proofs.Permuted.{unmapped}
 use Rattle.store_tables.proofs.Laid.{Numbered, laid, lay, IsLaid, laid_from, laid_chosen}
 use Rattle.store_tables.proofs.Scans.{scan, env, passes, shows, kept_are}
 
--- ---- in a list that SQLite sorted, no element precedes a smaller one
+-- Lemmas: in a list that SQLite sorted, no element precedes a smaller one.
 
 module _ {X : Type 0} (cmp : X → X → Ordering) (total : IsTotalOrder cmp) where
   abbrev AtMost : X → X → Type 0
@@ -53,7 +53,7 @@ module _ {X : Type 0} (cmp : X → X → Ordering) (total : IsTotalOrder cmp) wh
       let up = ascends xs tail in
       (below_all x xs sorted up, up)
 
--- ---- a SELECT with WHERE, ORDER BY and LIMIT returns the matching rows in order
+-- Lemmas: a SELECT with WHERE, ORDER BY and LIMIT returns the matching rows in order.
 
 module _ {X : Type 0} (tree : ℕ) (tests project : List Term) (order : List (Term × Key)) (limit : Term) (params : Row) (columns : X → Row) (p : X → Bool) (shown : X → Row) (R : X → X → Type 0)
     (reports : (n : ℤ) (x : X) → passes params tests (laid (is_numbered tree) n (columns x)) ≡ p x) (reports_columns : (n : ℤ) (x : X) → shows params project (laid (is_numbered tree) n (columns x)) ≡ shown x)
@@ -99,7 +99,7 @@ module _ {X : Type 0} (tree : ℕ) (tests project : List Term) (order : List (Te
       let apart = has.apart tree there in
       selected old.now.trees rows xs (laid_from (is_numbered tree) columns (old.now.trees tree) (content tree) xs apart.keyed (has.rows tree there) are) (got.answer Null)
 
--- ---- if a SELECT has LIMIT 1, its result has the first matching row, or no row
+-- Lemmas: if a SELECT has LIMIT 1, its result has the first matching row, or no row.
 
 empty_only : {X : Type 0} (xs : List X) → IsPermutation xs [] → xs ≡ []
 empty_only [] same = refl
@@ -118,7 +118,7 @@ module _ {X A : Type 0} (passes : X → Bool) (IsSeen : X → A → Type 0) wher
   last_some key xs [] x a h is seen = absurd (let e = is in cc)
   last_some key xs (y ∷ found) x a h is seen = let same : y ≡ x = cc in (y, subst (λ z. IsSeen z a) (sym same) seen, found, h.all, h.order.0)
 
--- ---- SQLite's order of integers agrees with the order of natural numbers
+-- Lemmas: SQLite's order of integers agrees with the order of natural numbers.
 
 not_above : (a b : ℕ) (o : Ordering) → MatchOrdering o (pos a <ℤ pos b) (pos a ≡ pos b) (pos b <ℤ pos a) → is_gt o ≡ false → a ≤ b
 not_above a b Less h e = omega (arith, ints)

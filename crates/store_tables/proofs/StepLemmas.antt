@@ -149,7 +149,7 @@ module _ {S : Type 0} (g : Ghosts S) (old : Held S) (mid end : State) (Goes : Da
         survives = survives_begin g old end _ (survives_then begun mid end (λ _. ⊥) (λ _. ⊥) _ (λ _ db none. absurd none) (λ _ db none. absurd none) done.survives crash);
       }
 
--- ---- a query inside or outside a transaction changes no row and commits nothing
+-- Lemmas: a query inside or outside a transaction changes no row and commits nothing.
 
 -- If a query is Ok, the database stays unchanged.
 pub shown_same : (sql : List ℕ) (params : Row) (old new : State) (rows : List Row) → IsPlain (understood old.now.schema sql) → Shown sql params old new rows → IsUnchanged old new

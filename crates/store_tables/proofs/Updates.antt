@@ -112,7 +112,7 @@ module _ (t : Table) (at : ℕ) (place : slice_get books_schema.tables at ≡ So
           turns books_schema k columns (changed_where p f) old.now new.now (tree_at books_schema.tables at table place) does.rewrites
           (λ apart xs lies. laid_permuted (is_numbered k) columns _ (new.now.trees k) (changed_where p f xs) (does.rows apart) (laid_changed (is_numbered k) columns chosen p reports made f makes (old.now.trees k) xs lies)) content has
 
-  -- ---- DELETE: it removes the rows that pass its WHERE clause
+  -- Lemmas: a DELETE removes the rows that pass its WHERE clause.
 
   abbrev gone_query : Query
   gone_query = scan k tests (col 1 0 ∷ []) [] no_limit

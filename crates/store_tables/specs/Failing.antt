@@ -37,8 +37,8 @@ abbrev pub IsRowFault : (IsSound : Type 0) → RowFault → Type 0
 IsRowFault IsSound (Sql e) = e ≡ want_of_memory
 IsRowFault IsSound Damaged = ¬ IsSound
 
--- The state of a database connection after a call. Failures of the disk stay counted, only a new
--- failure closes the database, and the limit of steps is unchanged.
+-- The state of a database connection after a call. Earlier disk failures stay counted, only a new
+-- failure closes the database, and SQLite's limit of computing steps is unchanged.
 pub record StateAfterCall (old new : State) : Type 0 where
   pub faults : old.faults ≤ new.faults
   pub closes : IsTrue old.is_open → IsTrue new.is_open ⊎ MoreFaults old.faults new.faults

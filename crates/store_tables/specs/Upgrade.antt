@@ -59,7 +59,7 @@ abbrev pub Brings : Layout → (zone : List ℕ) → Database → Database → T
 Brings layout zone old new = (content : Content) → IsFile layout zone old content
     → (after : Content) × IsBrought layout zone content after × AreTables new after
 
--- ---- the query for the meters of a version 1 file
+-- Definitions of the query for the meters of a version 1 file.
 
 -- The result row that the query for a file's meters returns for a meter. The row has only the
 -- meter's name.
@@ -98,7 +98,7 @@ with_ranges shown rs = map range_in shown ++ rs
 abbrev pub GivesRanges : List Row → Content → Content → Type 0
 GivesRanges shown = Edits ranges ranged_columns (with_ranges shown)
 
--- ---- the contract of opening a file, including its upgrade
+-- Definitions of the contract of opening a file, including its upgrade.
 
 -- The effect of upgrading a version 1 file whose meters are in the result rows `shown`.
 abbrev pub BringsFirst : (shown : List Row) → Database → Database → Type 0

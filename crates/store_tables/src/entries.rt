@@ -1,5 +1,5 @@
 //! SQL statements on the tables `entries` and `voids`: the entries of meters (readings and
-//! corrections), and the voided ones.
+//! corrections), and the cancelled entries.
 
 mod columns;
 mod entries;

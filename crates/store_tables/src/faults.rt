@@ -3,10 +3,10 @@ use sqlite::Error;
 use std::fmt;
 use std::fmt::{Display, Formatter};
 
-/// Why a query on the tables of the store failed.
+/// The reason why a query on the tables of the store failed.
 #[derive(Clone, Copy, Debug, PartialEq, Eq)]
 pub enum RowFault {
-    /// SQLite refused the statement or failed.
+    /// SQLite refused the SQL statement, or SQLite failed.
     Sql(Error),
     /// A row has a value outside the range of its column.
     Damaged,

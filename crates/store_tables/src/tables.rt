@@ -148,7 +148,7 @@ pub(crate) fn create_voids<S: Alter>(tx: &mut Transaction<'_, S>) -> Result<usiz
     )
 }
 
-/// Creates `meta`, and the tables of devices, points and accounting registers.
+/// Creates `meta`, and the tables of devices, points and accounting registers (named counters).
 fn create_lists<S: Alter>(tx: &mut Transaction<'_, S>) -> Result<usize, Error>
     ensures same_reference { IsSameBorrow tx.old.conn tx.new.conn }
     ensures does { StepsTo (state S.Store tx.old.conn.now) (state S.Store tx.new.conn.now) result

@@ -18,16 +18,15 @@ pub(crate) enum Act {
     Prepare,
     /// Opens a file of version 1, which upgrades it to version 3.
     Bring,
-    /// Runs all steps of a test over a new store: the events of a script, and then the given
-    /// request.
+    /// Runs all steps of a test over a new store: the events of a script, and then a request.
     Play(Asked),
-    /// Asserts which rows the file of version 1 has after a crash during its upgrade, given the
-    /// number of acknowledged steps.
+    /// Asserts which rows the file of version 1 has after a crash during its upgrade, given how
+    /// many steps of the upgrade had succeeded.
     Brought(usize),
-    /// Asserts which rows the database file has after a crash, given the request and the number of
-    /// acknowledged steps.
+    /// Asserts which rows the database file has after a crash, given the request and how many steps
+    /// had succeeded.
     Played(Asked, usize),
-    /// `Damage` and the variants below each run a test that begins with an empty database.
+    /// The variant `Damage` and those below each run a test that begins with an empty database.
     Damage,
     Databases,
     HeldReadings,
@@ -35,7 +34,7 @@ pub(crate) enum Act {
     RefusedFacts,
 }
 
-/// Runs a task over a database. Returns how many steps were acknowledged, and the store.
+/// Runs a test's task over a database. Returns how many steps of the task succeeded, and the store.
 fn act_over<S: Alter + Drop>(
     rt: &impl Abort,
     alloc: Global,
@@ -59,8 +58,8 @@ fn act_over<S: Alter + Drop>(
     }
 }
 
-/// Runs a task over the database in these files. Returns how many steps were acknowledged, and the
-/// files.
+/// Runs a test's task over the database in these files. Returns how many steps of the task
+/// succeeded, and the files.
 pub(crate) fn act_in(
     rt: &impl Abort,
     alloc: Global,
@@ -98,9 +97,9 @@ static TESTS: [Act; 5] = [
     Act::RefusedFacts,
 ];
 
-// Checks that a store counts its failures, and that a database that contains no store is returned
-// to the caller. Also checks the fields of rejected readings, the days of a range, and that refused
-// records leave no row.
+// Checks that a store counts its failures, and that opening a database without a store returns the
+// database to the caller. Also checks the fields of rejected readings, the days of a range, and
+// that refused records leave no row.
 #[test]
 fn stores_keep_what_they_promise(rt: HostRuntime) {
     for act in &TESTS {

@@ -18,8 +18,9 @@ fn asked<B: Books>(rt: &impl Abort, alloc: Global, books: B) -> B {
     office.into_books()
 }
 
-/// Asserts which calls of a store fail, and that the store counts each failure. One call reads a
-/// meter with damaged rows, and one adds a device that the store already has. Returns the store.
+/// Asserts which calls of a store fail, and that the store counts each failure. The first call
+/// reads a meter with damaged rows, and the second adds a device that the store already has.
+/// Returns the store.
 pub(crate) fn failures_are_counted<S: Alter + Drop>(
     rt: &impl Abort,
     alloc: Global,

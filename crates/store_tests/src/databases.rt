@@ -6,7 +6,7 @@ use std::alloc::Global;
 use std::process::Abort;
 
 /// Creates a store with the given time zone, or opens a store if no time zone is given. Returns the
-/// number of the fault, or 0, and the connection.
+/// connection, and the number of the fault, or 0 without a fault.
 fn opening<S: Alter + Drop>(
     alloc: Global,
     connection: Connection<S>,
@@ -22,8 +22,8 @@ fn opening<S: Alter + Drop>(
     }
 }
 
-/// A test step: an SQL statement that is run first, the time zone of the store that is then
-/// created, and the number of the expected fault, or 0. Without a time zone, a store is opened
+/// A test step: an SQL statement that runs first, the time zone of the store that is then created,
+/// and the number of the expected fault (0 for none). Without a time zone, a store is opened
 /// instead.
 type Step = (&'static str, Option<&'static str>, u8);
 

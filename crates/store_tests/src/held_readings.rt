@@ -77,7 +77,7 @@ fn assert_readings<S: Alter>(
     }
 }
 
-/// A time span, with the rejected readings of the meter m1 in the span.
+/// A time span, with the rejected readings of the meter m1 that lie in the span.
 struct Part {
     from: u64,
     till: u64,

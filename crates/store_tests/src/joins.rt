@@ -13,7 +13,7 @@ const STAND: Last = Last {
     sf: 0,
 };
 
-/// Returns the summary of a file whose meter has the total energy `total`.
+/// Returns the summary of a database file whose meter has the total energy `total`.
 fn file_of(rt: &impl Abort, alloc: Global, file: &'static str, total: u64) -> FiledOffice<'static> {
     let meter = FiledMeter {
         file,

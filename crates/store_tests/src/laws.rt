@@ -1,5 +1,5 @@
-//! Calls the theorems (functions whose contract states them) about the energy of several files.
-//! Also tests the days of a range.
+//! Calls the theorems about the energy of several files. A theorem is a function whose contract
+//! states a fact. Also tests the days of a range.
 use crate::made::{create_store, opened};
 use crate::stops::offices::accepts;
 use carried_books::{

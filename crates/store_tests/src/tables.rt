@@ -7,8 +7,8 @@ use std::process::Abort;
 /// A time zone in which the clocks go forward on 2024-03-31 and back on 2024-10-27.
 const ZONE: &str = "CET-1CEST,M3.5.0,M10.5.0/3";
 
-/// SQL statements that insert a meter with two readings, a pending poll and a rejected reading. The
-/// second reading of the meter is voided (cancelled).
+/// SQL statements that insert a meter with two readings, a poll without an outcome and a rejected
+/// reading. The second reading of the meter is voided (cancelled).
 const ROWS: &str = "INSERT INTO devices VALUES (1, 'inv', 1, 5, 1);
 INSERT INTO points VALUES ('inv', 1, 'Wh', 3, 0, 40094, 'acc32', 'Wh_SF'), ('inv', 2, 'Wh_SF', 3, 0, 40096, 'sunssf', '');
 INSERT INTO registers VALUES (1, 'main', 'inv', 3, 40094, 1, 40096);

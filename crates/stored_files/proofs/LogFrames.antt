@@ -59,16 +59,16 @@ taken_within page_size log (suc k) room (inr taken) =
     let last = taken.0.valid k (omega arith) in
     omega (arith, last.within, frames_len-suc page_size k)
 
--- If SQLite's recovery replays `k` frames of a log, then `k` is at most the length of the log in
--- bytes.
+-- If SQLite's recovery replays `k` frames of a write-ahead log, then `k` is at most the length of
+-- the log in bytes.
 pub taken_few : (page_size : ℕ) (log : List ℕ) (k : ℕ) → 32 ≤ length log → Replays page_size log k
     → k ≤ length log
 taken_few page_size log k room taken =
     let within = taken_within page_size log k room taken in
     omega (arith, within, few page_size k)
 
--- If SQLite's recovery fails with an error, then the log has the defect that the error's `LogFault`
--- names, or memory ran out.
+-- If SQLite's recovery of a write-ahead log fails with an error, then the log has the defect that
+-- the error's `LogFault` names, or memory ran out.
 pub caused : (page_size : ℕ) (log : List ℕ) (old new : ℕ) (e : Error)
     → HasCause old new (RefusesLog page_size log) e → IsUnread page_size log (fault_of e)
 caused page_size log old new (Io e) cause = tt
@@ -80,8 +80,8 @@ caused page_size log old new Corrupt (inl counts) = counts.1
 caused page_size log old new Corrupt (inr full) = grind (arith, full.0)
 caused page_size log old new Exists cause = tt
 
--- A log of `len` bytes completely contains every frame with an index below (`len` - 32) / (24 +
--- page size).
+-- A write-ahead log of `len` bytes completely contains every frame with an index below (`len` - 32)
+-- / (24 + page size).
 pub fits_below : (page_size len i : ℕ) → 32 ≤ len → i < (len - 32) / (24 + page_size)
     → frame_at page_size (i + 1) ≤ len
 unfolding frames_len
@@ -99,8 +99,8 @@ low_if_fits page_size len j within =
     let some = (le-div_iff_mul-le (omega arith)).1 all in
     omega (arith, some)
 
--- If recovery can't read a write-ahead log, then the reason is also a valid reason for the check to
--- reject the log.
+-- If SQLite's recovery can't read a write-ahead log, then the check of logs may reject the log for
+-- the same reason.
 pub unread_causes : (page_size : ℕ) (log : List ℕ) (fault : LogFault) → IsUnread page_size log fault
     → IsCause page_size log fault
 unread_causes page_size log Header unread = absurd unread
@@ -108,8 +108,8 @@ unread_causes page_size log Count unread = unread
 unread_causes page_size log (Commits at) unread = absurd unread
 unread_causes page_size log Memory unread = unread
 
--- If recovery can't read a log, then memory ran out, or the database file does not have all
--- committed pages of the log.
+-- If SQLite's recovery can't read a write-ahead log, then memory ran out, or the database file does
+-- not have all committed pages of the log.
 pub unread_refuses : (page_size : ℕ) (log db : List ℕ) (fault : LogFault) → IsUnread page_size log fault
     → (fault ≡ Memory) ⊎ (¬ KeepsAll page_size log db)
 unread_refuses page_size log db Header unread = absurd unread

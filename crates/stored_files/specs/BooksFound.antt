@@ -10,14 +10,14 @@ use Rattle.office_store.specs.Database.{HasFile}
 use Rattle.office_store.specs.declared.books.SqlBooks.{SqlBooks}
 
 module _ {S : Type 0} (g : Ghosts S) where
-  -- States that the database file of the connection `h` has exactly the records of the history
-  -- `past` of accepted events.
+  -- States that the database file of the connection `h` has exactly the records of the accepted
+  -- events `past`.
   pub record HasPast (h : Held S) (past : History) : Type 0 where
     pub zone : List ℕ
     pub is_past : IsPast past
     pub has : HasFile g zone h (facts_of past)
 
-  -- The logical model of the store in a database file, for which the contracts of queries and
-  -- writes are stated.
+  -- The logical model of the store in a database file. The contracts of queries and writes refer to
+  -- this model.
   abbrev pub ledger_beneath : SqlBooks S g → Ledger
   ledger_beneath books = ledger_of g books.connection books.failures books.zone

@@ -24,13 +24,14 @@ module _ {S : Type 0} (g : Ghosts S) where
     pub clean : (ledger_beneath g asked).is_clean → HasCleanDisk (state g old)
     pub is_latest : (ledger_beneath g asked).is_clean → latest ≡ latest_in facts
 
--- The report with a line appended that has the timestamp of a meter's last recovered entry.
+-- The report on recovered records with one more line, which has the timestamp of a meter's last
+-- recovered entry.
 abbrev pub with_last_entry : List ℕ → List ℕ → ℕ → List ℕ
 with_last_entry text meter at =
     text ++ meter ++ codes " last entry " ++ decimal at ++ codes ", later ones may be lost\n"
 
--- The report with a line appended that has the timestamp of a meter's last recovered entry. If the
--- meter is closed, nothing is appended.
+-- The report on recovered records with one more line, which has the timestamp of a meter's last
+-- recovered entry. If the meter is closed, nothing is appended.
 abbrev pub with_open_meter : List ℕ → FiledMeter → List ℕ
 with_open_meter text meter =
     if meter.standing.is_ended then text
@@ -40,8 +41,8 @@ abbrev pub with_open_meters : List ℕ → List FiledMeter → List ℕ
 with_open_meters text [] = text
 with_open_meters text (meter ∷ meters) = with_open_meters (with_open_meter text meter) meters
 
--- The text with the report on recovered records appended. The report has their latest timestamp,
--- and a line for each open meter.
+-- The text with the report on recovered records appended. The report has the records' latest
+-- timestamp, and a line for each open meter.
 abbrev pub with_recovered : List ℕ → ℕ → List FiledMeter → List ℕ
 with_recovered text latest meters =
     with_open_meters (text ++ codes "latest " ++ decimal latest ++ codes "\n") meters

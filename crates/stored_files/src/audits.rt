@@ -36,16 +36,17 @@ pub enum AuditFault {
     Schema,
     /// The table `meta` does not have one row with number 1, the present version and a time zone.
     Mark,
-    /// The tables can't be sealed: a row has an invalid value, or a name that is not a word.
+    /// No seal (digests of the records) can be computed: a row has an invalid value, or a name that
+    /// is not a word.
     Unsealable,
     /// A name or the time zone is not valid text.
     NoText,
-    /// The file that was named as a seal does not have the text of a seal, which has digests of a
-    /// database's records.
+    /// The file that was given as a seal (digests of a database's records) does not have the text
+    /// of a seal.
     NoSeal,
-    /// The file with the seal can't be read.
+    /// The file with the seal (digests of a database's records) can't be read.
     Unread,
-    /// Reading the database failed.
+    /// Reading the database under audit failed.
     Store,
     Memory,
     /// The result of the audit can't be written.
@@ -106,9 +107,9 @@ pub fn check_mark<S: Alter>(connection: &mut Connection<S>) -> Result<(), AuditF
     }
 }
 
-/// Audits the metering records in a database. Checks that each meter's rows follow from a lawful
-/// journal (a history that the rules accept), and that the polls are complete and in order. Writes
-/// nothing to the database.
+/// Audits the metering records in a database. Checks that each meter's rows follow from a history
+/// of entries that the rules accept, and that the polls are complete and in order. Writes nothing
+/// to the database.
 pub fn audit_stored<S: Alter>(
     alloc: Global,
     connection: &mut Connection<S>,
@@ -148,8 +149,8 @@ pub fn write_audit<W: Write>(
 }
 
 /// Returns the meters in a database, to check that the next database file continues their counts.
-/// `NoText` means that a meter has an invalid value. If an audit found no errors, this value is a
-/// name that is not valid text. Writes nothing to the database.
+/// Returns `NoText` if a meter has an invalid value. If an audit found no errors, the invalid value
+/// is a name that is not valid text. Writes nothing to the database.
 pub fn meters_stored<'a, S: Alter>(
     alloc: Global,
     connection: &mut Connection<S>,
@@ -176,7 +177,7 @@ pub fn meters_stored<'a, S: Alter>(
 
 /// Checks whether the time zone and the meters of a database file continue those of the earlier
 /// files. Appends a line to `joining` for each difference. If memory runs out, lines may be
-/// missing, and the data about the earlier files is lost.
+/// missing, and the data on the earlier files is lost.
 pub fn hold_to_earlier<'a>(
     alloc: Global,
     joining: &mut Joining<'a>,

@@ -63,7 +63,8 @@ fn write_number(text: &mut Vec<u8>, number: u64) -> Result<(), AllocError>
     append_bytes(text, buffer.format(number).as_bytes())
 }
 
-// Appends a line with the timestamp of a meter's last recovered entry to the report.
+// Appends a line with the timestamp of a meter's last recovered entry to the report on recovered
+// records.
 fn write_last_entry(text: &mut Vec<u8>, meter: &str, at: u64) -> Result<(), AllocError>
     ensures { OnOk result (text.new.items ≡ with_last_entry text.old.items meter.now at) }
 {
@@ -74,7 +75,7 @@ fn write_last_entry(text: &mut Vec<u8>, meter: &str, at: u64) -> Result<(), Allo
 }
 
 // Appends a line with the timestamp of a meter's last recovered entry to the report. Appends
-// nothing if the meter is closed, since it can have no later entries.
+// nothing if the meter is closed, because a closed meter can have no later entries.
 fn write_open_meter(text: &mut Vec<u8>, meter: &FiledMeter<'_>) -> Result<(), AllocError>
     ensures { OnOk result (text.new.items ≡ with_open_meter text.old.items meter.now) }
 {
@@ -94,8 +95,8 @@ fn write_open_meters(text: &mut Vec<u8>, meters: &[FiledMeter<'_>]) -> Result<()
     Ok(())
 }
 
-// Appends the report on recovered records to a text: their latest timestamp, and a line for each
-// open meter. Later entries of an open meter may be missing.
+// Appends the report on recovered records to a text: the records' latest timestamp, and a line for
+// each open meter. Later entries of an open meter may be missing.
 fn append_recovered(
     text: &mut Vec<u8>,
     latest: u64,
@@ -109,8 +110,8 @@ fn append_recovered(
     write_open_meters(text, meters)
 }
 
-/// Writes the report on recovered records: their latest timestamp, and a line for each open meter.
-/// Later entries of an open meter may be missing.
+/// Writes the report on recovered records: the records' latest timestamp, and a line for each open
+/// meter. Later entries of an open meter may be missing.
 pub fn write_recovered<W: Write>(
     alloc: Global,
     latest: u64,

@@ -47,7 +47,7 @@ pub fn seal_stored<S: Alter>(
     }
 }
 
-/// Writes a seal as text to `output`.
+/// Writes a seal (digests of a database's records) as text to `output`.
 pub fn write_seal<W: Write>(alloc: Global, seal: &Seal, output: &mut W) -> Result<(), AuditFault>
     ensures { OnOk result (Appends (W.contents output.old) (W.contents output.new)
         (seal_text (sealed_tables_of seal.now))) }
@@ -92,8 +92,8 @@ pub fn check_stored_seal<S: Alter>(
     }
 }
 
-/// Writes the result of checking a database against a seal. Returns whether all meters and the
-/// polls match the seal.
+/// Writes the result of checking a database against a seal (digests of earlier records). Returns
+/// whether all meters and the polls match the seal.
 pub fn write_checked<W: Write>(
     alloc: Global,
     checked: &Checked,

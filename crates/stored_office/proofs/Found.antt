@@ -1,4 +1,4 @@
--- Lemmas on tasks over a store that has the records of a history of accepted events.
+-- Lemmas on tasks over a store that has the records of given accepted events.
 use Rattle.std.proofs.Common.{◌≡◌, ℕ, List, sym, subst}
 use Rattle.sqlite.specs.Store.{Ghosts}
 use Rattle.office_books.specs.History.{History, facts_of}
@@ -13,8 +13,8 @@ use Rattle.stored_files.proofs.Standing.{stands_alone}
 use Rattle.stored_files.specs.BooksFound.{ledger_beneath}
 use Rattle.stored_office.specs.OverBooks.{OverBooks, ledger_in}
 
--- If two models of a store have the same records, then a history that agrees with one also agrees
--- with the other.
+-- If two models of a store have the same records, then a history of events that agrees with one
+-- also agrees with the other.
 stands_so : (before after : Ledger) (past : History) → StandsAs before after → BooksStand before past → BooksStand after past
 stands_so before after past meant stand = record {
   is_past = stand.is_past;

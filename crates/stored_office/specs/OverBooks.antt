@@ -10,13 +10,16 @@ use Rattle.office_store.specs.declared.books.SqlBooks.{SqlBooks}
 use Rattle.stored_files.specs.BooksFound.{ledger_beneath}
 
 module _ {S : Type 0} (g : Ghosts S) where
-  -- The logical model of a store in a database, with a cache of records that were already read.
+  -- The logical model of a store in a database, as seen through a cache of records that were
+  -- already read.
   abbrev pub ledger_in : CachedBooks (SqlBooks S g) → Ledger
   ledger_in books = ledger_over (ledger_beneath g) books
 
   -- States that a task ran over the store in a database. Before the task, the store had exactly the
-  -- records of the history `past`, and a crash would have left them all. If no wrong result of the
-  -- database was used, `Does` relates the store before the task to the store after it.
+  -- records of the accepted events `past`, and a crash would have left them all.
+  --
+  -- If no wrong result of the database was used, `Does` relates the store before the task to the
+  -- store after it.
   pub record OverBooks (past : History)
       (Does : (found left : CachedBooks (SqlBooks S g)) → Type 0) : Type 0 where
     pub zone : List ℕ

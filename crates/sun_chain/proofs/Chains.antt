@@ -10,13 +10,13 @@ use Rattle.sun_chain.specs.declared.model.Model.{Model}
 use Rattle.sun_chain.specs.declared.fault.ChainFault.{ChainFault}
 use Rattle.sun_chain.specs.declared.fault.ChainFault.TheVariants.{NoMark, Unreadable, PastEnd, TooMany, Memory}
 
--- A list of consecutive models remains consecutive with one more model at its end.
+-- A list of consecutive SunSpec models remains consecutive with one more model at its end.
 pub follow_more : (word : Words) (from : ℕ) (models : List Model) (model : Model) → Follow word from models model.address → Stands word model →
     Follow word from (models ++ model ∷ []) (next_after model)
 follow_more word from [] model follow stands = (sym follow, stands, refl)
 follow_more word from (first ∷ models) model follow stands = (follow.0, follow.1, follow_more word (next_after first) models model follow.2 stands)
 
--- If a valid model begins at an address, there is no fault at that address.
+-- If a valid SunSpec model begins at an address, there is no fault at that address.
 pub no_lack : (word : Words) (count : ℕ) (model : Model) → Stands word model → count < 64 → first_lack word count model.address ≡ None
 no_lack word count model stands few =
     let in_space : nat_lt 65535 model.address ≡ false = le-ltb 65535 model.address (omega (arith, stands.inside)) in
@@ -29,14 +29,15 @@ no_lack word count model stands few =
 pub some_same : {X : Type 0} (a b : X) (found : Option X) → found ≡ Some a → found ≡ Some b → a ≡ b
 some_same a b found is_a is_b = cc
 
--- Two models at the same address end at the same address.
+-- Two SunSpec models that begin at the same address end at the same address.
 pub same_next : (word : Words) (first other : Model) → first.address ≡ other.address → Stands word first → Stands word other → next_after first ≡ next_after other
 same_next word first other same stands other_stands =
     let length_too : word (first.address + 1) ≡ Some other.length = rw same other_stands.length in
     let lengths : first.length ≡ other.length = some_same first.length other.length (word (first.address + 1)) stands.length length_too in
     omega (arith, same, lengths)
 
--- No valid list of models is longer than a valid list that a fault follows.
+-- If a fault follows a list of valid models, then no list of valid models from the same address is
+-- longer.
 pub longest_from : (word : Words) (from before : ℕ) (models others : List Model) (next other_next : ℕ) (fault : ChainFault) →
     Follow word from models next → Follow word from others other_next → before + length others ≤ 64 →
     first_lack word (before + length models) next ≡ Some fault → length others ≤ length models
@@ -105,7 +106,7 @@ pub fails_after : (word : Words) (base : ℕ) (models : List Model) (count next 
     count ≡ length models → first_lack word count next ≡ Some fault → Fails word fault
 fails_after word base models count next fault lawful counted lack = fails_by word base models next fault lawful (rw counted at lack)
 
--- A valid list of fewer than 64 models remains valid with the model after it.
+-- A list of fewer than 64 valid models remains valid with the valid model that follows it.
 pub lawful_more : (word : Words) (base : ℕ) (models : List Model) (next : ℕ) (model : Model) → IsLawful word base models next →
     model.address ≡ next → Stands word model → length models < 64 → IsLawful word base (models ++ model ∷ []) (next_after model)
 lawful_more word base models next model lawful at_next stands few = record {
@@ -114,7 +115,7 @@ lawful_more word base models next model lawful at_next stands few = record {
   few = rw length-append (omega arith);
 }
 
--- Consecutive models lie within the 65536 addresses.
+-- Consecutive SunSpec models lie within the 65536 register addresses.
 pub follow_inside : (word : Words) (from : ℕ) (models : List Model) (next : ℕ) → Follow word from models next → All (λ model. model.address + 2 + model.length ≤ 65536) models
 follow_inside word from [] next follow = λ k d below. absurd (omega (arith, below))
 follow_inside word from (model ∷ models) next follow =

@@ -1,4 +1,5 @@
--- Checks the definitions at each limit: the last valid value and the first invalid value.
+-- Examples of chains of SunSpec models at each limit: the last valid value and the first invalid
+-- value.
 use Rattle.std.proofs.Common.{◌≡◌, ℕ, List, [], ◌∷◌, Some, None, refl}
 use Rattle.sun_chain.specs.Chain.{base_in}
 use Rattle.sun_chain.specs.Common.{device_address_in}
@@ -8,7 +9,7 @@ use Rattle.sun_chain.specs.Walk.{end_lack, first_lack}
 use Rattle.sun_chain.specs.declared.model.Model.{Model}
 use Rattle.sun_chain.specs.declared.fault.ChainFault.TheVariants.{PastEnd, TooMany, Unreadable}
 
--- A memory image with the same word at every address.
+-- A memory image (the words read from a device) with the same word at every address.
 abbrev everywhere : ℕ → Words
 everywhere word address = Some word
 

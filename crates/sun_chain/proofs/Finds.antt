@@ -15,8 +15,8 @@ find-map p f (x ∷ xs) = by (p (f x)) refl (find-map p f xs)
     by true e rest = rw e refl
     by false e rest = rw e rest
 
--- If `found` is the first entry with a name in the program's table, the defined table has the same
--- scale offset for that name.
+-- If `found` is the first entry with a name in the program's table, the contracts' table has the
+-- same scale offset for that name.
 pub offset-found : (entries : List Entry) (name : List ℕ) (found : Option Entry) → found ≡ find (λ entry. bytes_eq entry.name.now name) entries
     → scale_offset_in (map row_of entries) name ≡ option_and_then (λ entry. entry.scale) found
 offset-found entries name None is = rw (find-map (λ (r : Row). bytes_eq r.name name) row_of entries, ← is) refl

@@ -1,4 +1,5 @@
--- Proves that a memory image has at most one chain and at most one fault.
+-- Proves that a memory image (the words read from a device) has at most one chain and at most one
+-- fault.
 use Rattle.std.proofs.Common.{◌≡◌, ◌≢◌, ℕ, ◌+◌, ◌≤◌, nat_lt, false, Option, Some, None, List, [], ◌∷◌, length, arith, refl, sym, ◌∙◌, ap}
 use Rattle.std.proofs.lemmas.Bool.{le-ltb}
 use Rattle.sun_chain.specs.Image.{Words}
@@ -16,7 +17,7 @@ some_or_none a found is_a is_none = cc
 abbrev model_of : ℕ → ℕ → ℕ → Model
 model_of address id size = record { address = address; id = id; length = size }
 
--- At most one model begins at an address.
+-- At most one SunSpec model begins at an address.
 same_model : (word : Words) (first other : Model) → first.address ≡ other.address → Stands word first → Stands word other → first ≡ other
 same_model word first other same stands other_stands =
     let other_id : word first.address ≡ Some other.id = rw same other_stands.id in
@@ -42,7 +43,7 @@ same_models word from (first ∷ models) (other ∷ others) next other_next foll
     same_models word (next_after first) models others next other_next follow.2 other_too (omega arith) in
     (ap (λ (m : Model). m ∷ models) one ∙ ap (λ (ms : List Model). other ∷ ms) rest.0, rest.1)
 
--- No list of models from the same address is longer than a complete chain.
+-- No list of consecutive models from the same address is longer than a complete chain.
 none_after_end : (word : Words) (from : ℕ) (models others : List Model) (end other_next : ℕ) →
     Follow word from models end → word end ≡ Some 0xFFFF → Follow word from others other_next → length others ≤ length models
 none_after_end word from models [] end other_next follow ends other_follow = omega arith

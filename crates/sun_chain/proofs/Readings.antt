@@ -1,4 +1,4 @@
--- Lemmas about consecutive words of a memory image.
+-- Lemmas about consecutive words of a memory image (the words read from a device).
 use Rattle.std.proofs.Common.{◌≡◌, ℕ, zero, suc, ◌+◌, ◌<◌, ◌≤◌, Bool, true, false, ◌&&◌, Option, Some, None, List, [], ◌∷◌, length, get_or, take, drop, arith, refl, sym, ◌∙◌, ap, add-one, drop-cons, option_map, option_and_then, true≢false}
 use Rattle.std.proofs.lemmas.List.{get_or_past}
 use Rattle.std.specs.List.{list_all}

@@ -1,4 +1,4 @@
--- Lemmas about listing the points of a model, one table row after another.
+-- Lemmas about listing the points of a SunSpec model, one row of the model's table after another.
 use Rattle.std.proofs.Common.{◌≡◌, ℕ, ◌+◌, ◌<◌, Option, Some, None, List, [], ◌∷◌, ◌++◌, length, get_or, take, map, filter_map, option_map, option_to_list, refl, sym, ◌∙◌, ap}
 use Rattle.std.proofs.lemmas.List.{take_more, map-append}
 use Rattle.std.proofs.lemmas.List.Elements.{filter_map-append}
@@ -14,7 +14,7 @@ one_row : (f : Row → Option Named) (row : Row) (found : Option NamedPoint) →
 one_row f row None is = rw (sym is) refl
 one_row f row (Some point) is = rw (sym is) refl
 
--- Listing one more table row appends that row's point, if the point was read.
+-- Listing one more row of a model's table appends the row's point, if the point was read.
 pub rows_more : (word : Words) (model : Model) (entries : List Entry) (i : ℕ) (d : Entry) (found : Option NamedPoint) (before after : List NamedPoint) →
     i < length entries → map seen before ≡ filter_map (point_in word model) (map row_of (take i entries)) →
     option_map seen found ≡ point_in word model (row_of (get_or entries i d)) → after ≡ before ++ option_to_list found →

@@ -1,4 +1,4 @@
--- Proves that every memory image has a chain or a fault.
+-- Proves that every memory image (the words read from a device) has a chain or a fault.
 use Rattle.std.proofs.Common.{◌≡◌, ◌≢◌, ℕ, ◌⊎◌, zero, suc, ◌+◌, ◌<◌, ◌≤◌, ◌==◌, Bool, true, false, nat_le, nat_lt, Option, Some, None, List, [], ◌∷◌, ◌++◌, length, arith, refl, inl, inr, length-append}
 use Rattle.std.proofs.lemmas.Bool.{eqb-true, eqb-false, leb-false, ltb-false}
 use Rattle.sun_chain.specs.Image.{Words}
@@ -17,8 +17,8 @@ data Next (word : Words) (count address : ℕ) : Type 0 where
   AtModel : (model : Model) → model.address ≡ address → Stands word model → count < 64 → Next word count address
   Lacking : (fault : ChainFault) → fault ≢ Memory → first_lack word count address ≡ Some fault → Next word count address
 
--- If the ID and the length of a model were read, either a valid model begins at the address, or the
--- model has the fault `PastEnd`.
+-- If the ID and the length of a model were read, then either a valid model begins at the address,
+-- or the fault `PastEnd` occurs: the model ends past the last address.
 after_length : (word : Words) (count address id size : ℕ) → nat_lt 65535 address ≡ false → word address ≡ Some id → (id == 0xFFFF) ≡ false →
     nat_le 64 count ≡ false → nat_lt 65535 (address + 1) ≡ false → word (address + 1) ≡ Some size →
     (past : Bool) → nat_lt 65536 (address + 2 + size) ≡ past → Next word count address

@@ -33,7 +33,8 @@ get_or-padded n xs k d =
     (cases_lt (k - length xs) n))
     (cases_lt k (length xs))
 
--- The word at an address of the image, or `None` if the word was not read.
+-- The word at an address of a memory image (the words read from a device), or `None` if the word
+-- was not read.
 abbrev pub cell : List Bool → List ℕ → ℕ → Option ℕ
 cell read words at = if get_or read at false then Some (get_or words at 0) else None
 

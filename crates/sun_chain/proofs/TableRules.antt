@@ -23,14 +23,16 @@ tables_are_lawful id = tests (id == 1) (nat_le 101 id && nat_le id 103) (nat_le 
     tests false false true = refl
     tests false false false = refl
 
--- Points in order after an address are also in order after each lower address.
+-- If points of a model are in order after an address, they are also in order after each lower
+-- address.
 in_order_from_less : (from later : ℕ) (points : List Named) → from ≤ later → StandInOrder later points → StandInOrder from points
 in_order_from_less from later [] below stand = tt
 in_order_from_less from later (point ∷ points) below stand =
     let first : later ≤ point.address = stand.0 in
     (omega (arith, first), stand.1)
 
--- Points remain in order if one more point with a lower address is added before them, or none.
+-- Points of a model remain in order if one more point with a lower address is added before them, or
+-- none.
 one_before : (model : Model) (from : ℕ) (row : Row) (scale : PointScale) (found : Option Value) (following : List Named) → from ≤ row.offset →
     StandInOrder (model.address + end_of_row row) following →
     StandInOrder (model.address + from)

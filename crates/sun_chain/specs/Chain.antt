@@ -5,7 +5,7 @@ use Rattle.sun_chain.specs.Image.{Words, word_in}
 use Rattle.sun_chain.specs.declared.chain.Chain.{Chain}
 use Rattle.sun_chain.specs.declared.model.Model.{Model}
 
--- True if the word was read and equals this value.
+-- True if the word at an address was read and equals the given value.
 abbrev pub is_word : Option ℕ → ℕ → Bool
 is_word found value = unwrap_or (option_map (λ word. word == value) found) false
 
@@ -17,8 +17,8 @@ is_marked word address = is_word (word address) 0x5375 && is_word (word (address
 abbrev pub base_in : Words → Option ℕ
 base_in word = find (is_marked word) (40000 ∷ 50000 ∷ 0 ∷ [])
 
--- True if the image has this model: an ID other than 0xFFFF, followed by the length. All of the
--- model's registers have addresses below 65536.
+-- True if the words read from a device contain the given model: an ID other than 0xFFFF, followed
+-- by the length. All of the model's registers have addresses below 65536.
 pub record Stands (word : Words) (model : Model) : Type 0 where
   pub id : word model.address ≡ Some model.id
   pub no_end : model.id ≢ 0xFFFF
@@ -29,8 +29,8 @@ pub record Stands (word : Words) (model : Model) : Type 0 where
 abbrev pub next_after : Model → ℕ
 next_after model = model.address + 2 + model.length
 
--- True if the models are consecutive and the first is at address `from`. `next` is the address
--- after the last model.
+-- True if the models are consecutive and the first model is at address `from`. `next` is the
+-- address after the last model.
 abbrev pub Follow : Words → ℕ → List Model → ℕ → Type 0
 Follow word from [] next = from ≡ next
 Follow word from (model ∷ models) next =
@@ -57,11 +57,11 @@ pub record IsChain (word : Words) (base : ℕ) (models : List Model) (end : ℕ)
   pub ends : word end ≡ Some 0xFFFF
   pub inside : end ≤ 65535
 
--- The words of the image that contains the chain.
+-- The words read from a device in which the chain of models was found.
 abbrev pub words_of : Chain → Words
 words_of chain = word_in chain.image.now
 
--- The address of the chain's `SunS` mark.
+-- The address of the `SunS` mark of a chain of SunSpec models.
 abbrev pub base_of : Chain → ℕ
 base_of chain = chain.base
 
@@ -69,6 +69,6 @@ base_of chain = chain.base
 abbrev pub models_of : Chain → List Model
 models_of chain = chain.models.items
 
--- The address of the ID 0xFFFF that ends the chain.
+-- The address of the ID 0xFFFF that ends the chain of models.
 abbrev pub end_of : Chain → ℕ
 end_of chain = chain.end

@@ -9,8 +9,8 @@ use Rattle.sun_chain.specs.Points.{registers_in}
 use Rattle.sun_chain.specs.declared.model.Model.{Model}
 use Rattle.sun_chain.specs.declared.common.Common.{Common}
 
--- The fields of a common model, each text as its registers, independent of the image that a
--- `Common` borrows.
+-- The fields of a common model (model 1) as values that borrow no memory, with each text as a list
+-- of registers.
 pub record Said : Type 0 where
   pub manufacturer : List ℕ
   pub model : List ℕ
@@ -19,7 +19,8 @@ pub record Said : Type 0 where
   pub serial : List ℕ
   pub device_address : Option ℕ
 
--- The fields of a `Common`, without its borrowed image.
+-- The fields of a `Common` (the fields of model 1) as values, without the memory image that a
+-- `Common` borrows.
 abbrev pub said : Common → Said
 said common = record {
   manufacturer = common.manufacturer.words.now;
@@ -30,7 +31,7 @@ said common = record {
   device_address = common.device_address;
 }
 
--- The registers of a text point. A value of another type has none.
+-- The registers of a text point. The list is empty for a value of another type.
 abbrev pub text_words : Value → List ℕ
 text_words Absent = []
 text_words (Signed value) = []
@@ -43,8 +44,8 @@ abbrev pub words_or_none : Option Value → List ℕ
 words_or_none None = []
 words_or_none (Some value) = text_words value
 
--- The registers of a text point at an offset of a model. Empty if they are not fully inside the
--- model or were not read.
+-- The registers of a text point at an offset of a model. The list is empty if the registers are not
+-- fully inside the model or were not read.
 abbrev pub text_in : Words → Model → ℕ → ℕ → List ℕ
 text_in word model offset count =
     words_or_none (option_map (value_of (Text count)) (registers_in word model offset count))
@@ -57,12 +58,14 @@ number_of (Unsigned value) = Some value
 number_of (Bits bits) = None
 number_of (WordsOf words) = None
 
--- The device address at offset 66 of model 1, or `None` if it is missing or not implemented.
+-- The device address at offset 66 of model 1, or `None` if the address is missing or not
+-- implemented.
 abbrev pub device_address_in : Words → Model → Option ℕ
 device_address_in word model =
     option_and_then (λ words. number_of (value_of Uint16 words)) (registers_in word model 66 1)
 
--- The fields of a common model, at the offsets of the SunSpec Information Model Reference.
+-- The fields of a common model (model 1), at the offsets of the SunSpec Information Model
+-- Reference.
 abbrev pub common_in : Words → Model → Said
 common_in word model = record {
   manufacturer = text_in word model 2 16;

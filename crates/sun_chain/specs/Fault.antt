@@ -1,11 +1,12 @@
--- Defines the numbers of the faults of a memory image and of a chain.
+-- Defines the numbers of the faults of a memory image (the words read from a device) and of a
+-- chain.
 use Rattle.std.specs.Prelude.{ℕ}
 use Rattle.sun_chain.specs.declared.fault.ImageFault.{ImageFault}
 use Rattle.sun_chain.specs.declared.fault.ImageFault.TheVariants as image
 use Rattle.sun_chain.specs.declared.fault.ChainFault.{ChainFault}
 use Rattle.sun_chain.specs.declared.fault.ChainFault.TheVariants as chain
 
--- The number of each fault of a write into a memory image.
+-- The number of each fault of a write into a memory image (the words read from a device).
 abbrev pub image_fault_number : ImageFault → ℕ
 image_fault_number image.PastEnd = 1
 image_fault_number image.Memory = 2

@@ -3,7 +3,8 @@ use Rattle.std.specs.Prelude.{ℕ, zero, suc, ◌+◌, ◌-◌, false, ◌&&◌,
 use Rattle.std.specs.declared.option.Option.{Option}
 use Rattle.sun_chain.specs.declared.image.Image.{Image}
 
--- The word at each address, or `None` if the word was not read.
+-- A function from each address to the word that was read there, or to `None` if the word was not
+-- read.
 abbrev pub Words : Type 0
 Words = ℕ → Option ℕ
 
@@ -14,7 +15,8 @@ word_in image address =
     then Some (slice_index image.words.items address)
     else None
 
--- The words of an image after new words were written at consecutive addresses from `at`.
+-- The words of a memory image (the words read from a device) after new words were written at
+-- consecutive addresses from `at`.
 abbrev pub add_words : Words → ℕ → List ℕ → Words
 add_words word address words at =
     if nat_le address at && nat_lt at (address + length words)

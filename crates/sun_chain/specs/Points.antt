@@ -14,7 +14,7 @@ use Rattle.sun_chain.specs.declared.named_point.PointScale.{PointScale}
 use Rattle.sun_chain.specs.declared.named_point.PointScale.TheVariants.{Unscaled, Scaled, Faulty}
 use Rattle.sun_chain.specs.declared.named_point.NamedPoint.{NamedPoint}
 
--- A point of a model as a value, independent of the memory that a `NamedPoint` borrows.
+-- A point of a SunSpec model as a value that borrows no memory.
 pub record Named : Type 0 where
   pub name : List ℕ
   pub address : ℕ
@@ -22,7 +22,7 @@ pub record Named : Type 0 where
   pub value : Value
   pub scale : PointScale
 
--- The scale with this exponent, or `Faulty` without an exponent.
+-- The scale of a point with the given exponent, or `Faulty` without an exponent.
 abbrev pub scaled_or_faulty : Option ℤ → PointScale
 scaled_or_faulty None = Faulty
 scaled_or_faulty (Some exponent) = Scaled exponent
@@ -37,7 +37,7 @@ abbrev pub point_scale : Option ℕ → PointScale
 point_scale None = Unscaled
 point_scale (Some word) = scale_said word
 
--- The value of a `NamedPoint`, without its borrowed memory.
+-- The value of a `NamedPoint`, without the memory that it borrows.
 abbrev pub seen : NamedPoint → Named
 seen point = record {
   name = point.name.now;
@@ -60,8 +60,8 @@ abbrev pub register_in : Words → Model → ℕ → Option ℕ
 register_in word model offset =
     if nat_le (offset + 1) (2 + model.length) then word (model.address + offset) else None
 
--- The register value of the scale point at this offset of a model, or `None` without a scale point.
--- A scale point that is outside the model or was not read counts as 0.
+-- The register value of the scale point at the given offset of a model, or `None` without a scale
+-- point. A scale point that is outside the model or was not read counts as 0.
 abbrev pub scale_word_in : Words → Model → Option ℕ → Option ℕ
 scale_word_in word model scale =
     option_map (λ offset. unwrap_or (register_in word model offset) 0) scale

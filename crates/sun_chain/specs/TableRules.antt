@@ -17,7 +17,7 @@ abbrev pub ascends_from : ℕ → List Row → Bool
 ascends_from from [] = true
 ascends_from from (row ∷ rows) = nat_le from row.offset && ascends_from (end_of_row row) rows
 
--- True if the point lies inside a model with this length.
+-- True if a point lies inside a model with the given length.
 abbrev pub lies_inside : ℕ → Row → Bool
 lies_inside length row = nat_le (end_of_row row) (2 + length)
 
@@ -33,22 +33,22 @@ is_sunssf Acc32 = false
 is_sunssf Sunssf = true
 is_sunssf (Text registers) = false
 
--- True if the row is a scale point at this offset.
+-- True if a row of a model's table is a scale point at the given offset.
 abbrev pub is_scale_point : ℕ → Row → Bool
 is_scale_point offset row = is_sunssf row.ty && row.offset == offset
 
--- True if the table has the scale point of the row, or the row needs none.
+-- True if a model's table has the scale point of a row, or the row needs no scale point.
 abbrev pub has_its_scale : List Row → Row → Bool
 has_its_scale rows row =
     unwrap_or (option_map (λ offset. list_any (is_scale_point offset) rows) row.scale) true
 
--- True if the table is valid for models of this length. Points begin after the ID and length
--- registers, are in order and lie inside the model, and their scale points are in the table.
+-- True if a model's table is valid for models of the given length. Points begin after the ID and
+-- length registers, are in order and lie inside the model, and their scale points are in the table.
 abbrev pub is_lawful_table : ℕ → List Row → Bool
 is_lawful_table length rows =
     ascends_from 2 rows && list_all (lies_inside length) rows && list_all (has_its_scale rows) rows
 
--- The length of the model with this ID, or 0 for an unknown model. Model 1 may have one more
+-- The length of the model with the given ID, or 0 for an unknown model. Model 1 may have one more
 -- register, for padding.
 abbrev pub length_of_known : ℕ → ℕ
 length_of_known id =

@@ -18,7 +18,7 @@ pub record Row : Type 0 where
   pub ty : PointType
   pub scale : Option ℕ
 
--- The table row with this name, offset, type and offset of the scale point.
+-- The row of a model's table with the given name, offset, type and offset of the scale point.
 abbrev pub row : List ℕ → ℕ → PointType → Option ℕ → Row
 row name offset ty scale = record { name = name; offset = offset; ty = ty; scale = scale }
 
@@ -158,7 +158,7 @@ meter_table =
     ∷ row (codes "Evt") 105 Bitfield32 None
     ∷ []
 
--- The table of the model with this ID, or an empty list for an unknown model.
+-- The table of points of the model with the given ID, or an empty list for an unknown model.
 abbrev pub table_of : ℕ → List Row
 table_of id =
     if id == 1 then common_table
@@ -177,20 +177,21 @@ type_of entry.Sunssf = Sunssf
 type_of entry.String8 = Text 8
 type_of entry.String16 = Text 16
 
--- The row of the defined tables that an entry of the program's tables represents.
+-- The row of the contracts' table that an entry of the program's table of points represents.
 abbrev pub row_of : Entry → Row
 row_of found = row found.name.now found.offset (type_of found.ty) found.scale
 
--- The offset of the scale point of the first point with this name, or `None`.
+-- The offset of the scale point of the first point with the given name in a model's table, or
+-- `None`.
 abbrev pub scale_offset_in : List Row → List ℕ → Option ℕ
 scale_offset_in rows name =
     option_and_then (λ scaled. scaled.scale) (find (λ scaled. bytes_eq scaled.name name) rows)
 
--- The name of the first point at this offset, or `None`.
+-- The name of the first point at the given offset in a model's table, or `None`.
 abbrev pub name_at_in : List Row → ℕ → Option (List ℕ)
 name_at_in rows offset =
     option_map (λ scaling. scaling.name) (find (λ scaling. scaling.offset == offset) rows)
 
--- The name of the scale point of the first point with this name, or `None`.
+-- The name of the scale point of the first point with the given name in a model's table, or `None`.
 abbrev pub scale_name_in : List Row → List ℕ → Option (List ℕ)
 scale_name_in rows name = option_and_then (name_at_in rows) (scale_offset_in rows name)

@@ -8,7 +8,7 @@ use Rattle.sun_chain.specs.declared.model.Model.{Model}
 use Rattle.sun_chain.specs.declared.fault.ChainFault.{ChainFault}
 use Rattle.sun_chain.specs.declared.fault.ChainFault.TheVariants.{NoMark, Unreadable, PastEnd, TooMany, Memory}
 
--- The fault `PastEnd` if a model of this length ends past address 65535, otherwise `None`.
+-- The fault `PastEnd` if a model of the given length ends past address 65535, otherwise `None`.
 abbrev pub end_lack : ℕ → ℕ → Option ChainFault
 end_lack address length = if nat_lt 65536 (address + 2 + length) then Some PastEnd else None
 
@@ -28,8 +28,8 @@ id_lack word count address (Some id) =
     else if nat_lt 65535 (address + 1) then Some PastEnd
     else length_lack address (word (address + 1))
 
--- The first fault at an address after `count` models, or `None` for a valid model or the end of the
--- chain.
+-- The first fault at an address after `count` models of a chain. `None` for a valid model or the
+-- end of the chain.
 abbrev pub first_lack : Words → ℕ → ℕ → Option ChainFault
 first_lack word count address =
     if nat_lt 65535 address then Some PastEnd else id_lack word count address (word address)
@@ -45,7 +45,8 @@ pub record Lacks (word : Words) (fault : ChainFault) : Type 0 where
       → length others ≤ length models
   pub lack : first_lack word (length models) next ≡ Some fault
 
--- True if the words have this fault. Lack of memory may occur with any words.
+-- True if the words read from a device have the given fault. Lack of memory may occur with any
+-- words.
 abbrev pub Fails : Words → ChainFault → Type 0
 Fails word NoMark = base_in word ≡ None
 Fails word (Unreadable address) = Lacks word (Unreadable address)

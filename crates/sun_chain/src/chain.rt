@@ -5,7 +5,8 @@ ghost use Rattle.std.specs.List.{All};
 use crate::image::Image;
 use crate::model::Model;
 
-/// The chain of SunSpec models in a memory image, which the function `walk` found.
+/// The chain of SunSpec models in a memory image (the words read from a device), which the function
+/// `walk` found.
 #[derive(Drop)]
 pub struct Chain<'a> {
     pub(crate) image: &'a Image,

@@ -1,4 +1,4 @@
-//! Finds the chain of SunSpec models in a memory image.
+//! Finds the chain of SunSpec models in a memory image (the words read from a device).
 ghost use Rattle.std.specs.Prelude.{◌≡◌, ◌<◌, ◌≤◌, ◌+◌, Some, None, IfOk, IfErr};
 ghost use Rattle.sun_chain.specs.Image.{word_in};
 ghost use Rattle.sun_chain.specs.Chain.{base_in, is_marked, base_of, end_of, models_of, words_of};
@@ -20,8 +20,8 @@ const MOST_MODELS: usize = 64;
 /// The ID of the model that ends a chain.
 const END_ID: u16 = 0xFFFF;
 
-/// Finds the chain of models in a memory image. The words `Su` and `nS` mark the chain's base
-/// address: 40000, 50000 or 0.
+/// Finds the chain of models in a memory image (the words read from a device). The words `Su` and
+/// `nS` mark the chain's base address: 40000, 50000 or 0.
 pub fn walk(alloc: Global, image: &Image) -> Result<Chain<'_>, ChainFault>
     ensures chain { IfOk result
         (λ chain. IsChain (word_in image.now) (base_of chain) (models_of chain) (end_of chain)) }

@@ -1,4 +1,5 @@
-//! Faults of a write into a memory image, and of an image without a chain.
+//! Faults of a write into a memory image (the words read from a device), and of an image without a
+//! chain.
 ghost use Rattle.std.specs.Prelude.{◌≡◌};
 ghost use Rattle.sun_chain.specs.Fault.{chain_fault_number, image_fault_number};
 
@@ -9,7 +10,7 @@ use std::fmt::{Display, Formatter};
 /// The reason why a memory image refused a write of words.
 #[derive(Clone, Copy, Debug, PartialEq, Eq)]
 pub enum ImageFault {
-    /// The words would end past address 65535.
+    /// The words to write would end past address 65535.
     PastEnd,
     Memory,
 }
@@ -37,12 +38,12 @@ impl Display for ImageFault {
 
 impl Error for ImageFault {}
 
-/// The reason why a memory image has no chain of models.
+/// The reason why a memory image (the words read from a device) has no chain of models.
 #[derive(Clone, Copy, Debug, PartialEq, Eq)]
 pub enum ChainFault {
     /// No base address has the `SunS` mark.
     NoMark,
-    /// The chain needs the word at this address, which was not read.
+    /// The search for the chain needs the word at this address, which was not read.
     Unreadable(u16),
     /// The chain continues past address 65535.
     PastEnd,

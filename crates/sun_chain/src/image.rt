@@ -24,7 +24,7 @@ pub struct Image {
 impl Image {
     ghost use Rattle.sun_chain.specs.Image.{add_words, word_in, words_in};
 
-    /// Creates a memory image without words.
+    /// Creates a memory image (the words read from a device) without words.
     pub fn new(alloc: Global) -> Self
         ensures { (address : ℕ) → word_in result address ≡ None }
     {

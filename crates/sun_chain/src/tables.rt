@@ -201,8 +201,8 @@ pub(crate) fn table(id: u16) -> &'static [Entry]
     }
 }
 
-/// Returns the name of the scale point of a point, by the table of the model with this ID, or
-/// `None` without one.
+/// Returns the name of the scale point of a point, by the table of the model with the given ID.
+/// `None` without a scale point.
 pub fn scale_name(id: u16, name: &str) -> Option<&'static str>
     ensures { option_map (λ found. found.now) result ≡ scale_name_in (table_of id) name.now }
 {

@@ -32,7 +32,7 @@ pub zeros-written : (n zeros : ℕ) {count : ℕ} → zeros ≤ 10 → 0 < n →
 zeros-written n zeros few some fits count_is =
     rw (count_is, take-replicate {X = ℕ} zeros 10 48 few) (sym (decimal-times_power zeros n some (lt_of_le_of_lt (mul-le-mul (le_of_lt fits) (pow-le-pow_right (lit< tt) few)) (lit< tt))))
 
--- Appending a number and then appending zeros equals appending both as one text.
+-- Appending a number's text and then zeros to a text equals appending both as one text.
 pub appends_three : (front middle whole number zeros text : List ℕ) → middle ≡ front ++ number → whole ≡ middle ++ zeros → number ++ zeros ≡ text → whole ≡ front ++ text
 appends_three front middle whole number zeros text first second joined =
     second

@@ -10,7 +10,7 @@ use Rattle.sun_points.specs.Scale.{scale_of}
 use Rattle.sun_points.specs.Text.{shown_text}
 use Rattle.sun_points.specs.declared.point_type.PointType.TheVariants.{Int16, Acc32, Bitfield32}
 
--- Values printed at a scale.
+-- Examples of values printed at a scale.
 
 a_tenth : scaled_text (pos 2301) (negsuc 0) ≡ codes "230.1"
 unfolding digits
@@ -36,7 +36,7 @@ least_at_the_least : scaled_text (negsuc 9223372036854775807) (negsuc 9) ≡ cod
 unfolding digits
 least_at_the_least = refl
 
--- Scale factors of sunssf registers.
+-- Examples of scale factors in sunssf registers.
 
 zero_where_not_implemented : scale_of 0x8000 ≡ Some (pos 0)
 zero_where_not_implemented = refl
@@ -53,7 +53,7 @@ minus_ten = refl
 minus_eleven : scale_of 0xFFF5 ≡ None
 minus_eleven = refl
 
--- Counts of counters, and the powers of ten of their scale factors.
+-- Examples of counts of counters, and of the powers of ten of their scale factors.
 
 a_count_of_the_high_word : acc32_value 0x0001 0x0000 ≡ 65536
 a_count_of_the_high_word = refl
@@ -70,7 +70,7 @@ thousandths = refl
 no_scale_counts_as_zero : scale_value 0x8000 ≡ pos 0
 no_scale_counts_as_zero = refl
 
--- Values decoded from registers, for each point type.
+-- Examples of values decoded from registers, for each point type.
 
 minus_one : value_of Int16 (0xFFFF ∷ []) ≡ Signed (negsuc 0)
 minus_one = refl
@@ -87,7 +87,7 @@ no_bits = refl
 bits : value_of Bitfield32 (0x7FFF ∷ 1 ∷ []) ≡ Bits 0x7FFF0001
 bits = refl
 
--- Printed forms of texts.
+-- Examples of the printed forms of texts.
 
 up_to_the_zero : shown_text (0x4142 ∷ 0x0043 ∷ []) ≡ codes "AB"
 up_to_the_zero = refl

@@ -1,11 +1,11 @@
--- Lemmas about computing the lowest digits of a number from the last digit to the first.
+-- Lemmas about a loop that computes the lowest digits of a number, beginning with the last digit.
 use Rattle.std.proofs.Common.{◌≡◌, ℕ, ◌+◌, ◌-◌, ◌/◌, ◌%◌, ◌^◌, ◌<◌, false, List, ◌∷◌, length, drop, set, refl, ◌∙◌, ap, arith, add-one, pow-suc}
 use Rattle.std.proofs.Math.Nat.{div-div-eq-div-mul}
 use Rattle.std.specs.Fmt.{digit_glyph}
 use Rattle.std.proofs.lemmas.Grind.{drop-set_at}
 use Rattle.sun_points.specs.Decimal.{low_digits}
 
--- Writing the next higher digit before the lowest digits gives one more of the number's lowest
+-- The `k + 1` lowest digits of a number are the digit at position `k`, followed by the `k` lowest
 -- digits.
 pub drop-set_digit : (base : ℕ) (digits : List ℕ) (count place n : ℕ) → place < count → length digits ≡ count →
     drop (count - place) digits ≡ low_digits base place n →

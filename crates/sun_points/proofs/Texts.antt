@@ -1,4 +1,4 @@
--- Lemmas about a text that is printed byte by byte.
+-- Lemmas about a text in registers that is printed byte by byte.
 use Rattle.std.proofs.Common.{◌≡◌, ℕ, ◌+◌, ◌<◌, ◌==◌, List, ◌∷◌, ◌++◌, length, get_or, drop, refl, sym, ◌∙◌, ap, append_assoc, one-add, add-one, drop-cons}
 use Rattle.std.proofs.lemmas.Bool.{ne_eqb}
 use Rattle.std.specs.Int.{w16, to_be_bytes}

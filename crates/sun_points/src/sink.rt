@@ -10,18 +10,18 @@ use std::io::{self, ErrorKind, Write};
 /// A destination that accepts a complete text in one call. Functions that print a value return the
 /// result of one such call unchanged.
 pub trait Sink {
-    // The relation between a sink, a text, the result of writing that text, and the sink
-    // afterwards.
+    // The guarantee of writing a text to a destination: the relation between the destination before
+    // and after, the text and the result.
     ghost takes: { Self → List ℕ → Result (Unit {0}) Error → Self → Type 0 };
 
-    /// Writes the complete text, or fails. After an error, the sink may have received a first part
-    /// of the text.
+    /// Writes the complete text, or fails. After an error, the destination may have received a
+    /// first part of the text.
     fn take_text(&mut self, text: &[u8]) -> io::Result<()>
         ensures { takes self.old text.now result self.new };
 }
 
-/// Makes any writer a sink. The text is written in at most 2^64 - 1 writes, and a write of 0 bytes
-/// is the error `WriteZero`.
+/// Makes any writer a destination of complete texts. The text is written in at most 2^64 - 1
+/// writes, and a write of 0 bytes is the error `WriteZero`.
 impl<W: Write> Sink for W {
     ghost takes = { λ old text result new.
         TakesText result text (W.contents old) (W.contents new) };

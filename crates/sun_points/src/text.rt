@@ -9,7 +9,7 @@ use crate::sink::Sink;
 use arrayvec::ArrayVec;
 use std::io;
 
-/// Appends bytes to a text. The contract guarantees that the bytes fit.
+/// Appends bytes to a text. The precondition is that the text has room for them.
 pub(crate) fn append<const N: usize>(text: &mut ArrayVec<u8, N>, more: &[u8])
     requires { array_vec_len text.old + length more.now ≤ N }
     ensures bytes { text.new.items ≡ text.old.items ++ more.now }

@@ -15,7 +15,7 @@ use std::str::from_utf8;
 use stored_files::{Databases, Ending, Failure, Named, ending_of};
 use stored_office::{Task, ending_of_done};
 
-// Reports why a file or a counter that an input line names cannot be read.
+// Reports why a file or a counter that a line of standard input names cannot be read.
 fn say_unread<D: Display>(rt: &HostRuntime, name: &str, why: &D) {
     let mut errors = Escaped::new(rt.stderr());
     let _said = write!(errors, "sunreg: {}: {why}\n", Named(name));

@@ -19,8 +19,8 @@ use stored_office::{Done, Task, carry_out_stored, ending_of_done, may_be_ahead, 
 /// The host on which the program serves HTTP.
 pub(crate) const OWN_HOST: &str = "127.0.0.1";
 
-/// Executes a task, such as a report or a round of polls, on a database, and flushes the task's
-/// output. After a round of polls, explains the refusals and rejected readings that the round
+/// Executes a task, such as a report or a polling round, on a database, and flushes the task's
+/// output. After a polling round, explains the refusals and rejected readings that the round
 /// printed.
 pub(crate) fn over_office<'a, D: Databases + NamedFiles>(
     rt: &HostRuntime,
@@ -61,7 +61,7 @@ fn over_connection<'a, D: Databases + NamedFiles, C: Clock>(
         &mut errors,
     );
     match (output.flush(), done) {
-        // (if the reader of standard output has closed it, the remaining output is dropped)
+        // The remaining output is dropped if its reader has closed standard output.
         (Err(error), Ok(Done::Ran(end))) if error.kind() == ErrorKind::BrokenPipe => {
             Ok(Done::Ran(end))
         }
@@ -96,9 +96,9 @@ fn is_said_ahead<D: Databases, C: Clock>(
     }
 }
 
-// Returns the writer for a task's output. A round of polls of one device and the command `run`
-// write line by line, and other tasks write in chunks. The output of a round is also stored,
-// because its error numbers are explained afterwards.
+// Returns the writer for a task's output. A polling round of one device and the command `run` write
+// line by line, and other tasks write in chunks. The output of a round is also stored, because its
+// error numbers are explained afterwards.
 fn output_of<'r>(
     rt: &'r HostRuntime,
     task: Task<'_>,

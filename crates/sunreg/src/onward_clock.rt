@@ -18,7 +18,7 @@ impl<C: Clock + Drop> OnwardClock<C> {
         }
     }
 
-    /// Raises the lower bound to the latest time that the clock has returned.
+    /// Raises the lower bound of the clock to the latest time that the clock has returned.
     pub(crate) fn advance_least(&mut self) {
         self.time.advance_least();
     }

@@ -1,7 +1,7 @@
 //! Executes the command `run --carry`, which begins a new file each month or year.
 //!
-//! The command `run --carry` runs over one file at a time. Soon after a new period begins, the
-//! meters are rolled over into the period's file, and the next run uses that file.
+//! The command `run --carry` runs over one file at a time. Soon after a new period begins, all
+//! meters are continued in the file of the new period, and the next run uses that file.
 use crate::ended;
 use crate::offices::{OWN_HOST, run_opened};
 use crate::onward_clock::OnwardClock;
@@ -106,8 +106,8 @@ fn say_alone(rt: &HostRuntime, path: &str) {
     }
 }
 
-// Reports why a file could not be rolled over into the next file, and what the command does
-// instead.
+// Reports why the meters of a file could not be continued in the next file, and what the command
+// does instead.
 fn say_not_carried(rt: &HostRuntime, from: &str, why: &NotCarried<'_>, comes: &str) {
     let mut lines = Vec::new(rt.alloc());
     let _written = write_why(&mut lines, why);
@@ -263,8 +263,8 @@ fn paths_of<'p>(
     Ok(paths)
 }
 
-// Returns the energy of all accounting registers in the files that are older than the file at
-// `path`. Does not wait for the reader of standard error.
+// Returns the energy of all accounting registers (energy counters) in the files that are older than
+// the file at `path`. Does not wait for the reader of standard error.
 fn registers_before<'a, D: OfficeFiles>(
     rt: &HostRuntime,
     files: &D,
@@ -457,8 +457,8 @@ fn is_made(rt: &HostRuntime, to: &str, why: &NotCarried<'_>) -> bool {
     is_there(rt, to)
 }
 
-// Rolls a file over into a new file, and continues with the new file. If the file rollover fails,
-// continues with the old file until the next full hour, and then tries again.
+// Continues all meters of a file in a new file, and then uses the new file. On failure, continues
+// with the old file until the next full hour, and then tries again.
 fn carry_on<D: OfficeFiles + NamedFiles, C: Clock + Drop>(
     asked: &Asked<'_>,
     files: &D,
@@ -479,8 +479,8 @@ fn carry_on<D: OfficeFiles + NamedFiles, C: Clock + Drop>(
                 let until = next_try(asked.settings.every, clock.now());
                 return run_at(asked, files, from, is_first, false, clock, until, left);
             }
-            // (the new file has its final name, but the folder could not be synced, or another
-            // process created the file)
+            // The new file has its final name, but the folder could not be synced, or another
+            // process created the file.
             say_not_carried(rt, from, &why, NAMED);
         }
     }
@@ -535,8 +535,8 @@ fn turn<D: OfficeFiles + NamedFiles, C: Clock + Drop>(
     match course {
         Course::Stay(until) => {
             if asked.has_earlier() {
-                // (earlier files are read before the current file is opened, each over its own
-                // connection)
+                // Earlier files are read before the current file is opened, each over its own
+                // connection.
                 drop(connection);
                 return run_at(asked, files, path, is_first, false, clock, until, left);
             }

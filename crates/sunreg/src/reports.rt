@@ -1,4 +1,5 @@
-//! Prints the energy of an accounting register, or the statement of its meters, from one file.
+//! Prints the energy of an accounting register from one file, or a statement, which has one row for
+//! each of the register's meters.
 use crate::offices::{OWN_HOST, over_office};
 use command_words::FormWords;
 use file_commands::{OfficeFiles, Opening, form_of, range_of, statement_of};
@@ -26,8 +27,8 @@ fn report_by<'a, D: OfficeFiles + NamedFiles>(
     ending_of_done(over_office(rt, &readable, path, task), OWN_HOST, 0)
 }
 
-/// Prints the energy of an accounting register, by default by days, or prints a statement of the
-/// register's meters.
+/// Prints the energy of an accounting register, by default by days, or prints a statement, which
+/// has one row for each of the register's meters.
 pub(crate) fn report<'a, D: OfficeFiles + NamedFiles>(
     rt: &HostRuntime,
     files: &D,

@@ -14,11 +14,12 @@ use sunspec_text::{ScanForm, Site, scan_text};
 /// The timeout for connecting to each address of a host, in seconds.
 const PATIENCE: u64 = 5;
 
-/// The maximum duration of a scan, in seconds.
+/// The maximum duration of the scan of a device, in seconds.
 const LONGEST: u64 = 600;
 
 /// The maximum length of a device's name for `--setup`, in bytes. The names of the device's
-/// accounting registers are formed from it and are longer, but must be valid names too.
+/// accounting registers (energy counters) are formed from it and are longer, but must be valid
+/// names too.
 const MOST_NAME: usize = 9;
 
 /// The address of a device to scan, and how many seconds to wait for each of its responses.
@@ -76,7 +77,8 @@ pub(crate) fn connect<'a, R: Net>(
 }
 
 // Returns the output form of a scan that prints the lines to set up a device. Returns `None` if the
-// device's name is invalid, or too long for the names of its accounting registers.
+// device's name is invalid, or too long for the names of its accounting registers (energy
+// counters).
 fn setup_form<'d>(device: &'d str, target: Target<'_>) -> Option<ScanForm<'d>> {
     if device.len() > MOST_NAME || Name::new(device.as_bytes()).is_none() {
         return None;

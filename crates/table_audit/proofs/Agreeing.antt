@@ -1,5 +1,5 @@
--- Lemmas that a meter's rows follow from a lawful journal (a history that the rules accept) if and
--- only if they agree with a check of all entries.
+-- Lemmas that a meter's rows follow from a history that the rules accept if and only if they agree
+-- with a check of all entries.
 use Rattle.std.proofs.Common.{◌≡◌, ℕ, ◌+◌, ◌-◌, ◌<◌, List, [], ◌∷◌, ◌++◌, reverse, take, drop, length, get_or, Option, Some, None, MatchOption, Err, refl, sym, ap, subst, ◌∙◌, arith}
 use Rattle.std.proofs.lemmas.List.{reverse-append, take_all, take-append-drop, append_cancel_right}
 use Rattle.energy_core.specs.declared.entries.Last.{Last}
@@ -17,7 +17,7 @@ use Rattle.meter_journal.proofs.AuditLemmas.Apart.{same_head, reported_more}
 use Rattle.store_tables.specs.declared.meters.rows.InstallationRow.{InstallationRow}
 use Rattle.table_audit.specs.Lawful.{last_shown, IsOpenedBy, tables_from, IsLawful, RestAgrees}
 
--- ---- splitting a meter's entry rows at an index
+-- Lemmas on splitting the list of a meter's entry rows at an index.
 
 pub gone_more : (meter : Installed) (rows : List TableRow) (i : ℕ) (d : TableRow) (new : Progress) → i < length rows
     → HasGone meter (get_or rows i d ∷ reverse (take i rows)) [] new → HasGone meter (reverse (take (i + 1) rows)) [] new
@@ -56,7 +56,7 @@ where_some P Q o a is h = subst (λ q. MatchOption q P Q) is h
 pub where_none : {A : Type 0} (P : Type 0) (Q : A → Type 0) (o : Option A) → o ≡ None → MatchOption o P Q → P
 where_none P Q o is h = subst (λ q. MatchOption q P Q) is h
 
--- ---- the opening entry of a meter
+-- Lemmas on the opening of a meter, its first entry.
 
 abbrev meter_with : (range ceiling : ℕ) → Last → Installed
 meter_with range ceiling opening = record { range = range; ceiling = ceiling; opening = opening }
@@ -64,8 +64,8 @@ meter_with range ceiling opening = record { range = range; ceiling = ceiling; op
 pub shows_itself : (row : TableRow) (last : Last) → row ≡ opening_row last → row ≡ opening_row (last_shown row)
 shows_itself row last is = let same : last_shown row ≡ last = ap last_shown is in is ∙ ap opening_row (sym same)
 
--- If two meters have the same opening row, counter range and ceiling, then the two meters are
--- equal.
+-- If two meters have the same opening row (first entry), counter range and ceiling (greatest
+-- power), then the two meters are equal.
 same_meter : (range ceiling : ℕ) (row : TableRow) (m n : Installed) → IsOpenedBy range ceiling row m → IsOpenedBy range ceiling row n → m ≡ n
 same_meter range ceiling row m n h g =
     let opening : m.opening ≡ n.opening = ap last_shown (sym h.opening_is ∙ g.opening_is) in
@@ -79,7 +79,8 @@ opening_last entries opening later last first is =
     ap (λ (rs : List TableRow). reverse rs) first ∙ reverse-append (opening ∷ []) later
     ∙ ap (λ (r : TableRow). reverse later ++ r ∷ []) is
 
--- The meter's rows are fine, and the first of its entries is the opening, which installs the meter.
+-- The meter's rows follow from its entries without a difference, and its first entry is the
+-- opening, which installs the meter.
 record HasOpened (range : ℕ) (row : InstallationRow) (voids : List ℕ) (entries : List TableRow) (shares : List Share) (meter : Installed)
     (later : List TableRow) : Type 0 where
   fine : AreFine meter (tables_from entries shares row)
@@ -112,8 +113,8 @@ pub no_entry : (range : ℕ) (row : InstallationRow) (voids : List ℕ) (entries
 no_entry range row voids entries shares none lawful =
     let both : [] ≡ lawful.opening ∷ lawful.later = sym none ∙ lawful.first in absurd (cc)
 
--- If no journal (history of a meter) that the rules accept gives the entries after the opening,
--- then the meter's rows are not lawful.
+-- If no history of a meter that the rules accept gives the entries after its first entry, then the
+-- meter's rows are not accepted either.
 pub not_reported : (range : ℕ) (row : InstallationRow) (voids : List ℕ) (entries : List TableRow) (shares : List Share) (meter : Installed)
     (opening : TableRow) (later : List TableRow) → entries ≡ opening ∷ later → IsOpenedBy range row.ceiling opening meter
     → (AreReported meter (reverse later) → ⊥) → IsLawful range row voids entries shares → ⊥
@@ -128,7 +129,7 @@ not_reported range row voids entries shares meter opening later first opened non
       reported_is = append_cancel_right (reverse later) (later_rows meter rows) (opening_row meter.opening ∷ []) both;
     })
 
--- ---- a meter's rows after the check of all its entries
+-- Lemmas on a meter's rows after the check of all its entries.
 
 pub rest_is_lawful : FinishedIsFine → (range : ℕ) (row : InstallationRow) (voids : List ℕ) (entries : List TableRow) (shares : List Share)
     (meter : Installed) (opening : TableRow) (later : List TableRow) (progress : Progress)

@@ -88,6 +88,6 @@ mark_rows old new content xs rows has are h =
     (λ m n x y le. sym (ap is_gt (then-Equal (value_cmp (column x 0) (column y 0)))) ∙ le)
     old new text.mark_rows text.mark_names content xs rows (tree_at books_schema.tables 0 meta_table refl) has are text.mark_rows_is text.mark_rows_unlisted text.mark_rows_plain h
 
--- If a query shows each row unchanged, then it returns all rows of its table.
+-- The result of a query that returns each row of a table unchanged has all rows of the table.
 pub all_rows : (content : Content) (tree : ℕ) → HasRows tree itself (content tree) content
 all_rows content tree = subst (λ rows. IsPermutation rows (content tree)) (sym (map-id (content tree))) (IsPermutation-refl (content tree))

@@ -1,5 +1,5 @@
--- Lemmas on the differences between polls and valid polls. Adding the differences of each row gives
--- all differences, and valid polls have none.
+-- Lemmas on the differences between the polls in the tables and valid polls. Adding the differences
+-- of each row gives all differences, and valid polls have none.
 use Rattle.std.proofs.Common.{◌≡◌, ◌+◌, ◌-◌, ◌<◌, ◌≤◌, ◌==◌, ℕ, zero, suc, Bool, true, false, nat_lt, nat_le, ◌&&◌, ◌||◌, if◌then◌else◌, List, [], ◌∷◌, ◌++◌, drop, length, get_or, Option, Some, Result, Ok, Err, unwrap_or, refl, sym, ap, subst, ◌∙◌, append_assoc, arith, add-one}
 use Rattle.std.specs.List.{list_any, list_all}
 use Rattle.std.proofs.Math.Seq.{drop-cons}
@@ -22,7 +22,8 @@ use Rattle.table_audit.specs.Polls.{are_numbered, is_begun, has_begun, IsFineRun
 use Rattle.table_audit.specs.Reading.{all_in}
 use Rattle.table_audit.proofs.Named.{append_none, both_none}
 
--- ---- adding the differences of one more row of polls or outcomes
+-- Lemmas on adding the differences of one more row of polls or outcomes to the differences of the
+-- earlier rows.
 
 pub each_more : (differs : Row → List Difference) (rows : List Row) (i : ℕ) (row : Row) (found next all : List Difference) → i < length rows → row ≡ get_or rows i row
     → found ++ each_of differs (drop i rows) ≡ all → next ≡ found ++ differs row → next ++ each_of differs (drop (i + 1) rows) ≡ all
@@ -67,8 +68,6 @@ any_at test (x ∷ xs) (suc i) d inside h = ap (λ b. test x || b) (any_at test 
     or_true true = refl
     or_true false = refl
 
--- ---- Boolean tests of poll rows
-
 and_both : (a b : Bool) → a && b ≡ true → (a ≡ true) × (b ≡ true)
 and_both true b h = (refl, h)
 and_both false b h = absurd (let f : false ≡ true = h in cc)
@@ -108,7 +107,7 @@ eq_is a b h = grind (arith, nat_tests)
 eq_of : (a b : ℕ) → (a == b) ≡ true → a ≡ b
 eq_of a b h = grind (arith, nat_tests)
 
--- ---- rows of polls and outcomes with values out of range
+-- Lemmas on rows of polls and outcomes with values out of range.
 
 read_of : {X : Type 0} (fault : PollFault) (row : Row) (r : Result X RowFault) → unread fault row r ≡ [] → (x : X) × (r ≡ Ok x)
 read_of fault row (Ok x) none = (x, refl)
@@ -133,7 +132,7 @@ module _ {X : Type 0} (fault : PollFault) (read : Row → Result X RowFault) whe
       let two = then_read (all_in read rows) _ xs one.2 in
       ap (λ (q : Result X RowFault). unread fault row q ++ each_of (λ r. unread fault r (read r)) rows) one.1 ∙ none_unread rows two.0 two.1
 
--- ---- missing and disordered poll numbers
+-- Lemmas on missing and disordered poll numbers.
 
 gap_closed : (next below : ℕ) → gap next below ≡ [] → below ≤ next
 gap_closed next below none = not_lt next below (if_none (nat_lt next below) (NoPolls next (below - 1)) [] none)
@@ -141,7 +140,8 @@ gap_closed next below none = not_lt next below (if_none (nat_lt next below) (NoP
 closed_gap : (next below : ℕ) → below ≤ next → gap next below ≡ []
 closed_gap next below h = ap (λ (b : Bool). let ds : List Difference = if b then NoPolls next (below - 1) ∷ [] else [] in ds) (lt_not next below h)
 
--- The poll number `n` is the expected number `next` and at most `last`, so it adds no difference.
+-- True if the poll number `n` is the expected number `next` and at most `last`, so that it adds no
+-- difference.
 record IsNext (next last n : ℕ) : Type 0 where
   is : n ≡ next
   inside : n ≤ last
@@ -208,7 +208,7 @@ none_order next last (row ∷ rows) polls h all =
     ∙ ap (λ m. order_of m last rows) (then_next next last n it)
     ∙ none_order (next + 1) last rows two.0 two.1 second.1
 
--- ---- outcomes that are earlier than their polls
+-- Lemmas on outcomes that are earlier than the start of their polls.
 
 same_begun : (outcome : OutcomeRow) (rows : List Row) (polls : List PollRow) → all_in poll_in rows ≡ Ok polls → list_any (began outcome) rows ≡ has_begun polls outcome
 same_begun outcome [] polls h = ap (λ ps. has_begun ps outcome) (ok_is h)
@@ -245,7 +245,8 @@ module _ (poll_rows : List Row) (polls : List PollRow) (polls_read : all_in poll
       (same_begun one.0 poll_rows polls polls_read ∙ both.0)
       ∙ none_early rows two.0 two.1 both.1
 
--- ---- one run of polls, and consecutive runs of polls
+-- Lemmas on the differences of one run of polls (consecutive poll numbers), and of consecutive
+-- runs.
 
 none_is_fine : (run last : ℕ) (rows : RunRows) → differences_of_run run last rows ≡ [] → IsFineRun run last rows
 none_is_fine run last rows none =

@@ -9,7 +9,7 @@ use Rattle.table_audit.specs.declared.findings.Counts.{Counts}
 use Rattle.table_audit.specs.declared.findings.Findings.{Findings}
 use Rattle.table_audit.specs.Meters.{LookedAt, row_of, IsLookedUp, IsFineAt, AreFineFrom, none_counted, counted, counted_from, ReportsRow, ReportsRows}
 
--- ---- the audit of one more row of `installations`
+-- Lemmas on the audit of one more row of `installations`.
 
 pub all_more : {X : Type 0} (P : X → Type 0) (xs : List X) (x : X) → AllByRecursion P xs → P x → AllByRecursion P (xs ++ x ∷ [])
 all_more P [] x all one = (one, tt)
@@ -38,7 +38,7 @@ counted_more : (counts : Counts) (xs : List LookedAt) (x : LookedAt) → counted
 counted_more counts [] x = refl
 counted_more counts (y ∷ ys) x = counted_more (counted y.rows counts) ys x
 
--- ---- the findings after the audit of all rows
+-- Lemmas on the findings after the audit of all rows of `installations`.
 
 pub none_few : (found : Findings) → found.first.items ≡ [] → length found.first.items ≤ MOST
 none_few found none = let long : length found.first.items ≡ 0 = ap length none in omega (arith, long)

@@ -13,7 +13,7 @@ use Rattle.store_tables.proofs.Failures.{still_goes, goes_then, went_on, later_f
 use Rattle.store_tables.proofs.StepLemmas.{kept_then}
 use Rattle.table_audit.specs.Looking.{HoldsTables, OnlyLooks, Finds}
 
--- ---- consecutive SQL queries
+-- Lemmas on consecutive SQL queries.
 
 module _ {S : Type 0} (g : Ghosts S) where
   pub holds_on : (old new : Held S) (content : Content) → OnlyLooks g old new → HoldsTables g old content → HoldsTables g new content
@@ -31,9 +31,9 @@ module _ {S : Type 0} (g : Ghosts S) where
     goes = λ content holds clean. goes_then (state g a) (state g b) (state g c) (p.goes content holds (q.clean clean)) (q.goes content (holds_on a b content p holds) clean);
   }
 
--- ---- a query after the check that the database is open
+-- Lemmas on a query after the check that the database is open.
 
--- After a successful check, the database is open and queries see exactly the committed rows.
+-- After the check that the database is open succeeds, queries see exactly the committed rows.
 pub record Touched {S : Type 0} (g : Ghosts S) (old mid : Held S) : Type 0 where
   pub mode : mid.in_transaction ≡ false
   pub opened : HasCleanDisk (state g mid) → IsTrue (state g mid).is_open × ((state g mid).now ≡ (state g mid).committed)
@@ -95,7 +95,8 @@ module _ {S : Type 0} (g : Ghosts S) (old mid : Held S) where
                 goes_then (state g old) (state g mid) (state g new) (first.goes content holds (asks.clean clean)) (went_on (state g mid) (state g new) (λ _. ⊥) clean (asks.survives content s));
           }
 
-      -- If the query succeeds, then its result is true of the committed tables.
+      -- If the query succeeds after the check that the database is open, its result is true of the
+      -- committed tables.
       pub asked : {A : Type 0} (a : A) (Says : Content → A → Type 0)
           → (HasCleanDisk (state g new) → (content : Content) → AreTables (state g mid).now content → Says content a)
           → Finds g old new (Ok a) Says
@@ -105,7 +106,8 @@ module _ {S : Type 0} (g : Ghosts S) (old mid : Held S) where
         looks = looks_asked;
       }
 
-      -- If the query fails, then its error is one of the allowed store errors.
+      -- If the query after the check that the database is open fails, its error is one of the
+      -- allowed store errors.
       pub not_asked : {A : Type 0} (e : Error) (r : Result A RowFault) (Says : Content → A → Type 0)
           → (HasCleanDisk (state g new) → (content : Content) → AreTables (state g mid).now content → IsStoreError (state g mid) (state g new) e)
           → IsErrAnd r (λ d. d ≡ Sql e) → Finds g old new r Says
@@ -119,7 +121,7 @@ module _ {S : Type 0} (g : Ghosts S) (old mid : Held S) where
         looks = looks_asked;
       }
 
--- ---- the result of two consecutive queries
+-- Lemmas on the results of two consecutive queries.
 
 both_ok : {B : Type 0} {P Q : B → Type 0} (r : Result B RowFault) → ((b : B) → P b → Q b) → IfOk r P → IfOk r Q
 both_ok (Ok b) f h = f b h
@@ -148,7 +150,7 @@ passed_on g old new e (Err d) P Q one fails = record {
   looks = one.looks;
 }
 
--- If a query result has a property, then it also has each property that follows from this property.
+-- If a query's result has a property, it also has every weaker property.
 pub made : {S A B : Type 0} (g : Ghosts S) (old new : Held S) (a : A) (b : B) (P : Content → A → Type 0) (Q : Content → B → Type 0)
     → Finds g old new (Ok a) P → ((content : Content) → P content a → Q content b) → Finds g old new (Ok b) Q
 made g old new a b P Q one reports = record {
@@ -157,7 +159,7 @@ made g old new a b P Q one reports = record {
   looks = one.looks;
 }
 
--- ---- calls without a query, or with memory that ran out
+-- Lemmas on calls that run no query, and on calls that run out of memory.
 
 module _ {S : Type 0} (g : Ghosts S) (held : Held S) where
   not_looked : OnlyLooks g held held
@@ -184,7 +186,8 @@ module _ {S : Type 0} (g : Ghosts S) (held : Held S) where
     looks = not_looked;
   }
 
--- If memory runs out after a successful query, then the resulting error is allowed.
+-- If memory runs out after a successful query, then the contract of the query allows the resulting
+-- error.
 pub cut_off : {S A B : Type 0} (g : Ghosts S) (old new : Held S) (a : A) (P : Content → A → Type 0) (Q : Content → B → Type 0)
     → Finds g old new (Ok a) P → Finds g old new (Err (Sql want_of_memory)) Q
 cut_off g old new a P Q one = record {

@@ -38,7 +38,8 @@ module _ {X : Type 0} (read : Row → Result X RowFault) where
       let two = then_read (all_in read rows) _ xs one.2 in
       unread rows i d e (omega (arith, lt)) g two.0 two.1
 
-  -- If a list has at most `i` rows, then parsing its first `i` rows gives the values of all rows.
+  -- If a list has at most `i` rows, then parsing its first `i` rows gives the values of all its
+  -- rows.
   pub all_read : (rows : List Row) (i : ℕ) (xs : List X) → length rows ≤ i → all_in read (take i rows) ≡ Ok xs → all_in read rows ≡ Ok xs
   all_read rows i xs le h = ap (all_in read) (sym (take_all i rows le)) ∙ h
 

@@ -1,4 +1,4 @@
--- Defines when the table `meta` has the one row of a file of the present version.
+-- Defines when the table `meta` has exactly the one row of a file of the present version.
 use Rattle.std.specs.Prelude.{◌≡◌, ◌↔◌, ℕ, pos, Bool, List, [], ◌∷◌, IsTrue, IsUtf8}
 use Rattle.interval_core.specs.Zone.{IsZoneText}
 use Rattle.sqlite.specs.declared.types.Value.TheVariants.{Int, Text}
@@ -9,11 +9,11 @@ use Rattle.store_tables.specs.Content.{Content}
 use Rattle.store_tables.specs.Meta.{meta}
 use Rattle.table_audit.specs.Showing.{InPlace}
 
--- The result row of the query on `meta`: its number, the file's version, and the time zone.
+-- The result row of a query on the table `meta`: its number, the file's version, and the time zone.
 abbrev pub mark_shown : Row → Row
 mark_shown row = column row 0 ∷ column row 2 ∷ column row 3 ∷ []
 
--- The query returns all rows of `meta`, in order of their numbers.
+-- True if a query returns all rows of `meta`, in order of their numbers.
 abbrev pub ShowsMarks : Content → List Row → Type 0
 ShowsMarks content rows = Shows every InPlace mark_shown (content meta) rows
 
@@ -24,17 +24,18 @@ pub record HasZone (row : Row) : Type 0 where
   pub utf8 : IsUtf8 zone
   pub valid : IsZoneText zone
 
--- True if a result row has number 1, version 3 and a time zone.
+-- True if a result row of a query on `meta` has number 1, version 3 and a time zone.
 pub record IsMark (row : Row) : Type 0 where
   pub number : column row 0 ≡ Int (pos 1)
   pub version : column row 1 ≡ Int (pos 3)
   pub zone : HasZone row
 
--- True if the result is a single row, and it is that of a file of the present version.
+-- True if the result of a query on `meta` is a single row, as in a file of the present version.
 abbrev pub AreMarks : List Row → Type 0
 AreMarks rows = (row : Row) × (rows ≡ row ∷ []) × IsMark row
 
--- `fine` is true if and only if `meta` has the one row of a file of the present version.
+-- True if the Boolean `fine` says correctly whether `meta` has exactly the one row of a file of the
+-- present version.
 pub record ReportsMark (content : Content) (fine : Bool) : Type 0 where
   pub rows : List Row
   pub shown : ShowsMarks content rows

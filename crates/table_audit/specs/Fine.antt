@@ -1,4 +1,4 @@
--- Defines when a meter's rows are fine, which means that an audit finds no difference in them.
+-- Defines when an audit finds no difference in a meter's rows.
 use Rattle.std.specs.Prelude.{◌≡◌, ◌↔◌, ℕ, Bool, List, [], ◌∷◌, Ok, IsTrue}
 use Rattle.interval_core.specs.declared.shares.Share.{Share}
 use Rattle.meter_journal.specs.declared.audit.rows.TableRow.{TableRow}
@@ -9,8 +9,8 @@ use Rattle.store_tables.specs.Content.{Content}
 use Rattle.table_audit.specs.Lawful.{IsLawful}
 use Rattle.table_audit.specs.Showing.{AreRowsOf}
 
--- All values in the meter's rows are in their ranges, and the meter has exactly one counter range.
--- The rows follow from a lawful journal, a history of the meter that the rules accept.
+-- States that all values in the meter's rows are in their ranges, and that the meter has exactly
+-- one counter range. The rows follow from a history of the meter that the rules accept.
 pub record IsFine (installation : InstallationRow) (rows : MeterRows) : Type 0 where
   pub range : ℕ
   pub voids : List ℕ
@@ -22,8 +22,8 @@ pub record IsFine (installation : InstallationRow) (rows : MeterRows) : Type 0 w
   pub shares_read : all_in share_in rows.intervals.items ≡ Ok shares
   pub lawful : IsLawful range installation voids entries shares
 
--- `fine` is true if and only if the meter's rows in the tables follow from a lawful journal, a
--- history that the rules accept.
+-- True if the Boolean `fine` says correctly whether the meter's rows follow from a history that the
+-- rules accept.
 pub record ReportsFine (meter : List ℕ) (installation : InstallationRow) (content : Content)
     (fine : Bool) : Type 0 where
   pub rows : MeterRows

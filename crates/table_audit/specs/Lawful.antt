@@ -1,5 +1,5 @@
--- Defines when the values that an audit read for a meter are those that a lawful journal produces.
--- A journal is lawful if the rules accept each line after the earlier lines.
+-- Defines when the values that an audit read for a meter are those of a history of the meter that
+-- the rules accept.
 use Rattle.std.specs.Prelude.{◌≡◌, ℕ, Bool, true, nat_lt, nat_le, ◌&&◌, List, [], ◌∷◌, reverse, length}
 use Rattle.energy_core.specs.declared.entries.Last.{Last}
 use Rattle.interval_core.specs.declared.shares.Share.{Share}
@@ -13,8 +13,8 @@ use Rattle.meter_journal.specs.Audit.Passing.{MayBeChecked}
 use Rattle.store_tables.specs.declared.meters.rows.LastRow.{LastRow}
 use Rattle.store_tables.specs.declared.meters.rows.InstallationRow.{InstallationRow}
 
--- `meter` has the counter range `range` and the power limit `ceiling`, and its opening entry is
--- `row`.
+-- States that `meter` has the counter range `range` and the power limit `ceiling`, and that `row`
+-- is its first entry.
 pub record IsOpenedBy (range ceiling : ℕ) (row : TableRow) (meter : Installed) : Type 0 where
   pub range_is : meter.range ≡ range
   pub ceiling_is : meter.ceiling ≡ ceiling
@@ -24,15 +24,15 @@ pub record IsOpenedBy (range ceiling : ℕ) (row : TableRow) (meter : Installed)
 abbrev pub last_shown : TableRow → Last
 last_shown row = record { at = row.moment; raw = row.raw; sf = row.sf }
 
--- Whether the indices in a list are strictly increasing, greater than `after`, and at most `most`.
--- The indices of a meter's voided entries must be so ordered.
+-- True if the indices in a list are strictly increasing, greater than `after`, and at most `most`.
+-- The indices of a meter's voided (cancelled) entries must have this order.
 abbrev pub rises : (after most : ℕ) → List ℕ → Bool
 rises after most [] = true
 rises after most (place ∷ places) =
     nat_lt after place && nat_le place most && rises place most places
 
--- The timestamp, raw counter value and scale factor in the last-entry columns of an `installations`
--- row.
+-- The timestamp, raw counter value and scale factor of a meter's last entry, from the columns of
+-- its `installations` row.
 abbrev pub last_in : LastRow → Last
 last_in last = record { at = last.moment; raw = last.raw; sf = last.sf }
 
@@ -47,9 +47,8 @@ tables_from entries shares row = record {
   ended = row.is_ended;
 }
 
--- The values read for a meter follow from a lawful journal, a history that the rules accept. The
--- journal begins with the meter's opening (first entry). Each void record names an entry after the
--- opening, and no entry has two void records.
+-- States that the values read for a meter follow from a history that the rules accept. Each void
+-- record (cancellation) names an entry after the first one, and no entry has two void records.
 pub record IsLawful (range : ℕ) (row : InstallationRow) (voids : List ℕ)
     (entries : List TableRow) (shares : List Share) : Type 0 where
   pub opening : TableRow
@@ -61,15 +60,15 @@ pub record IsLawful (range : ℕ) (row : InstallationRow) (voids : List ℕ)
   pub fine : AreFine meter (tables_from entries shares row)
   pub named : rises 1 (length entries) voids ≡ true
 
--- The last entry, total energy and closed flag in the `installations` row equal those that checking
--- all entries gives.
+-- States that the last entry, total energy and closed flag in the `installations` row equal those
+-- that checking all entries gives.
 pub record StandsThere (row : InstallationRow) (check : Check) : Type 0 where
   pub last : last_in row.last ≡ check.last
   pub total : row.last.total ≡ check.total
   pub ended : row.is_ended ≡ check.is_ended
 
--- The void records, interval rows and `installations` row of a meter agree with the result of
--- checking all its entries.
+-- States that the void records (cancellations), interval rows and `installations` row of a meter
+-- agree with the result of checking all its entries.
 pub record RestAgrees (progress : Progress) (row : InstallationRow) (voids : List ℕ) (last : ℕ)
     (shares : List Share) : Type 0 where
   pub named : rises 1 last voids ≡ true

@@ -13,7 +13,7 @@ use Rattle.store_tables.specs.Content.{Content, AreApart, AreTables, HasTree, is
 use Rattle.store_tables.specs.Failing.{IsFault, StateAfterCall}
 
 -- True if the store's tables have the rows of `content`, and no rowid occurs twice in a table. The
--- schema of the database may be any.
+-- definition holds for any schema of the database.
 pub record AreRows (db : Database) (content : Content) : Type 0 where
   pub rows : (t : ℕ) → HasTree books_schema.tables t
       → IsPermutation (map (reported (is_numbered t)) (db.trees t)) (content t)
@@ -24,22 +24,22 @@ abbrev pub itself : Row → Row
 itself row = row
 
 module _ {S : Type 0} (g : Ghosts S) where
-  -- If the connection is open and the disk returned what was written to it, then the committed
-  -- tables have the content `content`.
+  -- States that the committed tables have the content `content`, if the connection is open and
+  -- reads of the disk return what was written.
   unfoldable pub HoldsTables : Held S → Content → Type 0
   HoldsTables h content =
       HasCleanDisk (state g h) → IsTrue (state g h).is_open
       → AreTables (state g h).committed content
 
-  -- If the connection is open and the disk returned what was written to it, then the committed
-  -- tables have the rows of `content`. Nothing is assumed of the schema.
+  -- States that the committed tables have the rows of `content`, if the connection is open and
+  -- reads of the disk return what was written. Nothing is assumed of the schema.
   unfoldable pub HoldsRows : Held S → Content → Type 0
   HoldsRows h content =
       HasCleanDisk (state g h) → IsTrue (state g h).is_open
       → AreRows (state g h).committed content
 
-  -- A query outside a transaction. It commits nothing, and a crash after it leaves the same data as
-  -- a crash before it.
+  -- The contract of a query outside a transaction. The query commits nothing, and a crash after the
+  -- query leaves the same data as a crash before it.
   pub record OnlyLooks (old new : Held S) : Type 0 where
     pub clean : HasCleanDisk (state g new) → HasCleanDisk (state g old)
     pub mode : old.in_transaction ≡ false → new.in_transaction ≡ false

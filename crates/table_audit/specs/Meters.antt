@@ -1,4 +1,4 @@
--- Defines when the rows of all meters are fine, and which differences an audit reports.
+-- Defines when the rows of all meters have no difference, and which differences an audit reports.
 use Rattle.std.specs.Prelude.{⊤, ◌≡◌, ◌↔◌, ◌+◌, ℕ, suc, min, ◌^◌, ◌-◌, List, [], ◌∷◌, map, length, Option, Some, None, Ok, IsUtf8}
 use Rattle.std.specs.List.{AllByRecursion}
 use Rattle.sqlite.specs.declared.types.Value.TheVariants.{Text}
@@ -12,10 +12,8 @@ use Rattle.table_audit.specs.declared.rows.MeterRows.{MeterRows}
 use Rattle.table_audit.specs.Fine.{IsFine}
 use Rattle.table_audit.specs.Showing.{AreRowsOf, ShowsInstallations}
 
--- ---- rows of meters without a difference
-
--- A row of `installations` has the index `place` and values in their ranges, and the meter's other
--- rows have no difference.
+-- States that a row of `installations` has the index `place` and values in their ranges, and that
+-- the meter's other rows have no difference.
 pub record IsFineMeter (place : ℕ) (row : Row) (rows : MeterRows) : Type 0 where
   pub installation : InstallationRow
   pub read : installation_in row ≡ Ok installation
@@ -31,31 +29,31 @@ pub record LookedAt : Type 0 where
 abbrev pub row_of : LookedAt → Row
 row_of looked = looked.row
 
--- The tables have exactly the rows `rows` for the meter that `row` names. If `rows` is None, then
--- `row` names no meter.
+-- States that the tables have exactly the rows `rows` for the meter that `row` names. If `rows` is
+-- None, then `row` names no meter.
 abbrev pub AreTheirs : Content → Row → Option MeterRows → Type 0
 AreTheirs content row None = (name : List ℕ) → IsUtf8 name → column row 1 ≡ Text name → ⊥
 AreTheirs content row (Some rows) =
     (name : List ℕ) × (column row 1 ≡ Text name) × AreRowsOf name content rows
 
--- An audited row of `installations` is paired with its meter's rows in the tables.
+-- States that an audited row of `installations` is paired with its meter's rows in the tables.
 abbrev pub IsLookedUp : Content → LookedAt → Type 0
 IsLookedUp content looked = AreTheirs content looked.row looked.rows
 
--- The row of `installations` has the index `place` and names a meter, and that meter's rows are
--- fine.
+-- States that a row of `installations` has the index `place` and names a meter whose rows have no
+-- difference.
 abbrev pub IsFineAt : (place : ℕ) → Row → Option MeterRows → Type 0
 IsFineAt place row None = ⊥
 IsFineAt place row (Some rows) = IsFineMeter place row rows
 
--- Each row of `installations` names a meter whose rows are fine, and the row indices count up from
--- `place`. The SQL schema excludes two rows of one meter.
+-- States that each row of `installations` names a meter whose rows have no difference, and that the
+-- row indices count up from `place`. The SQL schema excludes two rows of one meter.
 abbrev pub AreFineFrom : (place : ℕ) → List LookedAt → Type 0
 AreFineFrom place [] = ⊤
 AreFineFrom place (looked ∷ others) =
     IsFineAt place looked.row looked.rows × AreFineFrom (suc place) others
 
--- ---- the counts of rows that an audit read, up to 2^64 - 1
+-- Definitions on the counts of rows that an audit read, up to 2^64 - 1.
 
 -- The count `n`, limited to 2^64 - 1, the greatest 64-bit number.
 abbrev pub up_to_most : ℕ → ℕ
@@ -90,18 +88,16 @@ abbrev pub counted_from : Counts → List LookedAt → Counts
 counted_from counts [] = counts
 counted_from counts (looked ∷ others) = counted_from (counted looked.rows counts) others
 
--- ---- the findings of an audit of meters
-
--- The audit of one row of `installations` counts the meter's rows. No finding exists after it if
--- and only if none existed before and the rows are fine.
+-- States that the audit of one row of `installations` counts the meter's rows. No finding exists
+-- after it if and only if none existed before and the rows have no difference.
 pub record ReportsRow (content : Content) (place : ℕ) (row : Row) (old new : Findings) : Type 0 where
   pub rows : Option MeterRows
   pub theirs : AreTheirs content row rows
   pub reported : (new.first.items ≡ []) ↔ ((old.first.items ≡ []) × IsFineAt place row rows)
   pub counts : new.counts ≡ counted rows old.counts
 
--- The audit of several rows of `installations` finds no difference if and only if the rows of all
--- their meters are fine.
+-- States that the audit of several rows of `installations` finds no difference if and only if the
+-- rows of all their meters have none.
 pub record ReportsRows (rows : List Row) (content : Content) (found : Findings) : Type 0 where
   pub looked : List LookedAt
   pub each : map row_of looked ≡ rows

@@ -11,12 +11,12 @@ use Rattle.table_audit.specs.Meters.{up_to_most}
 abbrev pub difference_of : Finding → Difference
 difference_of finding = finding.difference
 
--- The finding has the meter name `meter`, given as bytes.
+-- States that the finding has the meter name `meter`, given as bytes.
 abbrev pub IsUnder : (meter : List ℕ) → Finding → Type 0
 IsUnder meter finding = (name : _) × (finding.meter ≡ Some name) × (string_bytes name ≡ meter)
 
--- The differences of a meter are added to the findings, with the meter's name. At most `MOST`
--- findings are stored.
+-- States that the differences of a meter are added to an audit's findings, with the meter's name.
+-- At most `MOST` findings are stored.
 pub record KeepsFirst (meter : List ℕ) (differences : List Difference) (old new : Findings) :
     Type 0 where
   pub added : List Finding
@@ -24,12 +24,12 @@ pub record KeepsFirst (meter : List ℕ) (differences : List Difference) (old ne
   pub named : AllByRecursion (IsUnder meter) added
   pub kept : new.first.items ≡ take MOST (old.first.items ++ added)
 
--- Builds a finding without a meter's name from a difference.
+-- Builds a finding of an audit without a meter's name from a difference.
 abbrev pub of_none : Difference → Finding
 of_none difference = record { meter = None; difference = difference }
 
--- Differences that belong to no meter are added to the findings. At most `MOST` findings are
--- stored, and further findings are only counted.
+-- States that differences that belong to no meter are added to an audit's findings. At most `MOST`
+-- findings are stored, and further findings are only counted.
 pub record IsReported (differences : List Difference) (old new : Findings) : Type 0 where
   pub kept : new.first.items ≡ take MOST (old.first.items ++ map of_none differences)
   pub more : new.more

@@ -27,18 +27,16 @@ first_number run = run * RUN + 1
 abbrev pub last_number : (run last : ℕ) → ℕ
 last_number run last = min last ((run + 1) * RUN)
 
--- The concatenated results of `differs` for all rows, in order.
+-- Concatenates the lists that the function `differs` returns for all rows, in order.
 abbrev pub each_of : (Row → List Difference) → List Row → List Difference
 each_of differs [] = []
 each_of differs (row ∷ rows) = differs row ++ each_of differs rows
-
--- ---- rows of polls and outcomes with values out of range
 
 -- The poll number in the first column of a row, or None if the number is out of range.
 abbrev pub number_in : Row → Option ℕ
 number_in row = whole_in 1 greatest_place (column row 0)
 
--- If a row can't be read, the difference with the cause `fault`. It has the row's poll number, or 0
+-- The difference with the cause `fault`, if a row can't be read. It has the row's poll number, or 0
 -- if the number is out of range.
 abbrev pub unread : {X : Type 0} → PollFault → Row → Result X RowFault → List Difference
 unread fault row (Ok read) = []
@@ -52,8 +50,6 @@ unread_poll row = unread OutOfRange row (poll_in row)
 abbrev pub unread_outcome : Row → List Difference
 unread_outcome row = unread EndOutOfRange row (outcome_in row)
 
--- ---- missing and disordered poll numbers
-
 -- The poll number of a `polls` row. It exists if the row was read, or if only another column could
 -- not be read.
 abbrev pub number_by : Row → Result PollRow RowFault → Option ℕ
@@ -64,12 +60,12 @@ number_by row (Err why) = number_in row
 abbrev pub number_of : Row → Option ℕ
 number_of row = number_by row (poll_in row)
 
--- The difference that no poll has a number from `next` to `below` - 1. The list is empty if there
--- is no such number.
+-- The difference that no poll has a number from `next` to `below` - 1. The list is empty if this
+-- range is empty.
 abbrev pub gap : (next below : ℕ) → List Difference
 gap next below = if nat_lt next below then NoPolls next (below - 1) ∷ [] else []
 
--- Whether the poll number `number` is from `next` to `last`.
+-- True if the poll number `number` is from `next` to `last`.
 abbrev pub rises : (next last number : ℕ) → Bool
 rises next last number = nat_le next number && nat_le number last
 
@@ -79,8 +75,8 @@ abbrev pub reported_at : (next last number : ℕ) → List Difference
 reported_at next last number =
     if rises next last number then gap next number else Poll number OutOfOrder ∷ []
 
--- The poll number that is expected after `number`. If `number` is out of order, the expected number
--- stays `next`.
+-- The poll number that is expected after `number`, if `next` was expected. If `number` is out of
+-- order, `next` is still expected.
 abbrev pub next_after : (next last number : ℕ) → ℕ
 next_after next last number = if rises next last number then number + 1 else next
 
@@ -104,9 +100,7 @@ order_of next last (row ∷ rows) =
     reported_by next last (number_of row)
     ++ order_of (after_by next last (number_of row)) last rows
 
--- ---- outcomes that are earlier than their polls
-
--- Whether an outcome belongs to the poll in a row, and the poll started no later than the outcome's
+-- True if an outcome belongs to the poll in a row, and the poll started no later than the outcome's
 -- timestamp. If the row can't be read, only the poll number is compared.
 abbrev pub began_by : OutcomeRow → Row → Result PollRow RowFault → Bool
 began_by outcome row (Ok poll) =
@@ -114,7 +108,7 @@ began_by outcome row (Ok poll) =
 began_by outcome row (Err why) =
     option_map_or (λ number. number == outcome.poll) (number_in row) false
 
--- Whether an outcome belongs to the poll in the `polls` row, and the poll started no later than the
+-- True if an outcome belongs to the poll in the `polls` row, and the poll started no later than the
 -- outcome's timestamp.
 abbrev pub began : OutcomeRow → Row → Bool
 began outcome row = began_by outcome row (poll_in row)
@@ -128,8 +122,6 @@ early_by polls (Err why) = []
 -- list is empty if the outcome is in order.
 abbrev pub early : (polls : List Row) → Row → List Difference
 early polls row = early_by polls (outcome_in row)
-
--- ---- all differences in a run of polls
 
 -- The differences of all rows with values out of range, in one run of poll numbers.
 abbrev pub values_of : RunRows → List Difference

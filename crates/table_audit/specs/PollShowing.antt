@@ -23,8 +23,6 @@ polls_tree = 11
 abbrev pub outcomes_tree : ℕ
 outcomes_tree = 13
 
--- ---- the poll numbers in a run of polls
-
 -- The least 64-bit integer, which is the least integer in SQLite.
 abbrev pub least_number : ℤ
 least_number = negsuc 9223372036854775807
@@ -38,27 +36,26 @@ low_of run = if run == 0 then least_number else pos (run * RUN + 1)
 abbrev pub high_of : (run : ℕ) → ℤ
 high_of run = pos ((run + 1) * RUN)
 
--- Whether a value is at least `low`, as SQL compares values.
+-- True if a value is at least `low`, as SQL compares values.
 abbrev pub is_from : (low : ℤ) → Value → Bool
 is_from low v = is_true (binary (Compare Ge Binary) v (Int low))
 
--- Whether a value is at most `high`, as SQL compares values.
+-- True if a value is at most `high`, as SQL compares values.
 abbrev pub is_up_to : (high : ℤ) → Value → Bool
 is_up_to high v = is_true (binary (Compare Le Binary) v (Int high))
 
--- Whether the value in the row's first column is from `low` to `high`, as SQL compares values.
+-- True if the value in the row's first column is from `low` to `high`, as SQL compares values.
 abbrev pub is_between : (low high : ℤ) → Row → Bool
 is_between low high row = is_from low (column row 0) && is_up_to high (column row 0)
 
--- Whether the poll number in the row's first column belongs to the run at index `run`.
+-- True if the poll number in the row's first column belongs to the run (consecutive poll numbers)
+-- at index `run`.
 abbrev pub is_in_run : (run : ℕ) → Row → Bool
 is_in_run run row = is_between (low_of run) (high_of run) row
 
 -- The descending order of rows by their first column, as SQL compares values.
 abbrev pub FromLast : Row → Row → Type 0
 FromLast row later = is_gt (value_cmp (column later 0) (column row 0)) ≡ false
-
--- ---- the columns of result rows for polls and outcomes
 
 abbrev pub number_shown : Row → Row
 number_shown row = column row 0 ∷ []
@@ -74,21 +71,23 @@ poll_shown row =
 abbrev pub outcome_shown : Row → Row
 outcome_shown row = column row 0 ∷ column row 2 ∷ column row 3 ∷ column row 4 ∷ []
 
--- The query returns the greatest poll number in the tables, or no row if there is no poll.
+-- True if a query returns the greatest poll number in the tables, or no row if there is no poll.
 abbrev pub ShowsLast : Content → List Row → Type 0
 ShowsLast content rows = ShowsFirst every FromLast number_shown (content polls_tree) rows
 
--- The query returns a run of polls, in ascending order of their numbers.
+-- True if a query returns the polls of a run (consecutive poll numbers), in ascending order of
+-- their numbers.
 abbrev pub ShowsPolls : (run : ℕ) → Content → List Row → Type 0
 ShowsPolls run content rows =
     Shows (is_in_run run) InPlace poll_shown (content polls_tree) rows
 
--- The query returns the outcomes of a run of polls, in ascending order of poll numbers.
+-- True if a query returns the outcomes of the polls in a run (consecutive poll numbers), in
+-- ascending order of poll numbers.
 abbrev pub ShowsOutcomes : (run : ℕ) → Content → List Row → Type 0
 ShowsOutcomes run content rows =
     Shows (is_in_run run) InPlace outcome_shown (content outcomes_tree) rows
 
--- `rows` are all rows of `polls` and `outcomes` in the tables with poll numbers of the run.
+-- True if `rows` are all rows of `polls` and `outcomes` in the tables with poll numbers of the run.
 pub record AreRowsOfRun (run : ℕ) (content : Content) (rows : RunRows) : Type 0 where
   pub polls : ShowsPolls run content rows.polls.items
   pub outcomes : ShowsOutcomes run content rows.outcomes.items

@@ -1,4 +1,5 @@
--- Defines when the polls in the tables are fine, and which differences of polls an audit reports.
+-- Defines when the polls in the tables have no difference, and which differences of polls an audit
+-- reports.
 use Rattle.std.specs.Prelude.{⊤, ◌≡◌, ◌≤◌, ◌↔◌, ◌⊎◌, ◌+◌, ◌*◌, ◌==◌, ℕ, suc, Bool, true, false, nat_lt, nat_le, ◌&&◌, List, [], ◌∷◌, length, Option, Ok, Result, MatchResult, unwrap_or}
 use Rattle.std.specs.List.{list_all, list_any}
 use Rattle.sqlite.specs.Order.{Row}
@@ -20,25 +21,23 @@ use Rattle.table_audit.specs.declared.poll_rows.PollRow.{PollRow}
 use Rattle.table_audit.specs.declared.poll_rows.RunRows.{RunRows}
 use Rattle.table_audit.specs.declared.poll_rows.TheConstants.{RUN}
 
--- ---- polls without a difference
-
--- The polls have exactly the numbers from `next` to `last`, in ascending order.
+-- True if a list of polls has exactly the numbers from `next` to `last`, in ascending order.
 abbrev pub are_numbered : (next last : ℕ) → List PollRow → Bool
 are_numbered next last [] = nat_lt last next
 are_numbered next last (poll ∷ polls) =
     (poll.number == next) && nat_le next last && are_numbered (next + 1) last polls
 
--- Whether an outcome belongs to a poll, and the poll started no later than the outcome's timestamp.
+-- True if an outcome belongs to a poll, and the poll started no later than the outcome's timestamp.
 abbrev pub is_begun : OutcomeRow → PollRow → Bool
 is_begun outcome poll = (poll.number == outcome.poll) && nat_le poll.started outcome.moment
 
--- Whether an outcome belongs to one of the polls, and this poll started no later than the outcome's
--- timestamp.
+-- True if an outcome belongs to one of the polls in a list, and this poll started no later than the
+-- outcome's timestamp.
 abbrev pub has_begun : List PollRow → OutcomeRow → Bool
 has_begun polls outcome = list_any (is_begun outcome) polls
 
--- The rows of a run of polls are fine. All values are in range, no poll number is missing, and no
--- poll ended before its start.
+-- States that the rows of a run of polls have no difference: all values are in range, no poll
+-- number is missing, and no poll ended before its start.
 pub record IsFineRun (run last : ℕ) (rows : RunRows) : Type 0 where
   pub polls : List PollRow
   pub outcomes : List OutcomeRow
@@ -47,28 +46,27 @@ pub record IsFineRun (run last : ℕ) (rows : RunRows) : Type 0 where
   pub numbered : are_numbered (first_number run) (last_number run last) polls ≡ true
   pub begun : list_all (has_begun polls) outcomes ≡ true
 
--- The list has the rows of consecutive runs of polls in the tables, beginning with the run at index
--- `run`.
+-- True if a list has the rows of consecutive runs of polls in the tables, beginning with the run at
+-- index `run`.
 abbrev pub AreRuns : Content → (run : ℕ) → List RunRows → Type 0
 AreRuns content run [] = ⊤
 AreRuns content run (rows ∷ others) =
     AreRowsOfRun run content rows × AreRuns content (suc run) others
 
--- The rows of consecutive runs of polls are fine, beginning with the run at index `run`.
+-- True if the rows of consecutive runs of polls have no difference, beginning with the run at index
+-- `run`.
 abbrev pub AreFineRuns : (run last : ℕ) → List RunRows → Type 0
 AreFineRuns run last [] = ⊤
 AreFineRuns run last (rows ∷ others) = IsFineRun run last rows × AreFineRuns (suc run) last others
 
--- ---- the findings of an audit of polls
-
--- The audit may end after a run of polls with these rows, because the run has no poll, and `MOST`
+-- True if the audit may end after a run of polls with these rows: the run has no poll, and `MOST`
 -- differences are already stored. This bounds the time for a damaged file with a very large poll
 -- number.
 abbrev pub Stops : RunRows → Findings → Type 0
 Stops rows found = (rows.polls.items ≡ []) × (MOST ≤ length found.first.items)
 
--- The audit of one run of polls reports the run's differences. If `goes_on` is false, the audit
--- ends, because this run has no poll and `MOST` differences are already stored.
+-- States that the audit of one run of polls reports the run's differences. If `goes_on` is false,
+-- the audit ends, because this run has no poll and `MOST` differences are already stored.
 pub record ReportsRun (run last : ℕ) (old new : Findings) (content : Content) (goes_on : Bool) :
     Type 0 where
   pub rows : RunRows
@@ -76,15 +74,16 @@ pub record ReportsRun (run last : ℕ) (old new : Findings) (content : Content) 
   pub reported : IsReported (differences_of_run run last rows) old new
   pub stops : goes_on ≡ false → Stops rows new
 
--- The audit may end after the last run of polls in the list, because this run has no poll and
+-- True if the audit may end after the last run of polls in the list: the run has no poll, and
 -- `MOST` differences are already stored.
 abbrev pub StopsAfter : List RunRows → Findings → Type 0
 StopsAfter [] found = ⊥
 StopsAfter (rows ∷ []) found = Stops rows found
 StopsAfter (rows ∷ next ∷ others) found = StopsAfter (next ∷ others) found
 
--- The audit of all polls, in runs of `RUN` consecutive numbers. It finds no difference if and only
--- if all runs are fine. It may end after a run without polls once `MOST` differences are stored.
+-- The contract of the audit of all polls, in runs of `RUN` consecutive numbers. The audit finds no
+-- difference if and only if no run has one. It may end after a run without polls once `MOST`
+-- differences are stored.
 pub record ReportsRuns (last : ℕ) (old new : Findings) (content : Content) : Type 0 where
   pub runs : List RunRows
   pub theirs : AreRuns content 0 runs
@@ -101,22 +100,22 @@ with_polls polls counts = record counts { polls = polls }
 abbrev pub counting_polls : ℕ → Findings → Findings
 counting_polls polls found = record found { counts = with_polls polls found.counts }
 
--- The audit of all polls up to the greatest poll number that a query found, or 0 without polls. If
--- the greatest number is out of range, this is reported as a difference.
+-- The contract of the audit of all polls up to the greatest poll number that a query found, or 0
+-- without polls. If the greatest number is out of range, the audit reports a difference.
 abbrev pub ReportsUpTo : Result (Option ℕ) RowFault → (old new : Findings) → Content → Type 0
 ReportsUpTo found old new content =
     MatchResult found
     (λ last. ReportsRuns (unwrap_or last 0) (counting_polls (unwrap_or last 0) old) new content)
     (λ _. new.first.items ≡ [] → ⊥)
 
--- The audit of all polls in the tables, up to the greatest poll number. The SQL schema excludes an
--- outcome without a poll.
+-- The contract of the audit of all polls in the tables, up to the greatest poll number. The SQL
+-- schema excludes an outcome without a poll.
 pub record ReportsPolls (old new : Findings) (content : Content) : Type 0 where
   pub rows : List Row
   pub shown : ShowsLast content rows
   pub reports : ReportsUpTo (first_in 1 greatest_place rows) old new content
 
--- The audit of all tables of a file: first the meters, then the polls.
+-- The contract of the audit of all tables of a file: first the meters, then the polls.
 pub record ReportsTables (content : Content) (found : Findings) : Type 0 where
   pub meters : Findings
   pub reported : ReportsMeters content meters

@@ -25,17 +25,17 @@ kind_of n =
     if n == 5 then Some Reset else
     if n == 6 then Some Rescale else None
 
--- Parses the kind of a meter entry from the value of a column. The result is None if no kind has
--- this value.
+-- Parses the kind of a meter entry from the value of a column. Returns None if no kind has this
+-- value.
 abbrev pub kind_in : Value → Option RowKind
 kind_in v = option_and_then kind_of (whole_in 1 6 v)
 
--- Whether `voids`, the indices of voided entries, contains the index `place`.
+-- True if `voids`, the indices of voided (cancelled) entries, contains the index `place`.
 abbrev pub is_named : (voids : List ℕ) → (place : ℕ) → Bool
 is_named voids place = list_any (λ v. v == place) voids
 
 -- Parses a meter entry from a result row. If `voids` contains the entry's index, the entry is
--- voided. If a column is out of its range, the result is the fault for damage.
+-- marked as voided (cancelled). If a column is out of its range, the result is an error for damage.
 abbrev pub entry_in : (voids : List ℕ) → Row → Result TableRow RowFault
 entry_in voids row =
     and_then (or_damaged (whole_in 1 greatest_place (column row 0))) (λ place.
@@ -56,13 +56,13 @@ entry_in voids row =
       is_voided = is_named voids place;
     }))))))))
 
--- Parses the index of a voided entry from a result row. If the index is out of its range, the
--- result is the fault for damage.
+-- Parses the index of a voided (cancelled) entry from a result row. If the index is out of its
+-- range, the result is an error for damage.
 abbrev pub place_in : Row → Result ℕ RowFault
 place_in row = or_damaged (whole_in 1 greatest_place (column row 0))
 
 -- Parses the start and the energy of a quarter hour from a result row. If a column is out of its
--- range, the result is the fault for damage.
+-- range, the result is an error for damage.
 abbrev pub share_in : Row → Result Share RowFault
 share_in row =
     and_then (or_damaged (whole_in 0 latest_moment (column row 0))) (λ start.
@@ -70,25 +70,26 @@ share_in row =
     Ok (record { start = start; mwh = mwh })))
 
 -- Parses a counter's range from a result row. If the store does not allow the range, the result is
--- the fault for damage.
+-- an error for damage.
 abbrev pub range_in : Row → Result ℕ RowFault
 range_in row = or_damaged (whole_in MIN_RANGE MAX_RANGE (column row 0))
 
--- Parses all rows with `read`. If `read` fails for a row, the result is the error of `read`.
+-- Parses all rows of a list with `read`. If `read` fails for a row, the result is the error of
+-- `read`.
 abbrev pub all_in : {X : Type 0} → (Row → Result X RowFault) → List Row
     → Result (List X) RowFault
 all_in read [] = Ok []
 all_in read (row ∷ rows) =
     and_then (read row) (λ x. and_then (all_in read rows) (λ xs. Ok (x ∷ xs)))
 
--- The result has the values that `read` returns for all rows, or is None because `read` fails for
--- one of the rows.
+-- States that a result has the values that `read` returns for all rows, or is None because `read`
+-- fails for one of the rows.
 abbrev pub AreRead : {X Z : Type 0} → (Row → Result X RowFault) → List Row → Option (Vec X Z)
     → Type 0
 AreRead {X} read rows None = (xs : List X) → all_in read rows ≡ Ok xs → ⊥
 AreRead read rows (Some found) = all_in read rows ≡ Ok found.items
 
--- The result is the UTF-8 text of a column, or None because the column has no UTF-8 text.
+-- States that a result is the UTF-8 text of a column, or None because the column has no UTF-8 text.
 abbrev pub IsTextIn : {Z : Type 0} → Value → Option (String Z) → Type 0
 IsTextIn v None = (text : List ℕ) → IsUtf8 text → v ≡ Text text → ⊥
 IsTextIn v (Some text) = v ≡ Text (string_bytes text)

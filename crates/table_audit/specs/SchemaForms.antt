@@ -1,4 +1,5 @@
--- The tables and indexes that the short forms of the program describe.
+-- Builds the definitions of tables and indexes from the short forms in which the program lists its
+-- schema.
 use Rattle.std.specs.Prelude.{ℕ, true, false, List, [], map}
 use Rattle.std.specs.Borrow.{Bor}
 use Rattle.sqlite.specs.Table.{Table}
@@ -13,20 +14,20 @@ use Rattle.table_audit.specs.declared.schema.forms.KeyForm.{KeyForm}
 use Rattle.table_audit.specs.declared.schema.forms.TableForm.{TableForm}
 use Rattle.table_audit.specs.declared.schema.forms.IndexForm.{IndexForm}
 
--- The column of a form: NOT NULL in a STRICT table, without a default.
+-- The column that a short form of a table describes: NOT NULL in a STRICT table, without a default.
 abbrev pub column_of : Bor (List ℕ) × Kind → Column
 column_of form = strict form.0.now form.1
 
--- The foreign key of a form.
+-- The foreign key that a short form of a table describes.
 abbrev pub reference_of : KeyForm → Reference
 reference_of form =
     refers form.columns.now form.parent.now (map (λ text. text.now) form.parent_columns.now)
 
--- No default of a column is the time.
+-- The list of columns whose default is the current time, which is empty.
 abbrev pub no_stamps : Stamps
 no_stamps = record { places = []; terms = []; formats = [] }
 
--- The table of a form: a STRICT table of NOT NULL columns.
+-- The table that a short form describes: a STRICT table of NOT NULL columns.
 abbrev pub table_of : TableForm → Table
 table_of form = record {
   name = form.name.now;
@@ -43,7 +44,7 @@ table_of form = record {
   is_counted = false;
 }
 
--- The index of a form, which SQLite makes for a UNIQUE or a PRIMARY KEY.
+-- The index that a short form describes, which SQLite makes for a UNIQUE or a PRIMARY KEY.
 abbrev pub index_of : IndexForm → Index
 index_of form = record {
   name = form.name.now;

@@ -15,7 +15,7 @@ use Rattle.table_audit.specs.declared.rows.MeterRows.{MeterRows}
 abbrev pub intervals_tree : ℕ
 intervals_tree = 14
 
--- Whether an SQL value is the text with the bytes `name`.
+-- True if an SQL value is the text with the bytes `name`.
 abbrev pub is_text : List ℕ → Value → Bool
 is_text name (Text t) = bytes_eq t name
 is_text name Null = false
@@ -23,7 +23,7 @@ is_text name (Int n) = false
 is_text name (Real x) = false
 is_text name (Blob b) = false
 
--- Whether the first column of the row has the meter's name.
+-- True if the first column of a table row has the meter's name.
 abbrev pub is_of : (meter : List ℕ) → Row → Bool
 is_of meter row = is_text meter (column row 0)
 
@@ -53,7 +53,7 @@ entry_shown row =
     column row 1 ∷ column row 2 ∷ column row 3 ∷ column row 4 ∷ column row 5 ∷ column row 6
     ∷ column row 7 ∷ []
 
--- The result row of a query for a void record: the index of the voided entry.
+-- The result row of a query for a void record (a cancellation): the index of the voided entry.
 abbrev pub void_shown : Row → Row
 void_shown row = column row 1 ∷ []
 
@@ -61,33 +61,34 @@ void_shown row = column row 1 ∷ []
 abbrev pub share_shown : Row → Row
 share_shown row = column row 1 ∷ column row 2 ∷ []
 
--- The query returns all rows of `installations`, in order of index.
+-- True if a query returns all rows of `installations`, in order of index.
 abbrev pub ShowsInstallations : Content → List Row → Type 0
 ShowsInstallations content rows =
     Shows every InPlace installation_shown (content meter_tree.installations) rows
 
--- The query returns the range of a meter's counter.
+-- True if a query returns the range of a meter's counter.
 abbrev pub ShowsRange : (meter : List ℕ) → Content → List Row → Type 0
 ShowsRange meter content rows =
     Shows (is_of meter) AnyOrder range_shown (content meter_tree.ranges) rows
 
--- The query returns all entries of a meter, in order of index.
+-- True if a query returns all entries of a meter, in order of index.
 abbrev pub ShowsEntries : (meter : List ℕ) → Content → List Row → Type 0
 ShowsEntries meter content rows =
     Shows (is_of meter) InOrder entry_shown (content entry_tree.entries) rows
 
--- The query returns the void records of a meter, in order of the voided entries' indices.
+-- True if a query returns the void records (cancellations) of a meter, in order of the voided
+-- entries' indices.
 abbrev pub ShowsVoids : (meter : List ℕ) → Content → List Row → Type 0
 ShowsVoids meter content rows =
     Shows (is_of meter) InOrder void_shown (content entry_tree.voids) rows
 
--- The query returns the interval rows (energies of quarter hours) of a meter, in order of their
--- starts.
+-- True if a query returns the interval rows (energies of quarter hours) of a meter, in order of
+-- their starts.
 abbrev pub ShowsIntervals : (meter : List ℕ) → Content → List Row → Type 0
 ShowsIntervals meter content rows =
     Shows (is_of meter) InOrder share_shown (content intervals_tree) rows
 
--- `rows` are all rows in the tables for the meter with this name.
+-- True if `rows` are all rows in the tables for the meter with this name.
 pub record AreRowsOf (meter : List ℕ) (content : Content) (rows : MeterRows) : Type 0 where
   pub ranges : ShowsRange meter content rows.ranges.items
   pub entries : ShowsEntries meter content rows.entries.items

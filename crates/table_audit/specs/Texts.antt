@@ -21,8 +21,6 @@ use Rattle.table_audit.specs.declared.findings.Finding.{Finding}
 use Rattle.table_audit.specs.declared.findings.Findings.{Findings}
 use Rattle.table_audit.specs.Meters.{up_to_most}
 
--- ---- the printed text of a difference
-
 -- The SQL name of a table that has rows of meters.
 abbrev pub table_name : Table → List ℕ
 table_name table.Installations = codes "installations"
@@ -113,9 +111,7 @@ with_difference text (difference.Ended wanted) = with_ended text wanted
 with_difference text (difference.NoPolls first last) = with_missing text first last
 with_difference text (difference.Poll poll of_it) = with_poll text poll of_it
 
--- ---- the printed lines of an audit
-
--- Appends the name of the finding's meter, if the finding has a name.
+-- Appends the name of a finding's meter, if the finding has a name.
 abbrev pub with_meter : {Z : Type 0} → List ℕ → Option (String Z) → List ℕ
 with_meter text None = text
 with_meter text (Some name) = text ++ codes "meter " ++ string_bytes name ++ codes " "
@@ -130,7 +126,8 @@ abbrev pub with_lines : List ℕ → List Finding → List ℕ
 with_lines text [] = text
 with_lines text (finding ∷ findings) = with_lines (with_line text finding) findings
 
--- Appends the number of differences beyond the printed ones, if it is not 0.
+-- Appends the number of differences beyond the printed ones to the text of an audit, if the number
+-- is not 0.
 abbrev pub with_more : List ℕ → ℕ → List ℕ
 with_more text more =
     if more == 0 then text else text ++ codes "and " ++ decimal more ++ codes " more\n"
@@ -146,7 +143,8 @@ with_counts text counts =
 abbrev pub with_total : List ℕ → ℕ → List ℕ
 with_total text all = text ++ decimal all ++ codes " differences\n"
 
--- Appends the last line of an audit: `fine` with the counts of rows, or the number of differences.
+-- Appends the last line of an audit: the word `fine` with the counts of rows, or the number of
+-- differences.
 abbrev pub with_end : List ℕ → Findings → List ℕ
 with_end text found =
     if length found.first.items == 0 then with_counts text found.counts

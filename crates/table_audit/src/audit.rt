@@ -1,4 +1,4 @@
-//! Audits the rows of one meter in a file's tables.
+//! Audits the rows that the tables of a file have for one meter.
 ghost use Rattle.std.specs.Prelude.{◌≡◌, ◌≤◌, ◌↔◌, false, length, IsTrue, IfOk, OnOk};
 ghost use Rattle.table_audit.specs.Looking.{Finds};
 ghost use Rattle.table_audit.specs.Fine.{IsFine, ReportsFine};
@@ -13,8 +13,8 @@ use sqlite::{Alter, Connection, Error, ErrorCode};
 use std::alloc::{AllocError, Global};
 use store_tables::{InstallationRow, RowFault};
 
-/// Returns whether a meter's rows follow from a lawful journal, a history of the meter that the
-/// rules accept. Adds each difference to `found`.
+/// Returns whether a meter's rows follow from a history that the rules accept. Adds each difference
+/// to `found`.
 pub fn audit_rows(
     alloc: Global,
     installation: &InstallationRow,
@@ -53,8 +53,8 @@ pub fn audit_rows(
     )
 }
 
-/// Queries a meter's rows, and returns whether they follow from a lawful journal, a history that
-/// the rules accept. Adds each difference to `found`. Memory holds all rows of the meter at once.
+/// Queries a meter's rows, and returns whether they follow from a history that the rules accept.
+/// Adds each difference to `found`. Memory holds all rows of the meter at once.
 pub fn audit_meter<S: Alter>(
     alloc: Global,
     conn: &mut Connection<S>,

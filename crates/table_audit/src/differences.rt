@@ -16,7 +16,7 @@ pub enum Table {
     Intervals,
 }
 
-/// How a poll in the tables differs from the polls that the program records.
+/// The ways in which a poll in the tables differs from the polls that the program records.
 #[derive(Clone, Copy)]
 pub enum PollFault {
     /// The row of the poll has a value out of its range.
@@ -30,23 +30,23 @@ pub enum PollFault {
     EndedBefore,
 }
 
-/// A difference that an audit reports. A meter's rows differ from those of a lawful journal (a
-/// history that the rules accept), or a poll differs from the polls that the program records.
+/// A difference that an audit reports. A meter's rows differ from those of a history that the rules
+/// accept, or a poll differs from the polls that the program records.
 #[derive(Clone, Copy)]
 pub enum Difference {
     /// A row of the meter in the given table has a value out of its range.
     OutOfRange(Table),
     /// The row of `installations` at the index `place` names no meter.
     Unnamed { place: u64 },
-    /// A row of `installations` has the index `has`, but `wanted` is the next index.
+    /// A row of `installations` has the index `has`, but `wanted` is the index that should follow.
     Installation { has: u64, wanted: u64 },
     /// The meter has no entry, or its first entry is not a valid opening, the entry that installs a
     /// meter.
     NotOpened,
     /// The rules for meter entries reject the entry at index `place`, given the earlier entries.
     Entry { place: u64, fault: RowFault },
-    /// A void record, which cancels a false reading, names no entry after the opening, or names an
-    /// entry that already has a void record.
+    /// A void record, which cancels a false reading, names no entry after the first one, or names
+    /// an entry that already has a void record.
     Void { place: u64 },
     /// The stored energy of a quarter hour differs from the energy that the meter's entries give.
     Interval(IntervalFault),
@@ -87,7 +87,8 @@ impl Differences {
         }
     }
 
-    /// Appends a difference, or only counts it if the list already has `MOST` differences.
+    /// Appends a difference to the list, or only counts it if the list already has `MOST`
+    /// differences.
     pub fn push(&mut self, difference: Difference) -> Result<(), AllocError>
         requires few { length self.old.first.items ≤ MOST }
         ensures reported { OnOk result (0 < length self.new.first.items) }

@@ -32,7 +32,7 @@ fn marks<S: Alter>(conn: &mut Connection<S>) -> Result<Vec<Row>, RowFault>
     Ok(rows)
 }
 
-// Returns true if the third column of a row is a text that is a time zone.
+// Returns true if the third column of a row of `meta` is a text that is a time zone.
 fn has_zone(row: &Row) -> bool
     ensures { IsTrue result ↔ HasZone row.now }
 {
@@ -45,14 +45,14 @@ fn has_zone(row: &Row) -> bool
     }
 }
 
-// Returns true if a row of the query has number 1, the present version, and a time zone.
+// Returns true if a row of `meta` has number 1, the present version of the file, and a time zone.
 fn is_mark(row: &Row) -> bool
     ensures { IsTrue result ↔ IsMark row.now }
 {
     whole(row, 0, 1, 1).is_ok() && whole(row, 1, 3, 3).is_ok() && has_zone(row)
 }
 
-// Returns true if the rows of the query are the one row of a file of the present version.
+// Returns true if the rows of `meta` are the one row of a file of the present version.
 fn are_marks(rows: &[Row]) -> bool
     ensures { IsTrue result ↔ AreMarks rows.now }
 {
@@ -63,7 +63,7 @@ fn are_marks(rows: &[Row]) -> bool
 }
 
 /// Returns true if the table `meta` has one row, with number 1, the program's present version and a
-/// time zone. Without this row, nothing says in which days the file's energy counts.
+/// time zone. The time zone determines the days to which the file's energy belongs.
 pub fn is_marked<S: Alter>(conn: &mut Connection<S>) -> Result<bool, RowFault>
     requires { conn.old.in_transaction ≡ false }
     ensures { Finds S.Store conn.old conn.new result ReportsMark }

@@ -64,7 +64,7 @@ impl Findings {
         self.first.is_empty()
     }
 
-    /// Appends a finding, or only counts it if the list already has `MOST` findings.
+    /// Appends a finding to the list, or only counts it if the list already has `MOST` findings.
     pub(crate) fn push(&mut self, finding: Finding) -> Result<(), AllocError>
         requires few { length self.old.first.items ≤ MOST }
         ensures kept { OnOk result (self.new.first.items
@@ -83,8 +83,8 @@ impl Findings {
         Ok(())
     }
 
-    /// Appends the differences of a meter as findings with its name, and adds the number of its
-    /// further differences.
+    /// Appends the differences of a meter as findings with the meter's name, and adds the number of
+    /// the meter's further differences.
     pub(crate) fn append_differences(
         &mut self,
         alloc: Global,
@@ -137,7 +137,7 @@ impl Findings {
         };
     }
 
-    /// Adds a row of `installations` that has no meter's name to the counts.
+    /// Counts a row of `installations` that has no meter's name as a meter without entries.
     pub(crate) fn count_unnamed(&mut self)
         ensures counts { self.new.counts ≡ counted None self.old.counts }
         ensures first { self.new.first ≡ self.old.first }

@@ -76,7 +76,8 @@ fn print_refused(
 }
 
 /// Returns the first index in `places` that is not greater than the previous index, or is not from
-/// 2 to `last`. A meter's void records must name such entries in ascending order.
+/// 2 to `last`. A meter's void records (cancellations) must name entries with these indices in
+/// ascending order.
 fn first_astray(last: u64, places: &[u64]) -> Option<u64>
     ensures { IsNone result ↔ (agreeing.rises 1 last places.now ≡ true) }
 {
@@ -90,8 +91,8 @@ fn first_astray(last: u64, places: &[u64]) -> Option<u64>
     None
 }
 
-/// Reports the first void record that names no entry after the opening, or names an entry twice. A
-/// void record cancels a false reading. Returns whether no such void record exists.
+/// Reports the first void record (the cancellation of a reading) that names no entry after the
+/// opening (the first entry), or names an entry twice. Returns whether no void record is wrong.
 fn append_voids(last: u64, voids: &[u64], found: &mut Differences) -> Result<bool, AllocError>
     requires few { length found.old.first.items ≤ MOST }
     ensures named { IfOk result (λ named. IsTrue named ↔ (agreeing.rises 1 last voids.now ≡ true)) }
@@ -228,8 +229,8 @@ fn report_state(
     Ok(last && total && ended)
 }
 
-/// Reports where a meter's void records, interval rows or `installations` row differ from the
-/// result of checking the meter's entries. Returns whether no difference exists.
+/// Reports where a meter's void records (cancellations), interval rows or `installations` row
+/// differ from the result of checking the meter's entries. Returns whether no difference exists.
 fn append_rest(
     progress: &Progress,
     row: &InstallationRow,
@@ -250,8 +251,8 @@ fn append_rest(
     Ok(named && same && stands)
 }
 
-/// Returns whether the values read for a meter follow from a lawful journal, a history of the meter
-/// that the rules accept. Adds each difference to `found`.
+/// Returns whether the values read for a meter follow from a history of the meter that the rules
+/// accept. Adds each difference to `found`.
 pub(crate) fn audit_read(
     alloc: Global,
     range: u64,

@@ -1,6 +1,6 @@
-//! Audits a file's tables. An audit checks that each meter has the rows of a lawful journal (a
-//! history that the rules accept), and that the polls are complete and in order. The tables may
-//! have been written by any program.
+//! Audits a file's tables. An audit checks that each meter has the rows of a history that the rules
+//! accept, and that the polls are complete and in order. The tables may have been written by any
+//! program.
 #![tactic(auto)]
 
 mod audit;

@@ -30,7 +30,7 @@ fn append_index(has: u64, wanted: u64, found: &mut Differences) -> Result<bool, 
 }
 
 /// Returns whether a row of `installations` has the index `place`, and the meter's other rows
-/// follow from a lawful journal (a history that the rules accept). Reports each difference.
+/// follow from a history that the rules accept. Reports each difference.
 fn audit_installation(
     alloc: Global,
     place: u64,
@@ -134,9 +134,9 @@ fn audit_rows_of<S: Alter>(
     Ok(findings)
 }
 
-/// Audits whether each meter in the tables has the rows of a lawful journal, a history that the
-/// rules accept. Returns the differences and the numbers of rows read. Memory holds all rows of
-/// `installations`, and the rows of one meter at a time.
+/// Audits whether each meter in the tables has the rows of a history that the rules accept. Returns
+/// the differences and the numbers of rows read. Memory holds all rows of `installations`, and the
+/// rows of one meter at a time.
 pub fn audit_meters<S: Alter>(alloc: Global, conn: &mut Connection<S>) -> Result<Findings, RowFault>
     requires mode { conn.old.in_transaction ≡ false }
     ensures finds { Finds S.Store conn.old conn.new result ReportsMeters }

@@ -12,8 +12,6 @@ use sqlite::Row;
 use std::alloc::{AllocError, Global};
 use store_tables::{GREATEST_PLACE, whole};
 
-// ---- rows of polls and outcomes with values out of range
-
 /// Reads the poll number in the first column of a row. Returns None if the number is out of range.
 fn number(row: &Row) -> Option<u64>
     ensures { result ≡ differing.number_in row.now }
@@ -77,8 +75,6 @@ fn write_unread_outcomes(rows: &[Row], found: &mut Vec<Difference>) -> Result<()
     }
     Ok(())
 }
-
-// ---- missing and disordered poll numbers
 
 /// Reads the poll number of a `polls` row, whose other columns may be out of range.
 fn number_of(row: &Row) -> Option<u64>
@@ -156,10 +152,8 @@ fn write_order(
     write_gap(next, last + 1, found)
 }
 
-// ---- outcomes of polls
-
-/// Returns whether a row is the outcome's poll, and that poll started no later than the outcome's
-/// timestamp. If the row can't be read, its poll number alone decides.
+/// Returns whether a row is the outcome's poll, and this poll started no later than the outcome's
+/// timestamp. If the row can't be read, only its poll number is compared.
 fn began(outcome: &OutcomeRow, row: &Row) -> bool
     ensures { result ≡ differing.began outcome.now row.now }
 {
@@ -169,8 +163,8 @@ fn began(outcome: &OutcomeRow, row: &Row) -> bool
     }
 }
 
-/// Returns whether an outcome belongs to the poll in the row at the likely index, and the poll
-/// started no later than the outcome. If no poll number is missing, the likely index is right.
+/// Returns whether an outcome belongs to the poll in the row at the expected index, and this poll
+/// started no later than the outcome. The expected index is right if no poll number is missing.
 fn began_there(first: u64, polls: &[Row], outcome: &OutcomeRow) -> bool
     ensures { IsTrue result → list_any (differing.began outcome.now) polls.now ≡ true }
 {
@@ -195,7 +189,7 @@ fn began_anywhere(polls: &[Row], outcome: &OutcomeRow) -> bool
 }
 
 /// Returns whether an outcome belongs to one of the polls, and this poll started no later than the
-/// outcome. Tries the row at the likely index first, because a search through all rows is slow.
+/// outcome. First tries the row at the expected index, because a search through all rows is slow.
 fn has_begun(first: u64, polls: &[Row], outcome: &OutcomeRow) -> bool
     ensures { result ≡ list_any (differing.began outcome.now) polls.now }
 {
@@ -239,8 +233,6 @@ fn write_each_early(
     Ok(())
 }
 
-// ---- all differences in a run of polls
-
 /// Reports the rows of a run of polls that have values out of range.
 fn append_values(rows: &RunRows, found: &mut Vec<Difference>) -> Result<(), AllocError>
     ensures { OnOk result (found.new.items ≡ found.old.items ++ differing.values_of rows.now) }
@@ -267,8 +259,8 @@ pub(crate) fn run_differences(
     Ok(found)
 }
 
-/// Reports the missing poll numbers of a run, the numbers out of order, and the outcomes earlier
-/// than their polls.
+/// Reports the missing poll numbers of a run of polls, the numbers out of order, and the outcomes
+/// earlier than their polls.
 fn write_turns(
     run: u64,
     last: u64,

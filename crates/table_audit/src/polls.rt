@@ -131,10 +131,10 @@ fn append_last(findings: &mut Findings) -> Result<(), RowFault>
     }
 }
 
-/// Audits all tables. Each meter must have the rows of a lawful journal, a history that the rules
-/// accept. No poll may be missing, or end before its start. Returns the differences and the numbers
-/// of rows read. Memory holds all rows of `installations`, and the rows of one meter or one run of
-/// polls at a time.
+/// Audits all tables. Each meter must have the rows of a history that the rules accept. No poll may
+/// be missing, or end before its start. Returns the differences and the numbers of rows read.
+/// Memory holds all rows of `installations`, and the rows of one meter or one run of polls at a
+/// time.
 pub fn audit_tables<S: Alter>(alloc: Global, conn: &mut Connection<S>) -> Result<Findings, RowFault>
     requires mode { conn.old.in_transaction ≡ false }
     ensures finds { Finds S.Store conn.old conn.new result said.ReportsTables }

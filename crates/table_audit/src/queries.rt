@@ -47,7 +47,7 @@ fn ask_entries<S: Alter>(conn: &mut Connection<S>, meter: &str) -> Result<Vec<Ro
     )
 }
 
-/// Queries the void records of a meter, in order of the voided entries' indices.
+/// Queries the void records (cancellations) of a meter, in order of the voided entries' indices.
 fn ask_voids<S: Alter>(conn: &mut Connection<S>, meter: &str) -> Result<Vec<Row>, Error>
     ensures asks { Asks S.Store conn.old conn.new }
     ensures shows { ReportsRows S.Store conn.old conn.new entry_tree.voids itself result
@@ -105,7 +105,7 @@ fn entries<S: Alter>(conn: &mut Connection<S>, meter: &str) -> Result<Vec<Row>, 
     Ok(rows)
 }
 
-/// Queries the void records of a meter, after checking that the database is open.
+/// Queries the void records (cancellations) of a meter, after checking that the database is open.
 fn voids<S: Alter>(conn: &mut Connection<S>, meter: &str) -> Result<Vec<Row>, RowFault>
     requires { conn.old.in_transaction ≡ false }
     ensures { Finds S.Store conn.old conn.new result

@@ -30,14 +30,15 @@ fn kind(row: &Row, at: usize) -> Result<RowKind, RowFault>
     }
 }
 
-/// Returns whether `voids`, the indices of voided entries, contains the index `place`.
+/// Returns whether `voids`, the indices of voided (cancelled) entries, contains the index `place`.
 fn is_named(voids: &[u64], place: u64) -> bool
     ensures { result ≡ values.is_named voids.now place }
 {
     voids.iter().any(|v| *v == place)
 }
 
-/// Parses a meter entry from a result row. `voids` has the indices of the meter's voided entries.
+/// Parses a meter entry from a result row. `voids` has the indices of the meter's voided
+/// (cancelled) entries.
 fn entry(row: &Row, voids: &[u64]) -> Result<TableRow, RowFault>
     ensures read { result ≡ values.entry_in voids.now row.now }
     ensures place { IfOk result (λ entry. entry.place < 2 ^ 63) }
@@ -62,7 +63,7 @@ fn entry(row: &Row, voids: &[u64]) -> Result<TableRow, RowFault>
     })
 }
 
-/// Parses the index of a voided entry from a result row.
+/// Parses the index of a voided (cancelled) entry from a result row.
 fn place(row: &Row) -> Result<u64, RowFault>
     ensures { result ≡ values.place_in row.now }
 {
@@ -92,7 +93,7 @@ pub fn range(rows: &[Row]) -> Option<u64>
     }
 }
 
-/// Parses a meter's entries in order. Returns None if a row is invalid.
+/// Parses a meter's entries in order. Returns None if a result row is invalid.
 pub fn entries(
     alloc: Global,
     rows: &[Row],
@@ -112,7 +113,8 @@ pub fn entries(
     Ok(Some(found))
 }
 
-/// Parses the indices of a meter's voided entries. Returns None if a row is invalid.
+/// Parses the indices of a meter's voided (cancelled) entries. Returns None if a result row is
+/// invalid.
 pub fn places(alloc: Global, rows: &[Row]) -> Result<Option<Vec<u64>>, AllocError>
     ensures { IfOk result (values.AreRead values.place_in rows.now) }
 {
@@ -126,7 +128,7 @@ pub fn places(alloc: Global, rows: &[Row]) -> Result<Option<Vec<u64>>, AllocErro
     Ok(Some(found))
 }
 
-/// Parses the energies of quarter hours. Returns None if a row is invalid.
+/// Parses the energies of quarter hours from result rows. Returns None if a row is invalid.
 pub(crate) fn shares(alloc: Global, rows: &[Row]) -> Result<Option<Vec<Share>>, AllocError>
     ensures { IfOk result (values.AreRead values.share_in rows.now) }
 {

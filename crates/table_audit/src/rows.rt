@@ -2,8 +2,8 @@
 
 use sqlite::Row;
 
-/// The result rows of the queries for one meter. Entries and void records are in order of entry
-/// index, and intervals are in order of their starts.
+/// The result rows of the queries for one meter. Entries and void records (cancellations) are in
+/// order of entry index, and intervals are in order of their starts.
 #[derive(Drop)]
 pub struct MeterRows {
     pub ranges: Vec<Row>,

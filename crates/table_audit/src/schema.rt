@@ -16,10 +16,10 @@ use crate::schema::program_tables::check_tables;
 use sqlite::{Alter, Connection};
 use sqlite_schema::schema::{Index, Schema};
 
-/// How the schema of a file differs from the program's.
+/// Describes how the schema of a file differs from the schema that the program creates.
 #[derive(Clone, Copy, PartialEq, Eq)]
 pub enum SchemaFault {
-    /// The table with this name has another definition.
+    /// The table with this name differs from the table that the program creates.
     Table(&'static str),
     /// The file has another number of tables, other indexes, a view or a trigger.
     Objects,
@@ -84,7 +84,7 @@ const INDEXES: [IndexForm; 9] = [
     },
 ];
 
-// Compares the indexes of a schema with the program's.
+// Compares the indexes of a schema with the indexes that the program creates.
 fn are_program_indexes(indexes: &[Index]) -> bool
     ensures { IsTrue result ↔ (indexes.now ≡ books_schema.indexes) }
 {

@@ -10,7 +10,7 @@ use itoa::Buffer;
 use meter_journal::audit::{IntervalFault, RowFault};
 use std::alloc::AllocError;
 
-// ---- parts of a printed line; if memory runs out, the text is incomplete
+// Functions that append parts of a printed line. If memory runs out, the text is incomplete.
 
 fn append_bytes(text: &mut Vec<u8>, bytes: &[u8]) -> Result<(), AllocError>
     ensures { OnOk result (text.new.items ≡ text.old.items ++ bytes.now) }
@@ -39,8 +39,6 @@ fn write_scale(text: &mut Vec<u8>, before: &[u8], sf: i16) -> Result<(), AllocEr
     let mut buffer = Buffer::new();
     write_word(text, before, buffer.format(sf).as_bytes())
 }
-
-// ---- the printed text of a difference
 
 fn table_name(table: Table) -> &'static [u8]
     ensures { result.now ≡ say.table_name table }
@@ -188,8 +186,6 @@ fn write_difference(text: &mut Vec<u8>, difference: Difference) -> Result<(), Al
         Difference::Poll { poll, fault } => append_poll(text, poll, fault),
     }
 }
-
-// ---- the printed lines of an audit
 
 fn append_meter(text: &mut Vec<u8>, meter: &Option<String>) -> Result<(), AllocError>
     ensures { OnOk result (text.new.items ≡ say.with_meter text.old.items meter.now) }

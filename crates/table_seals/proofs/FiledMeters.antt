@@ -1,4 +1,5 @@
--- Lemmas on the list of a file's meters, which is built row by row from `installations`.
+-- Lemmas on the list of the meters in a database file, which is built row by row from the table
+-- `installations`.
 use Rattle.std.proofs.Common.{◌≡◌, ℕ, ◌+◌, ◌<◌, List, [], ◌∷◌, ◌++◌, take, length, get_or, drop, Some, sym, ap, subst, ◌∙◌, arith}
 use Rattle.std.proofs.lemmas.List.{take_more}
 use Rattle.meter_journal.specs.declared.audit.rows.TableRow.{TableRow}

@@ -1,4 +1,5 @@
--- Lemmas on parsing consecutive `void` lines and `meter` lines in the text of a seal.
+-- Lemmas on parsing consecutive `void` lines and `meter` lines in the text of a seal (digests of
+-- earlier records).
 use Rattle.std.proofs.Common.{◌≡◌, ℕ, ◌<◌, ◌^◌, true, List, [], ◌∷◌, ◌++◌, refl, sym, ap, subst, ◌∙◌, append_assoc}
 use Rattle.std.specs.Prelude.{codes, decimal, Option, Some, None, IsSomeAnd, IfSome}
 use Rattle.std.specs.List.{flat_map, AllByRecursion}
@@ -10,10 +11,10 @@ use Rattle.table_seals.specs.Tables.{is_word}
 use Rattle.table_seals.specs.Texts.{meter_line, meter_text, void_line}
 use Rattle.table_seals.proofs.Opened.{void_opened, no_void_first}
 
--- ---- consecutive `void` lines in the text of a seal
+-- Lemmas on consecutive `void` lines in the text of a seal, which has digests of a file's records.
 
--- If a text has several `void` lines, then it begins with the first line, and the other lines
--- follow.
+-- If the text of a seal has several `void` lines, then the text begins with the first line, and the
+-- other lines follow.
 void_first : (meter : List ℕ) (p : ℕ) (ps rest text : List ℕ) → AreVoids meter (p ∷ ps) rest text
     → text ≡ codes "void " ++ (meter ++ 32 ∷ (decimal p ++ 10 ∷ (flat_map (void_line meter) ps ++ rest)))
 void_first meter p ps rest text h =
@@ -26,8 +27,8 @@ no_more_voids meter [] rest text none h = (refl, h.is)
 no_more_voids meter (p ∷ ps) rest text none h =
     absurd (none meter (decimal p ++ 10 ∷ (flat_map (void_line meter) ps ++ rest)) h.word (void_first meter p ps rest text h))
 
--- If a word was parsed after `void ` in a text of `void` lines, then the word is the meter's name,
--- and the index of the voided entry follows.
+-- If a word was parsed after `void ` in a text of `void` lines, then the word is the meter's name.
+-- The index of the voided (cancelled) entry follows.
 pub void_number : (meter after rest text word following : List ℕ)
     → ((w r : List ℕ) → is_word w ≡ true → text ≡ codes "void " ++ (w ++ 32 ∷ r) → (word ≡ w) × (following ≡ r))
     → text ≡ codes "void " ++ (word ++ 32 ∷ following) → AreVoids meter after rest text
@@ -64,13 +65,13 @@ next_void meter after rest text word following number follows reads is numbers h
     )
 
 -- If the next index is moved from the unread indices to the parsed indices, then the concatenation
--- of both lists is unchanged.
+-- of both lists of indices is unchanged.
 pub places_so_far : (places next after ps all : List ℕ) (number : ℕ) → next ≡ places ++ number ∷ [] → after ≡ number ∷ ps → places ++ after ≡ all
     → next ++ ps ≡ all
 places_so_far places next after ps all number put is so_far =
     ap (λ (xs : List ℕ). xs ++ ps) put ∙ append_assoc places (number ∷ []) ps ∙ ap (λ (xs : List ℕ). places ++ xs) (sym is) ∙ so_far
 
--- ---- consecutive `meter` lines in the text of a seal
+-- Lemmas on consecutive `meter` lines in the text of a seal, which has digests of a file's records.
 
 pub no_more_meters : (after : List Sealed) (rest text : List ℕ)
     → ((s : Sealed) (r : List ℕ) → IsSealable s → text ≡ meter_line s ++ r → ⊥)
@@ -81,8 +82,8 @@ no_more_meters (s ∷ ss) rest text none h =
     (h.is ∙ append_assoc (meter_text s) (flat_map meter_text ss) rest
     ∙ append_assoc (meter_line s) (flat_map (void_line s.meter) s.voids) (flat_map meter_text ss ++ rest)))
 
--- A parsed `meter` line has the values of the first seal in the list, and the remaining text has
--- the other seals.
+-- States that a parsed `meter` line has the values of the first seal (digest of a meter's entries)
+-- in a list. The remaining text has the other seals.
 pub record FirstMeter (after : List Sealed) (rest : List ℕ) (line : MeterLine) (following : List ℕ) : Type 0 where
   pub seal : Sealed
   pub others : List Sealed
@@ -118,7 +119,7 @@ pub seals_so_far : (seals next after ss all : List Sealed) (seal : Sealed) → n
 seals_so_far seals next after ss all seal put is so_far =
     ap (λ (xs : List Sealed). xs ++ ss) put ∙ append_assoc seals (seal ∷ []) ss ∙ ap (λ (xs : List Sealed). seals ++ xs) (sym is) ∙ so_far
 
--- ---- results of parsing that may be None
+-- Lemmas on results of parsing that may be `None`.
 
 pub none_some : {A : Type 0} (P : A → Type 0) (o : Option A) → o ≡ None → IsSomeAnd o P → ⊥
 none_some P o is h = subst (λ q. IsSomeAnd q P) is h

@@ -1,4 +1,5 @@
--- Lemmas on parsing the `polls` line and consecutive `pending` lines in the text of a seal.
+-- Lemmas on parsing the `polls` line and consecutive `pending` lines in the text of a seal (digests
+-- of earlier records).
 use Rattle.std.proofs.Common.{◌≡◌, ℕ, ◌<◌, ◌^◌, List, [], ◌∷◌, ◌++◌, refl, sym, ap, ◌∙◌, append_assoc, arith}
 use Rattle.std.specs.Prelude.{codes, decimal}
 use Rattle.std.specs.List.{flat_map}
@@ -19,8 +20,8 @@ polls_opened s rest = polls_pieces (decimal s.count) (encode_lower s.digest) res
 pending_pieces : (a rest : List ℕ) → (codes "pending " ++ a ++ codes "\n") ++ rest ≡ codes "pending " ++ (a ++ 10 ∷ rest)
 pending_pieces a rest = simp append_assoc
 
--- If a text has several `pending` lines, then it begins with the first line, and the other lines
--- follow.
+-- If the text of a seal has several `pending` lines, then the text begins with the first line, and
+-- the other lines follow.
 pending_first : (p : ℕ) (ps rest text : List ℕ) → ArePending (p ∷ ps) rest text
     → text ≡ codes "pending " ++ (decimal p ++ 10 ∷ (flat_map pending_line ps ++ rest))
 pending_first p ps rest text h =
@@ -43,7 +44,7 @@ next_pending (p ∷ ps) rest text number follows reads begins h =
       record { fit = h.fit.1; ends = h.ends; is = one.1 },
     )
 
--- ---- the line `polls`, and the lines `pending`
+-- Lemmas on the `polls` line in the text of a seal, and on the `pending` lines after it.
 
 pub polls_first : (s : SealedPolls) (rest text : List ℕ) → ArePolls s rest text → text ≡ polls_line s ++ (flat_map pending_line s.pending ++ rest)
 polls_first s rest text h = h.is ∙ append_assoc (polls_line s) (flat_map pending_line s.pending) rest
@@ -52,7 +53,7 @@ pub pending_then : (s : SealedPolls) (rest text follows : List ℕ) → ArePolls
     → ArePending s.pending rest follows
 pending_then s rest text follows h is = record { fit = h.fit.pending_fit; ends = h.ends; is = is }
 
--- ---- the seals of meters, and then the seal of polls
+-- Lemmas on the seals (digests) of all meters, which the seal of the polls follows in the text.
 
 pub meters_first : (s : SealedTables) (rest text : List ℕ) → AreTables s rest text → AreMeters s.meters (polls_part s.polls ++ rest) text
 meters_first s rest text h = record {

@@ -1,4 +1,5 @@
--- Lemmas on the ordered set of the terms (name, register, ceiling) of all rows of `installations`.
+-- Lemmas on the ordered set of the terms (name, register, maximum power) of all rows of
+-- `installations`.
 use Rattle.std.proofs.Common.{◌≡◌, ◌↔◌, ◌⊎◌, ◌&&◌, ℕ, ◌+◌, ◌-◌, ◌<◌, Bool, true, false, cond, List, [], ◌∷◌, ◌++◌, take, length, get_or, Some, None, inl, inr, refl, sym, ap, subst, ◌∙◌, length-append, string_bytes, arith}
 use Rattle.std.specs.Prelude.{IsTrue, Any}
 use Rattle.std.specs.BTreeSet.{BTreeSet}
@@ -21,7 +22,8 @@ use Rattle.table_seals.specs.Tables.{HasTerms, TermsAreRead}
 use Rattle.table_seals.specs.declared.tables.Terms.{Terms}
 use Rattle.table_seals.proofs.Read.{same_terms, terms_there}
 
--- ---- equal terms of meters
+-- Lemmas on equal terms of meters: equal names, accounting registers (energy counters) and maximum
+-- powers.
 
 is_equal : (o : Ordering) → is_eq o ≡ true → o ≡ Equal
 is_equal Less h = absurd (cc h)
@@ -70,7 +72,7 @@ order_of_same a b same =
     (both_equal registers ceilings (tied_bytes _ _ same.register) (tied_numbers _ _ same.ceiling)) in
     ap is_eq all
 
--- ---- adding terms to the ordered set
+-- Lemmas on adding a meter's terms (name, register, maximum power) to the ordered set.
 
 either_true : (b c : Bool) → cond b true c ≡ true → (b ≡ true) ⊎ (c ≡ true)
 either_true true c h = inl refl
@@ -94,7 +96,7 @@ adds_terms terms old new put other = (
   ]),
 )
 
--- ---- adding the terms of one more row of `installations`
+-- Lemmas on adding the terms (name, register, maximum power) of one more row of `installations`.
 
 any_more : {X : Type 0} (P : X → Type 0) (xs : List X) (y : X) → Any P xs → Any P (xs ++ y ∷ [])
 any_more P xs y h = (
@@ -141,8 +143,8 @@ without_terms row known none rows are other =
       ],
     )
 
--- Adding the terms of row `i` to a set with the terms of the first `i` rows gives the terms of the
--- first `i` + 1 rows. The terms of a row are its meter's name, register and ceiling.
+-- Suppose that a set has the terms (name, register, maximum power) of the first `i` rows. After the
+-- terms of row `i` are added, the set has those of the first `i` + 1 rows.
 pub terms_of_next : (rows : List Row) (i : ℕ) (row : Row) (old new : BTreeSet Terms) → i < length rows → row ≡ get_or rows i row
     → AddsTermsOf row old new → AreTermsOf (take i rows) old → AreTermsOf (take (i + 1) rows) new
 terms_of_next rows i row old new lt is adds are =
@@ -155,7 +157,7 @@ no_terms known none terms = (
   λ any. absurd (omega (arith, any.2)),
 )
 
--- ---- looking up a sealed meter's terms
+-- Lemmas on looking up the terms (name, register, maximum power) that a seal states for a meter.
 
 any_as : {X : Type 0} (P Q : X → Type 0) (xs : List X) → ((x : X) → P x → Q x) → Any P xs → Any Q xs
 any_as P Q xs so h = (h.0, h.1, h.2, h.3, so h.1 h.4)
@@ -170,7 +172,8 @@ installed_by known terms seal there is meter register ceiling installed are =
       λ any. is ∙ (are terms).1 (any_as Has Reads installed (λ row h. terms_there row _ _ _ _ _ _ h (sym meter) (sym register) (sym ceiling)) any),
     )
 
--- ---- results of checking a seal that use the set of terms
+-- Lemmas on comparing a meter with its seal (a digest of its earlier entries), with the set of all
+-- meters' terms.
 
 pub keeps_at : (known : BTreeSet Terms) (rows : MeterRows) (seal : Sealed) (there has : Bool) → ReportsInstalled known seal there
     → (IsTrue has ↔ HasSealed rows seal) → KeepsAt known rows seal (there && has)

@@ -17,15 +17,15 @@ use Rattle.table_seals.specs.JoinLaws.{MeterGoesOn, JoinedMetersGoOn}
 use Rattle.table_audit.specs.declared.differences.TheConstants.{MOST}
 use Rattle.table_seals.specs.JoinTexts.{all_lines, join_line, joined_text, lines_of, more_lines, text_in}
 
--- ---- the printed lines of the check of files
+-- Lemmas on the printed lines of the check that successive database files continue each other.
 
 pub lines_of_each : {X : Type 0} (f : X → List Join) (xs : List X) → flat_map (λ x. map join_line (f x)) xs ≡ map join_line (flat_map f xs)
 lines_of_each f [] = refl
 lines_of_each f (x ∷ xs) =
     ap (λ ls. map join_line (f x) ++ ls) (lines_of_each f xs) ∙ sym (map-append join_line (f x) (flat_map f xs))
 
--- Appending the lines of three lists of differences, one list after another, appends the lines of
--- the concatenated list.
+-- Appending the printed lines of three lists of differences, one list after another, appends the
+-- lines of the concatenated list.
 pub all_reported : (old one two three : List (List ℕ)) (a b c : List Join) → one ≡ old ++ map join_line a → two ≡ one ++ map join_line b
     → three ≡ two ++ map join_line c → three ≡ old ++ map join_line (a ++ b ++ c)
 all_reported old one two three a b c first second third =
@@ -47,8 +47,8 @@ joins_reported known next meters news latest old one two three meters_are news_a
     (third ∙ ap (λ (ms : List FiledMeter). two ++ flat_map (λ o. lines_of (missing_of next o)) ms) latest_are
     ∙ ap (λ ls. two ++ ls) (lines_of_each (missing_of next) (take known.latest known.meters)))
 
--- If the first lines, the number of omitted lines and the last line are appended in this order,
--- then the complete text of the check is appended.
+-- The printed text of the check consists of the first lines, the number of omitted lines and the
+-- last line, in this order.
 pub lines_put : {Z : Type 0} (lines shown : List (Vec ℕ Z)) (old one two three : List ℕ) (more : ℕ) → shown ≡ take MOST lines
     → more ≡ length lines - MOST → one ≡ old ++ flat_map text_in shown → two ≡ one ++ more_lines more
     → three ≡ two ++ all_lines (length lines) → three ≡ old ++ joined_text lines
@@ -60,7 +60,7 @@ lines_put {Z} lines shown old one two three more shown_are more_is first second 
     let both : two ≡ old ++ f ++ m = second ∙ ap (λ n. one ++ more_lines n) more_is ∙ ap (λ t. t ++ m) put in
     third ∙ ap (λ t. t ++ a) (both ∙ append_assoc old f m) ∙ append_assoc old (f ++ m) a
 
--- ---- the total energy of a meter in several files
+-- Lemmas on the total energy of a meter in several files.
 
 abbrev stays_by : (name : List ℕ) → List FiledMeter → Option ℕ → Bool
 stays_by name meters left = option_map_or (λ l. stay_within l name meters) left false
@@ -86,7 +86,7 @@ pub goes_to_end : (left most : ℕ) (name : List ℕ) (meters : List FiledMeter)
     → stay_within left name (drop i meters) ≡ stay_within most name meters → true ≡ stay_within most name meters
 goes_to_end left most name meters i le so_far = sym (ap (stay_within left name) (drop_all i meters le)) ∙ so_far
 
--- ---- a meter continues if and only if no line reports a difference
+-- Lemmas that a meter continues in the next file if and only if no line reports a difference.
 
 nothing_reported : (known : List FiledMeter) (old new : FiledMeter) (found : Option JoinFault)
     → option_to_list (option_map (λ fault. Differs fault old new) found) ≡ [] → found ≡ None

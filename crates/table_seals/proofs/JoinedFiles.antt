@@ -13,13 +13,11 @@ use Rattle.table_seals.specs.Joins.{Known, known_with, is_meter, joins_by, joins
 use Rattle.table_seals.specs.JoinLaws.{EachGoesOn, IsOfMeters, IsOneMeter, JoinedFilesAreOne, MeterGoesOn, energy_of, known_with_all, named}
 use Rattle.table_seals.proofs.Joined.{joined_meters_go_on}
 
--- ---- lists of the meters in several files
-
 no_parts : {X : Type 0} (xs ys : List X) → xs ++ ys ≡ [] → (xs ≡ []) × (ys ≡ [])
 no_parts [] ys h = (refl, h)
 no_parts (x ∷ xs) ys h = absurd (cc)
 
--- ---- the meters of a list that pass a test
+-- Lemmas on the meters of a list that pass a test.
 
 module _ (passes : FiledMeter → Bool) where
   abbrev passing : List FiledMeter → List FiledMeter
@@ -59,7 +57,7 @@ nothing_of_each known (meter ∷ meters) h =
     let parts = no_parts (joins_of known meter) (flat_map (joins_of known) meters) h in
     (parts.0, nothing_of_each known meters parts.1)
 
--- ---- the total energy of a meter in several files
+-- Lemmas on the total energy of a meter in several files.
 
 same_name : (name : List ℕ) (meter : FiledMeter) → is_meter name meter ≡ true → string_bytes meter.meter ≡ name
 same_name name meter h = (bytes_eq-Decides (string_bytes meter.meter) name).0 h
@@ -98,10 +96,8 @@ energies_stay most name (meter ∷ meters) h =
           subst (λ ms. energy_of ms ≤ most) (sym (cond-false _ _ _ off)) (energies_stay most name meters stays)
     ]
 
--- ---- adding one more file of the office
-
--- After a file with at most one meter of a name is added, the meters of this name still continue
--- from file to file.
+-- After a file with at most one meter of a given name is added, the meters of this name still
+-- continue from file to file.
 one_more : (name : List ℕ) (known next : Known) (new old : List FiledMeter) → IsOfMeters next → joins_between known next ≡ []
     → IsOneMeter name known → named name next.meters ≡ new → named name known.meters ≡ old → length new ≤ 1
     → EachGoesOn (new ++ old) × (energy_of (new ++ old) ≤ MAX_TOTAL)
@@ -147,7 +143,7 @@ all_are_one name known (next ∷ later) of nothing one =
     let parts = no_parts (joins_between known next) (joins_of_all (known_with known next) later) nothing in
     all_are_one name (known_with known next) later of.1 parts.1 (next_is_one name known next of.0 parts.0 one)
 
--- ---- the first file of the office
+-- Lemmas on the meters of the first database file.
 
 first_one : (name : List ℕ) (first : Known) (meters : List FiledMeter) → IsOfMeters first → named name first.meters ≡ meters → length meters ≤ 1
     → EachGoesOn meters × (energy_of meters ≤ MAX_TOTAL)

@@ -16,7 +16,7 @@ use Rattle.table_seals.specs.Filing.{standing_in}
 use Rattle.table_seals.specs.JoinLaws.{EachGoesOn, FiledMetersAreReported, IsReportedBy, JoinedFilesAreLawful, energy_of, in_file, in_files}
 use Rattle.table_seals.proofs.Read.{same_read}
 
--- ---- the tables of one meter in one file
+-- Lemmas on the tables of one meter in one database file.
 
 same_head : (a b : TableRow) (rows others : List TableRow) → a ∷ rows ≡ b ∷ others → a ≡ b
 same_head a b rows others h = cc
@@ -51,8 +51,6 @@ kept_meters_are_reported row rows installation filed read fine so =
       },
     )
 
--- ---- the files of one meter, the oldest file first
-
 -- The latest file in a list of the files of a meter.
 abbrev latest : InFile → List InFile → InFile
 latest first [] = first
@@ -72,7 +70,8 @@ reported_more : (old : Tables) (later : List InFile) (new : InFile) → (entry_f
 reported_more old [] new = refl
 reported_more old (next ∷ later) new = reported_more (reported_by_both old next.tables) later new
 
--- Up to the file of `meter`, the files of a meter continue each other, the oldest file first.
+-- States that the files of a meter continue each other, from the oldest file up to the file of
+-- `meter`.
 record GoesUpTo (tables : FiledMeter → Tables) (meter : FiledMeter) (meters : List FiledMeter) : Type 0 where
   pub first : InFile
   pub later : List InFile

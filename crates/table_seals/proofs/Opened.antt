@@ -1,4 +1,4 @@
--- Lemmas on the first lines of a seal's text.
+-- Lemmas on the first lines of the text of a seal, which has digests of a file's records.
 use Rattle.std.proofs.Common.{◌≡◌, ℕ, List, [], ◌∷◌, ◌++◌, get_or, ap, append_assoc, arith}
 use Rattle.std.specs.Prelude.{codes, decimal}
 use Rattle.std.specs.List.{flat_map}
@@ -24,7 +24,8 @@ void_pieces a b rest = simp append_assoc
 pub void_opened : (meter : List ℕ) (place : ℕ) (rest : List ℕ) → void_line meter place ++ rest ≡ codes "void " ++ (meter ++ 32 ∷ (decimal place ++ 10 ∷ rest))
 void_opened meter place rest = void_pieces meter (decimal place) rest
 
--- The text of a meter's seal begins with the `meter` line, followed by its `void` lines.
+-- The text of a meter's seal (digests of earlier records) begins with the `meter` line, followed by
+-- its `void` lines.
 pub meter_first : (s : Sealed) (rest : List ℕ) → meter_text s ++ rest ≡ meter_line s ++ (flat_map (void_line s.meter) s.voids ++ rest)
 meter_first s rest = append_assoc (meter_line s) (flat_map (void_line s.meter) s.voids) rest
 

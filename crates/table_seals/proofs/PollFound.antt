@@ -15,7 +15,7 @@ use Rattle.store_tables.specs.Columns.{first_in}
 use Rattle.table_audit.specs.Looking.{Finds}
 use Rattle.table_seals.proofs.PollNumbers.{AreNumbered, numbered, all_then}
 
--- ---- the polls up to the last poll number in the tables
+-- Lemmas on the polls up to the greatest poll number in the tables.
 
 pub reads_runs : (found : Result (Option ℕ) RowFault) (o : Option ℕ) (greatest : ℕ) (content : Content) (polls : Option (List ReadPoll))
     → found ≡ Ok o → greatest ≡ unwrap_or o 0 → ReadsRuns greatest content polls → ReadsUpTo found content polls
@@ -26,7 +26,7 @@ reads_runs found o greatest content polls is n runs =
 pub reads_fault : (found : Result (Option ℕ) RowFault) (e : RowFault) (content : Content) → found ≡ Err e → ReadsUpTo found content None
 reads_fault found e content is = subst (λ (r : Result (Option ℕ) RowFault). ReadsUpTo r content None) (sym is) refl
 
--- ---- the seal of the polls in the tables
+-- Lemmas on the seal (digest) of the polls in the tables.
 
 -- If polls were read without a fault, then they have consecutive numbers from 1.
 read_numbered : (r : Result (Option ℕ) RowFault) (content : Content) (polls : List ReadPoll) → ReadsUpTo r content (Some polls) → AreNumbered 1 polls
@@ -58,7 +58,7 @@ seals_all content found few h = record {
       few h.digested;
 }
 
--- ---- checking the polls in the tables against a seal
+-- Lemmas on comparing the polls in the tables with an earlier seal (digest).
 
 kept_if : (polls : Option (List ReadPoll)) (found : Option PollSeal) (sealed : SealedPolls) → AreDigested sealed.count sealed.pending polls found
     → AreAsSealed found sealed ↔ KeepsPolls polls sealed
@@ -81,7 +81,7 @@ reports_kept content found sealed differ reported h =
       reported = (λ is. kept.0 (reported.0 is), λ keeps. reported.1 (kept.1 keeps));
     }
 
--- ---- parsing the seal of polls from the text that was written
+-- Lemmas that the seal (digest) of the polls can be parsed from its written text.
 
 pub same_polls : (count : ℕ) (digest pending : List ℕ) (seal : SealedPolls) → count ≡ seal.count → digest ≡ seal.digest → pending ≡ seal.pending
     → (let read : SealedPolls = record { count = count; digest = digest; pending = pending } in read) ≡ seal
@@ -96,7 +96,7 @@ same_tables meters polls seal m p =
     ap (λ (x : List Sealed). let read : SealedTables = record { meters = x; polls = polls } in read) m
     ∙ ap (λ (x : SealedPolls). let read : SealedTables = record { meters = seal.meters; polls = x } in read) p
 
--- ---- results of reading polls that may be None
+-- Lemmas on results of reading polls that may be `None`.
 
 pub seals_found : {S : Type 0} (g : Ghosts S) (old new : Held S) (r : Result (Option PollSeal) RowFault)
     → IfOk r (λ found. IfSome found (λ seal. seal.count ≤ greatest_place)) → Finds g old new r (DigestsPolls greatest_place [])

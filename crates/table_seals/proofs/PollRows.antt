@@ -1,4 +1,4 @@
--- Lemmas on reading a run of `RUN` polls row by row, and appending their texts.
+-- Lemmas on reading a run of `RUN` consecutive polls row by row, and appending their texts.
 use Rattle.std.proofs.Common.{◌≡◌, ℕ, suc, ◌+◌, ◌<◌, ◌≤◌, Bool, true, false, List, [], ◌∷◌, ◌++◌, length, drop, get_or, Option, Some, None, refl, sym, ap, ◌∙◌, append_assoc, arith}
 use Rattle.std.proofs.lemmas.List.{append-nil, length-append, drop_more, drop_all}
 use Rattle.std.proofs.lemmas.Grind.{flat_map-append}
@@ -36,7 +36,8 @@ no_rows_yet last hidden first all outcomes old old_pending = record {
   pending = sym (append-nil old_pending);
 }
 
--- If index `i` is in a list, then dropping the first `i` rows leaves row `i` and the rows after it.
+-- If index `i` is in a list of rows, then dropping the first `i` rows leaves row `i` and the rows
+-- after it.
 rows_from : (rows : List Row) (i : ℕ) (row : Row) → i < length rows → row ≡ get_or rows i row → drop i rows ≡ row ∷ drop (i + 1) rows
 rows_from rows i row lt is = drop_more rows i row lt ∙ ap (λ (r : Row). r ∷ drop (i + 1) rows) (sym is)
 
@@ -82,7 +83,7 @@ module _ (last : ℕ) (hidden : List ℕ) (first next i : ℕ) (all outcomes lef
             ∙ sym (flat_map-append pending_of before.done (poll ∷ [])));
       }
 
--- ---- the polls and their texts after the last row of a run of polls
+-- Lemmas on the polls and their texts after the last row of a run of polls.
 
 left_over : (done : List ReadPoll) (next : ℕ) (rows : List Row) → (rows ≡ [] → ⊥) → after done (polls_in next [] rows) ≡ None
 left_over done next [] none = absurd (none refl)

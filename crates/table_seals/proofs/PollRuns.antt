@@ -1,4 +1,4 @@
--- Lemmas on reading and digesting consecutive runs of `RUN` polls.
+-- Lemmas on reading and digesting consecutive runs of `RUN` polls each.
 use Rattle.std.proofs.Common.{◌≡◌, ℕ, suc, ◌+◌, ◌*◌, ◌<◌, ◌≤◌, ◌/◌, ◌%◌, min, List, [], ◌∷◌, ◌++◌, length, Option, Some, None, refl, sym, ap, subst, ◌∙◌, arith}
 use Rattle.std.specs.List.{fold}
 use Rattle.std.proofs.lemmas.Grind.{flat_map-append, div_ceil_times}
@@ -29,8 +29,8 @@ fold_more : (o : Option (List ReadPoll)) (xs : List RunRows) (x : RunRows) → f
 fold_more o [] x = refl
 fold_more o (y ∷ ys) x = fold_more (with_run o y) ys x
 
--- The state of a loop after the first `n` runs of `RUN` polls. The hasher has the text that the
--- polls of these runs had at sealing time.
+-- The state of a loop after the first `n` runs of `RUN` polls. The SHA-256 hasher has the text that
+-- the polls of these runs had when they were sealed (digested).
 pub record RunsSoFar (last : ℕ) (hidden : List ℕ) (n next : ℕ) (hasher : Sha256) (pending : List ℕ) (content : Content) : Type 0 where
   pub runs : List RunRows
   pub long : length runs ≡ n
@@ -63,7 +63,7 @@ module _ (last : ℕ) (hidden : List ℕ) (n first : ℕ) (old new : Sha256) (ol
   looked rows theirs = runs_more content 0 before.runs rows before.theirs (subst (λ (k : ℕ). AreRowsOfRun k content rows) (sym there) theirs)
 
   -- After one more run of `RUN` polls is read, the polls are those of the earlier runs followed by
-  -- those of this run.
+  -- those of the new run.
   read_more : (rows : RunRows) → polls_of (before.runs ++ rows ∷ []) ≡ after before.polls (polls_in first rows.polls.items rows.outcomes.items)
   read_more rows =
       fold_more (Some []) before.runs rows ∙ ap (λ (o : Option (List ReadPoll)). with_run o rows) before.read
@@ -118,7 +118,7 @@ run_added last hidden n first old new old_pending new_pending content next found
     one_more last hidden n first old new old_pending new_pending content before next
     (subst (λ (o : Option ℕ). LooksAtRun n last hidden first old new old_pending new_pending content o) is one)
 
--- ---- all runs of polls up to the last poll
+-- Lemmas on reading all runs of polls up to the last poll.
 
 pub all_digested : (greatest last : ℕ) (hidden : List ℕ) (n next : ℕ) (hasher : Sha256) (pending : List ℕ) (content : Content) (found : PollSeal)
     → greatest ≤ n * RUN → found.count + 1 ≡ next → ((m : List ℕ) → Holds256 hasher m → found.digest ≡ sha256 m) → found.pending.items ≡ pending

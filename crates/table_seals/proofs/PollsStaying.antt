@@ -1,5 +1,5 @@
--- Lemmas that the text of the sealed polls is unchanged after later polls and outcomes are
--- recorded.
+-- Lemmas that the text of the sealed (digested) polls is unchanged after later polls and outcomes
+-- are recorded.
 use Rattle.std.proofs.Common.{◌≡◌, ℕ, suc, ◌+◌, ◌<◌, ◌≤◌, ◌==◌, ◌||◌, ◌⊎◌, inl, inr, Bool, true, false, nat_le, List, [], ◌∷◌, ◌++◌, length, if◌then◌else◌, Option, Some, None, refl, ap, subst, ◌∙◌, append_assoc, arith}
 use Rattle.std.specs.List.{AllByRecursion}
 use Rattle.std.proofs.lemmas.Bool.Decides.{nat_tests}
@@ -12,7 +12,7 @@ use Rattle.table_seals.specs.PollReading.{ReadPoll}
 use Rattle.table_seals.specs.PollTexts.{poll_line, ending_text, unless_pending, poll_text, polls_text, text_then, polls_text_then, unless_ended, pending_of, pending_among}
 use Rattle.table_seals.proofs.PollNumbers.{AreNumbered, numbered, is_up_to, is_beyond}
 
--- ---- the list of pending polls
+-- Lemmas on the list of pending polls.
 
 named_more : (xs ys : List ℕ) (n : ℕ) → is_named (xs ++ ys) n ≡ (is_named xs n || is_named ys n)
 named_more xs ys n = list_any-append (λ v. v == n) xs ys
@@ -36,7 +36,8 @@ earlier m n lt = grind (arith, nat_tests)
 same : (m n : ℕ) → m ≡ n → m == n ≡ true
 same m n is = grind (arith, nat_tests)
 
--- If polls are numbered from `k`, then their pending numbers do not include a number below `k`.
+-- If polls are numbered from `k`, then the numbers of the pending polls among them do not include a
+-- number below `k`.
 not_among : (k n : ℕ) (polls : List ReadPoll) → AreNumbered k polls → n < k → is_named (pending_among polls) n ≡ false
 not_among k n [] h lt = refl
 not_among k n (poll ∷ polls) h lt =
@@ -52,11 +53,11 @@ abbrev is_pending : Option Ending → Bool
 is_pending None = true
 is_pending (Some ending) = false
 
--- The list `pending` contains the poll's number if and only if the poll has no outcome.
+-- States that the list `pending` contains the poll's number if and only if the poll has no outcome.
 abbrev Names : List ℕ → ReadPoll → Type 0
 Names pending poll = is_named pending poll.numbers.number ≡ is_pending poll.ending
 
--- The list `front` of poll numbers contains no number that is `k` or greater.
+-- States that the list `front` of poll numbers contains no number that is `k` or greater.
 abbrev NoneFrom : ℕ → List ℕ → Type 0
 NoneFrom k front = (n : ℕ) → k ≤ n → is_named front n ≡ false
 
@@ -91,7 +92,7 @@ names_all k front (poll ∷ polls) h none =
           (names_all (suc k) (front ++ pending_of poll) polls h.1 (front_more k front poll h.0 none)),
     )
 
--- ---- the text that polls had at sealing time
+-- Lemmas on the text that polls had when they were sealed (digested).
 
 ending_stays : (ending now : Option Ending) (b : Bool) → b ≡ is_pending ending → (ending ≡ None) ⊎ (now ≡ ending)
     → ending_text (unless_pending b now) ≡ ending_text ending

@@ -15,7 +15,7 @@ use Rattle.table_seals.specs.Sealing.{IsSealOf}
 use Rattle.table_seals.specs.Tables.{HasTerms, HasRead, is_word}
 use Rattle.table_seals.specs.Texts.{entries_text}
 
--- ---- the name, accounting register and ceiling of a meter
+-- Lemmas on the name, the accounting register (an energy counter) and the maximum power of a meter.
 
 pub same_text : (m n : List ℕ) → (let v : Value = Text m in v) ≡ Text n → m ≡ n
 same_text m n h = cc
@@ -38,7 +38,8 @@ pub terms_there : (row : Row) (m r : List ℕ) (c : ℕ) (meter register : List 
 terms_there row m r c meter register ceiling h p q s =
     subst (λ x. HasTerms row x register ceiling) p (subst (λ x. HasTerms row m x ceiling) q (subst (λ x. HasTerms row m r x) s h))
 
--- ---- meters that can't be sealed
+-- Lemmas on meters that can't be sealed (digested), because a value is invalid or a name is not a
+-- word.
 
 pub true_false : (b : Bool) → b ≡ true → b ≡ false → ⊥
 true_false true h g = absurd (cc)
@@ -56,7 +57,7 @@ register_no_word row rows m r c terms other seal h =
     let same = same_terms row m r c seal.meter seal.register seal.ceiling terms h.terms in
     true_false (is_word r) (ap is_word same.register_is ∙ h.register_word) other
 
--- ---- the counter range, void records and entries of a meter
+-- Lemmas on the counter range, the void (cancellation) records and the entries of a meter.
 
 same_ranges : (m n : ℕ) → m ∷ [] ≡ n ∷ [] → m ≡ n
 same_ranges m n h = cc

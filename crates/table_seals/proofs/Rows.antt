@@ -1,4 +1,4 @@
--- Lemmas on sealing and checking the meters of `installations` row by row.
+-- Lemmas on sealing (digesting) and checking the meters of the table `installations` row by row.
 use Rattle.std.proofs.Common.{◌≡◌, ℕ, ◌+◌, ◌<◌, Bool, true, false, List, [], ◌∷◌, ◌++◌, map, take, length, get_or, Some, refl, sym, ap, subst, ◌∙◌, append_assoc}
 use Rattle.std.proofs.lemmas.List.{take_more, map-append}
 use Rattle.std.proofs.lemmas.Option.{slice_get-get_or}
@@ -28,7 +28,7 @@ next_sealed content rows i row seals next seal lt is put before one =
 pub there_at : (rows : List Row) (i : ℕ) (row : Row) → i < length rows → row ≡ get_or rows i row → slice_get rows i ≡ Some row
 there_at rows i row lt is = slice_get-get_or rows i row lt ∙ ap (λ (r : Row). let o : _ = Some r in o) (sym is)
 
--- ---- checks of meters against their seals
+-- Lemmas on checks of meters against their seals (digests of earlier entries).
 
 reported_more : (installed : List Row) (content : Content) (seals : List Sealed) (kept : List Bool) (seal : Sealed) (one : Bool)
     → AreReported installed content seals kept → ReportsKept installed seal content one
@@ -60,8 +60,8 @@ next_reported installed content seals i seal old new lt is before one =
 pub none_reported : (installed : List Row) (content : Content) (names : List (List ℕ)) → names ≡ [] → ReportsNames installed [] content names
 none_reported installed content names none = record { kept = []; reported = tt; names_are = none }
 
--- If an index is in a list, then the row at this index does not depend on the look-up's default
--- value.
+-- If an index is in a list of rows, then the row at this index does not depend on the default value
+-- of the lookup.
 pub not_this : (rows : List Row) (i : ℕ) (row x : Row) → i < length rows → row ≡ get_or rows i row → get_or rows i x ≡ x → row ≡ x
 not_this rows i row x lt is at =
     let one : Some (get_or rows i row) ≡ Some (get_or rows i x) = sym (slice_get-get_or rows i row lt) ∙ slice_get-get_or rows i x lt in

@@ -1,4 +1,4 @@
--- Lemmas that combine the results of sealing the meters and of sealing the polls.
+-- Lemmas that combine the results of sealing (digesting) the meters and of sealing the polls.
 use Rattle.std.proofs.Common.{◌≡◌, Option, Some, None, Vec, inl, inr, subst}
 use Rattle.store_tables.specs.Content.{Content}
 use Rattle.table_seals.specs.declared.seals.MeterSeal.{MeterSeal}

@@ -24,7 +24,7 @@ use Rattle.meter_journal.specs.Audit.Rows.{scale_after, table_row, opening_row, 
 use Rattle.table_seals.specs.Laws.{entries_by, is_voided_at, FirstEntriesStay, VoidsStay}
 use Rattle.table_seals.specs.Texts.{entry_line, entries_text}
 
--- ---- the scale factor after an entry
+-- Lemmas on the scale factor after an entry.
 
 sf_after : (stands : Bool) → Entry → ℤ → ℤ
 sf_after false e sf = sf
@@ -69,9 +69,9 @@ rolls_leave last e false sf = refl
 rolls_leave last (Step at raw rolls) true sf = refl
 rolls_leave last (Change at before new scale) true sf = refl
 
--- ---- the digested line of an entry
+-- Lemmas on the line of an entry that a seal digests.
 
--- The digested line of an entry, which leaves out the rollovers of a reading.
+-- The digested line of a meter's entry, which leaves out the rollovers of a reading.
 line_of : (sf : ℤ) (place : ℕ) (k : EntryKind) (e : Entry) (stands : Bool) → List ℕ
 line_of sf place k e stands = entry_line (table_row sf (record { place = place; kind = k; entry = e; stands = stands }))
 
@@ -89,7 +89,8 @@ second_true : (a b : Bool) → a && b ≡ true → b ≡ true
 second_true true b h = h
 second_true false b h = absurd (cc)
 
--- The two entry rows have equal digested lines, and leave the same scale factor for later entries.
+-- States that two entry rows have equal digested lines, and leave the same scale factor for later
+-- entries.
 record ReportsSame (row next : EntryRow) : Type 0 where
   line : (sf : ℤ) → entry_line (table_row sf next) ≡ entry_line (table_row sf row)
   scale : (sf : ℤ) → sf_after next.stands next.entry sf ≡ sf_after row.stands row.entry sf
@@ -113,13 +114,13 @@ rolled_same last row =
           subst (ReportsSame row) (sym made) (record { line = λ sf. refl; scale = λ sf. refl; place = refl; stands = refl })
     ]
 
--- ---- the digested lines of entries, the latest entry first
+-- Lemmas on the digested lines of entries, the latest entry first.
 
 abbrev pub lines_of : Installed → List EntryRow → List (List ℕ)
 lines_of meter rows = map entry_line (later_rows meter rows)
 
--- The two lists of entry rows have equal digested lines, and leave the same scale factor for later
--- entries.
+-- States that two lists of entry rows have equal digested lines, and leave the same scale factor
+-- for later entries.
 record SameLines (meter : Installed) (rows next : List EntryRow) : Type 0 where
   lines : lines_of meter next ≡ lines_of meter rows
   scale : scale_after meter next ≡ scale_after meter rows
@@ -181,7 +182,7 @@ more_lines meter (Voided named ∷ more) lines h =
     let may = all_three around.row.stands (is_read around.row.kind around.row.entry) (is_free around.next) h.0.voidable in
     (rest.0, (void_lines meter named (rows_of meter.opening (more ++ lines)) around h.0.there may.1).lines ∙ rest.1)
 
--- ---- the digested text of entries, the opening first
+-- Lemmas on the digested text of entries, the opening (the first entry) first.
 
 map_reverse : {A B : Type 0} (f : A → B) (xs : List A) → map f (reverse xs) ≡ reverse (map f xs)
 map_reverse f [] = refl
@@ -224,7 +225,7 @@ first_entries meter more lines well h =
     (sym (take-map entry_line (length old) now) ∙ ap (λ n. take n (map entry_line now)) (sym many)
     ∙ ap (λ ls. take (length (map entry_line old)) ls) all.1 ∙ take-append_seam (map entry_line old) all.0)
 
--- ---- void records in a journal
+-- Lemmas on void (cancellation) records in a meter's journal (its history).
 
 or_keeps : (a b c d : Bool) → (a ≡ true → c ≡ true) → (b ≡ true → d ≡ true) → (a || b) ≡ true → (c || d) ≡ true
 or_keeps a b true d f g h = refl
@@ -234,7 +235,7 @@ or_keeps false b false d f g h = g h
 abbrev at_place : ℕ → TableRow → Bool
 at_place place entry = (entry.place == place) && entry.is_voided
 
--- Whether a list of entry rows has a voided entry at the index `place`.
+-- Whether a list of entry rows has a voided (cancelled) entry at the index `place`.
 abbrev struck_at : ℕ → List EntryRow → Bool
 struck_at place rows = list_any (λ row. (row.place == place) && not row.stands) rows
 

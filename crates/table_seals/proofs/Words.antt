@@ -44,7 +44,8 @@ is_free (b ∷ bs) end h le zero lt e =
 is_free (b ∷ bs) end h le (suc i) lt e =
     is_free bs end (both_true (nat_lt 32 b) (is_word bs) h).1 le i (omega (arith, lt)) e
 
--- ---- decimal numbers and hexadecimal digests are words
+-- Lemmas that decimal numbers and hexadecimal digests are words, which contain no space and no line
+-- end.
 
 pub decimal_word : (n : ℕ) → n < 2 ^ 64 → is_word (decimal n) ≡ true
 decimal_word =
@@ -63,7 +64,7 @@ hex_word (b ∷ bytes) h =
     and_is _ _ (digit_word (b / 16) (omega (arith, small)))
     (and_is _ _ (digit_word (b % 16) (omega arith)) (hex_word bytes (λ i. h (suc i))))
 
--- ---- the part of a text before a separator
+-- Lemmas on the part of a text before a separator.
 
 pub stripped : (before text rest : List ℕ) → StripsPrefix (FindsTextPrefix before) text rest → text ≡ before ++ rest
 stripped before text rest h = h.1.1 ∙ ap (λ t. before ++ t) (sym h.2)
@@ -74,7 +75,7 @@ strip_reads before text rest following h is = append_cancel_left before rest fol
 pub not_stripped : (before text following : List ℕ) → FindsTextPrefix before text None → text ≡ before ++ following → ⊥
 not_stripped before text following h is = h following is
 
--- ---- parsing a word, a number or a digest up to its end character
+-- Lemmas on parsing a word, a number or a digest up to its end character.
 
 pub split_reads : (end : ℕ) (text word following : List ℕ) (r : Option (Bor (List ℕ) × Bor (List ℕ))) → IsSplitOnceResult end text r → end ≤ 32
     → is_word word ≡ true → text ≡ word ++ end ∷ following → IsSomeAnd r (λ found. (found.0.now ≡ word) × (found.1.now ≡ following))
@@ -91,7 +92,7 @@ pub parts_are : (before text rest : List ℕ) (end : ℕ) (r : Option (Bor (List
 parts_are before text rest end None is h = tt
 parts_are before text rest end (Some x) is h = is ∙ ap (λ t. before ++ t) h ∙ sym (append_assoc before x.0.now (end ∷ x.1.now))
 
--- ---- the text after a separator is valid UTF-8
+-- Lemmas that the text after a separator is valid UTF-8.
 
 utf8_after : (text front following : List ℕ) (end : ℕ) → IsUtf8 text → text ≡ front ++ end ∷ following → end ≤ 32 → IsUtf8 following
 utf8_after text front following end u is le =
@@ -106,7 +107,7 @@ pub utf8_parts : (text before : List ℕ) (end : ℕ) (r : Option (Bor (List ℕ
 utf8_parts text before end None u le h = tt
 utf8_parts text before end (Some x) u le h = utf8_after text (before ++ x.0.now) x.1.now end u h le
 
--- ---- parsing a hexadecimal digest
+-- Lemmas on parsing a hexadecimal digest.
 
 pub decoded : (word all : List ℕ) (room : ℕ) → word ≡ encode_lower all → room ≡ 32 → length all ≡ 32 → IsBytes all → decode_sized word room ≡ Ok all
 decoded word all room is long same bytes =

@@ -16,13 +16,14 @@ use Rattle.table_seals.specs.Tables.{HasTerms, HasRead}
 use Rattle.table_seals.specs.Texts.{entries_text}
 
 -- A row of `installations` has the meter, the accounting register and the ceiling (maximum power)
--- that a seal names.
+-- that a seal (digests of earlier records) names.
 abbrev pub IsInstalled : List Row → Sealed → Type 0
 IsInstalled installed seal =
     Any (λ row. HasTerms row seal.meter seal.register seal.ceiling) installed
 
--- The meter's first entries have the sealed digest, its counter has the sealed range, and all
--- sealed void records still exist. Further entries and void records may follow.
+-- The meter's first entries have the digest that its seal states, its counter has the sealed range,
+-- and all sealed void (cancellation) records still exist. Further entries and void records may
+-- follow.
 pub record HasSealed (rows : MeterRows) (seal : Sealed) : Type 0 where
   pub voids : List ℕ
   pub all_entries : List TableRow
@@ -32,7 +33,8 @@ pub record HasSealed (rows : MeterRows) (seal : Sealed) : Type 0 where
   pub still : list_all (λ place. is_named voids place) seal.voids ≡ true
 
 -- The tables still match a meter's seal, a digest of earlier entries. They have the sealed
--- register, ceiling and range, the sealed first entries, and the sealed void records.
+-- register, maximum power and range, the sealed first entries, and the sealed void (cancellation)
+-- records.
 abbrev pub Keeps : List Row → MeterRows → Sealed → Type 0
 Keeps installed rows seal = IsInstalled installed seal × HasSealed rows seal
 
@@ -75,7 +77,7 @@ differing (seal ∷ seals) [] = []
 differing (seal ∷ seals) (kept ∷ others) = unless_kept kept seal.meter ++ differing seals others
 
 -- `names` has the names of the meters that don't match their seals (digests of earlier entries),
--- given these rows of `installations`.
+-- for the given rows of `installations`.
 pub record ReportsNames (installed : List Row) (seals : List Sealed) (content : Content)
     (names : List (List ℕ)) : Type 0 where
   pub kept : List Bool
@@ -90,8 +92,8 @@ pub record ReportsMeters (seals : List Sealed) (content : Content) (names : List
     pub shown : ShowsInstallations content installed
     pub reports : ReportsNames installed seals content names
 
--- The result of checking a file against its seal. It has the meters that don't match the seal,
--- whether the polls differ from it, and the number of sealed meters.
+-- The result of checking a file against its seal (digests of earlier records). It has the meters
+-- that don't match the seal, whether the polls differ from it, and the number of sealed meters.
 pub record ReportsTables (seal : SealedTables) (content : Content) (checked : Checked) : Type 0 where
   pub meters : ReportsMeters seal.meters content (map string_bytes checked.differing.items)
   pub polls : ReportsPolls seal.polls content checked.polls_differ

@@ -16,8 +16,8 @@ use Rattle.table_audit.specs.Showing.{ShowsInstallations}
 use Rattle.table_seals.specs.declared.filed.FiledMeter.{FiledMeter}
 use Rattle.table_seals.specs.Tables.{HasRead}
 
--- The state of a meter in its row of `installations`: its last entry, its total energy, and whether
--- the meter was closed.
+-- The state of a meter in the meter's row of `installations`: the last entry, the total energy, and
+-- whether the meter was closed.
 abbrev pub standing_in : InstallationRow → Standing
 standing_in row = record {
   last = last_in row.last;
@@ -69,7 +69,7 @@ AreFiled file content (row ∷ rows) (filed ∷ others) =
 AreFiled file content [] (filed ∷ others) = ⊥
 AreFiled file content (row ∷ rows) [] = ⊥
 
--- One of these rows of `installations` has a meter with a value that can't be read.
+-- True if one of the rows of `installations` has a meter with a value that can't be read.
 abbrev pub HasUnfiled : (file : List ℕ) → List Row → Content → Type 0
 HasUnfiled file rows content =
     (i : ℕ) × (row : Row) × (slice_get rows i ≡ Some row) × FilesRow file content row None
@@ -81,7 +81,7 @@ abbrev pub FilesRows : {Z : Type 0} → (file : List ℕ) → List Row → Conte
 FilesRows file rows content None = HasUnfiled file rows content
 FilesRows file rows content (Some filed) = AreFiled file content rows filed.items
 
--- The tables have a meter with a value that can't be read.
+-- True if the tables have a meter with a value that can't be read.
 pub record HasUnfiledMeter (file : List ℕ) (content : Content) : Type 0 where
   pub rows : List Row
   pub shown : ShowsInstallations content rows

@@ -1,5 +1,6 @@
 -- Defines an ordered set of the terms of all installed meters, which makes looking up a sealed
--- meter fast. The terms are a meter's name, accounting register and ceiling (maximum power).
+-- meter fast. The terms are a meter's name, accounting register (an energy counter) and ceiling
+-- (maximum power).
 use Rattle.std.specs.Prelude.{◌≡◌, ◌↔◌, ◌⊎◌, ◌++◌, ◌∷◌, [], Bool, ℕ, List, Some, IsTrue, Any, string_bytes}
 use Rattle.std.specs.BTreeSet.{BTreeSet, contains}
 use Rattle.std.specs.Cmp.Lexicographic.{slice_cmp}
@@ -13,68 +14,70 @@ use Rattle.table_seals.specs.Sealed.{Sealed}
 use Rattle.table_seals.specs.Tables.{TermsAreRead}
 use Rattle.table_seals.specs.declared.tables.Terms.{Terms}
 
--- ---- an ordered set of the terms of meters
-
--- The order of terms: first by the bytes of the meter's name, then by the bytes of the register's
--- name, then by ceiling.
+-- The order of meters' terms: first by the bytes of the meter's name, then by the bytes of the
+-- register's name, then by maximum power.
 abbrev pub terms_cmp : Terms → Terms → Ordering
 terms_cmp = then_cmp (on (λ terms. string_bytes terms.meter) (slice_cmp nat_cmp))
     (then_cmp (on (λ terms. string_bytes terms.register) (slice_cmp nat_cmp))
     (on (λ terms. terms.ceiling) nat_cmp))
 
--- Whether the ordered set `known` contains `terms`.
+-- Whether the ordered set `known` contains `terms`, the name, register and maximum power of a
+-- meter.
 abbrev pub has_terms : BTreeSet Terms → Terms → Bool
 has_terms known terms = contains terms_cmp known terms
 
--- The two terms have equal meter names, accounting registers and ceilings.
+-- States that the terms of two meters are equal: their names, accounting registers (energy
+-- counters) and maximum powers.
 pub record AreSame (terms other : Terms) : Type 0 where
   pub meter : string_bytes terms.meter ≡ string_bytes other.meter
   pub register : string_bytes terms.register ≡ string_bytes other.register
   pub ceiling : terms.ceiling ≡ other.ceiling
 
--- The set `new` has exactly the terms of the set `old` and `terms`.
+-- The set `new` has exactly the terms of the set `old` and `terms`. The terms are a meter's name,
+-- register and maximum power.
 abbrev pub AddsTerms : Terms → (old new : BTreeSet Terms) → Type 0
 AddsTerms terms old new = (other : Terms)
     → IsTrue (has_terms new other) ↔ (AreSame terms other ⊎ IsTrue (has_terms old other))
 
--- The set has exactly the terms (name, register, ceiling) of these rows of `installations`.
+-- The set has exactly the terms (name, register, maximum power) of the given rows of
+-- `installations`.
 abbrev pub AreTermsOf : List Row → BTreeSet Terms → Type 0
 AreTermsOf rows known = (terms : Terms)
     → IsTrue (has_terms known terms) ↔ Any (λ row. TermsAreRead row (Some terms)) rows
 
--- If the set `old` has the terms of some rows, then the set `new` has the terms of these rows and
--- of one more row of `installations`.
+-- Suppose that the set `old` has the terms (name, register, maximum power) of some rows. Then the
+-- set `new` also has the terms of one more row of `installations`.
 abbrev pub AddsTermsOf : Row → (old new : BTreeSet Terms) → Type 0
 AddsTermsOf row old new = (rows : List Row) → AreTermsOf rows old
     → AreTermsOf (rows ++ row ∷ []) new
 
--- ---- results of checking a seal that use the set of terms
-
--- `there` is true if and only if a meter is installed with the sealed terms.
+-- `there` is true if and only if a meter is installed with the name, register and maximum power
+-- that a seal states.
 abbrev pub ReportsInstalled : BTreeSet Terms → Sealed → (there : Bool) → Type 0
 ReportsInstalled known seal there = (installed : List Row) → AreTermsOf installed known
     → IsTrue there ↔ IsInstalled installed seal
 
--- `kept` is true if and only if a meter's rows match its seal, and the set has the terms in this
--- seal.
+-- `kept` is true if and only if a meter's rows match its seal (a digest of earlier entries), and
+-- the set has the sealed terms. The terms are name, register and maximum power.
 abbrev pub KeepsAt : BTreeSet Terms → MeterRows → Sealed → (kept : Bool) → Type 0
 KeepsAt known rows seal kept = (installed : List Row) → AreTermsOf installed known
     → IsTrue kept ↔ Keeps installed rows seal
 
--- `kept` is true if and only if the tables match a meter's seal. The set `known` has the terms
--- (name, register, ceiling) of all rows of `installations`.
+-- `kept` is true if and only if the tables match a meter's seal (digests of earlier records). The
+-- set `known` has the terms (name, register, maximum power) of all rows of `installations`.
 abbrev pub ReportsKeptAt : BTreeSet Terms → Sealed → Content → (kept : Bool) → Type 0
 ReportsKeptAt known seal content kept = (installed : List Row) → AreTermsOf installed known
     → ReportsKept installed seal content kept
 
 -- Checking a meter appends the meter's name to a list if and only if the tables don't match its
--- seal. The set `known` has the terms (name, register, ceiling) of all rows of `installations`.
+-- seal (digests of earlier records). The set `known` has the terms (name, register, maximum power)
+-- of all rows of `installations`.
 abbrev pub ReportsMeterAt : BTreeSet Terms → Sealed → Content → (old new : List (List ℕ)) → Type 0
 ReportsMeterAt known seal content old new = (installed : List Row) → AreTermsOf installed known
     → ReportsMeter installed seal content old new
 
--- `names` has the names of the meters that don't match their seals. The set `known` has the terms
--- (name, register, ceiling) of all rows of `installations`.
+-- `names` has the names of the meters that don't match their seals (digests of earlier records).
+-- The set `known` has the terms (name, register, maximum power) of all rows of `installations`.
 abbrev pub ReportsNamesAt : BTreeSet Terms → List Sealed → Content → (names : List (List ℕ))
     → Type 0
 ReportsNamesAt known seals content names = (installed : List Row) → AreTermsOf installed known

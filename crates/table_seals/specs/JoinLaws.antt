@@ -16,8 +16,8 @@ use Rattle.table_seals.specs.declared.filed.FiledMeter.{FiledMeter}
 use Rattle.table_seals.specs.Filing.{IsFiledAs}
 use Rattle.table_seals.specs.Joins.{Known, known_with, joins_by, joins_of_all, is_meter, is_within}
 
--- The meter `old` of an earlier file continues as the meter `new` at the same accounting register.
--- The meter's total energy in all files is within the limit of one meter.
+-- The meter `old` of an earlier file continues as the meter `new` at the same accounting register
+-- (an energy counter). The meter's total energy in all files is within the limit of one meter.
 pub record MeterGoesOn (known : List FiledMeter) (old new : FiledMeter) : Type 0 where
   pub goes_on : GoesOnAs old.installed old.standing.last old.standing.is_ended new.installed
   pub register : string_bytes new.register ≡ string_bytes old.register
@@ -29,8 +29,6 @@ abbrev pub JoinedMetersGoOn : Type 0
 JoinedMetersGoOn = (known : List FiledMeter) (old new : FiledMeter)
     → (joins_by known new (Some old) ≡ []) ↔ MeterGoesOn known old new
 
--- ---- the files of a meter that continues from file to file
-
 -- The meters with the name `name`, from all files in the list.
 abbrev pub named : (name : List ℕ) → List FiledMeter → List FiledMeter
 named name meters = filter (is_meter name) meters
@@ -40,13 +38,14 @@ abbrev pub energy_of : List FiledMeter → ℕ
 energy_of [] = 0
 energy_of (meter ∷ meters) = meter.standing.total + energy_of meters
 
--- A file has at most one meter of each name, as the table's key ensures. Each meter's total energy
--- is within the limit of one meter.
+-- States that a file has at most one meter of each name, as the table's key ensures. Each meter's
+-- total energy is within the limit of one meter.
 pub record IsOfMeters (file : Known) : Type 0 where
   pub apart : (name : List ℕ) → length (named name file.meters) ≤ 1
   pub totals : AllByRecursion (λ meter. meter.standing.total ≤ MAX_TOTAL) file.meters
 
--- Each meter in the list continues the next meter in the list, which comes from an earlier file.
+-- States that each meter in the list continues the next meter in the list, which is from an earlier
+-- file.
 abbrev pub EachGoesOn : List FiledMeter → Type 0
 EachGoesOn [] = ⊤
 EachGoesOn (new ∷ []) = ⊤
@@ -66,14 +65,13 @@ known_with_all known [] = known
 known_with_all known (next ∷ later) = known_with_all (known_with known next) later
 
 -- Theorem: if the check reports no difference between successive files, then the meters of each
--- name continue from file to file. Each file must satisfy `IsOfMeters`.
+-- name continue from file to file. Each file must have at most one meter of each name, with an
+-- energy within the limit of one meter (`IsOfMeters`).
 abbrev pub JoinedFilesAreOne : Type 0
 JoinedFilesAreOne = (first : Known) (later : List Known) → IsOfMeters first
     → AllByRecursion IsOfMeters later
     → joins_of_all first later ≡ []
     → (name : List ℕ) → IsOneMeter name (known_with_all first later)
-
--- ---- the tables of a meter in several files
 
 -- An audit finds no difference in a meter's tables. The last entry, the total energy and the closed
 -- flag in these tables equal the meter's recorded state.

@@ -20,7 +20,8 @@ pub record Known : Type 0 where
   pub meters : List FiledMeter
   pub latest : ℕ
 
--- Converts an executable `FiledOffice` to the logical record `Known`.
+-- Converts the program's data about database files (`FiledOffice`) to the record `Known` that
+-- contracts and proofs use.
 abbrev pub known_of : FiledOffice → Known
 known_of office = record {
   file = office.file.now;
@@ -29,12 +30,12 @@ known_of office = record {
   latest = office.latest;
 }
 
--- Builds the data about one file from its name, time zone and meters.
+-- Builds the data about one database file from its name, time zone and meters.
 abbrev pub known_as : (file zone : List ℕ) → List FiledMeter → Known
 known_as file zone meters =
     record { file = file; zone = zone; meters = meters; latest = length meters }
 
--- Adds the data about the next file to the data about the earlier files.
+-- Adds the data about the next database file to the data about the earlier files.
 abbrev pub known_with : (known next : Known) → Known
 known_with known next = record {
   file = next.file;
@@ -42,8 +43,6 @@ known_with known next = record {
   meters = next.meters ++ known.meters;
   latest = length next.meters;
 }
-
--- ---- comparing a meter of the next file with the earlier files
 
 -- Whether the meter has the name `name`.
 abbrev pub is_meter : (name : List ℕ) → FiledMeter → Bool
@@ -77,8 +76,8 @@ abbrev pub is_within : (known : List FiledMeter) → (new : FiledMeter) → Bool
 is_within known new = stay_within MAX_TOTAL (string_bytes new.meter) (new ∷ known)
 
 -- The first rule that the continuation of a meter breaks, or None. The earlier meter must be open,
--- with the register, range and ceiling of the new meter. Its last entry must equal the new opening,
--- and the total energy must be within the limit.
+-- with the register, range and ceiling (maximum power) of the new meter. Its last entry must equal
+-- the new opening (first entry), and the total energy must be within the limit.
 abbrev pub fault_between : (within : Bool) → (old new : FiledMeter) → Option JoinFault
 fault_between within old new =
     if old.standing.is_ended then Some Closed else
@@ -89,14 +88,13 @@ fault_between within old new =
     if not (is_same new.installed.opening old.standing.last) then Some Opening else
     if not within then Some Energy else None
 
--- Whether a new meter overlaps an earlier meter at the same accounting register: the new meter's
--- opening is earlier than the last entry of the earlier meter.
+-- Whether a new meter overlaps an earlier meter at the same accounting register (an energy
+-- counter): the new meter's opening (first entry) is earlier than the last entry of the earlier
+-- meter.
 abbrev pub is_beyond : (new old : FiledMeter) → Bool
 is_beyond new old =
     bytes_eq (string_bytes old.register) (string_bytes new.register)
     && nat_lt new.installed.opening.at old.standing.last.at
-
--- ---- the differences between consecutive files
 
 -- A difference by which a file does not continue the earlier files.
 pub data Join : Type 0 where
@@ -115,7 +113,8 @@ joins_by known new (Some old) =
 joins_by known new None =
     option_to_list (option_map (λ old. Overlaps old new) (find (is_beyond new) known))
 
--- The differences between a meter in the next file and the earlier files, or an empty list.
+-- The differences between a meter in the next file and the same meter in the earlier files. The
+-- list is empty if the meter continues.
 abbrev pub joins_of : (known : List FiledMeter) → (new : FiledMeter) → List Join
 joins_of known new = joins_by known new (find (is_meter (string_bytes new.meter)) known)
 
@@ -141,13 +140,13 @@ joins_between known next =
     zone_of known next ++ flat_map (joins_of known.meters) next.meters
     ++ flat_map (missing_of next) (take known.latest known.meters)
 
--- The differences between the next file and the earlier files. The list is empty if there is no
--- earlier file.
+-- The differences between the next file and the earlier files, or an empty list without earlier
+-- files.
 abbrev pub joins_after : Option Known → (next : Known) → List Join
 joins_after None next = []
 joins_after (Some known) next = joins_between known next
 
--- The data about all files, including the next file.
+-- The data about all database files, including the next file.
 abbrev pub after_next : Option Known → (next : Known) → Known
 after_next None next = next
 after_next (Some known) next = known_with known next

@@ -18,7 +18,7 @@ use Rattle.table_seals.specs.Texts.{entries_text}
 abbrev pub entries_by : Installed → Journal → List TableRow
 entries_by meter lines = reverse (table_rows meter (rows_of meter.opening lines))
 
--- Whether the entry at the index `place` is voided.
+-- Whether the entry at the index `place` is voided (cancelled).
 abbrev pub is_voided_at : (place : ℕ) → List TableRow → Bool
 is_voided_at place entries = list_any (λ entry. (entry.place == place) && entry.is_voided) entries
 
@@ -30,8 +30,8 @@ FirstEntriesStay = (meter : Installed) (more lines : Journal) → IsWellInstalle
     → entries_text (take (length (entries_by meter lines)) (entries_by meter (more ++ lines)))
     ≡ entries_text (entries_by meter lines)
 
--- Theorem: if lines are added to a meter's journal (its history), every voided entry is still
--- voided.
+-- Theorem: if lines are added to a meter's journal (its history), every voided (cancelled) entry is
+-- still voided.
 abbrev pub VoidsStay : Type 0
 VoidsStay = (meter : Installed) (more lines : Journal) → IsWellInstalled meter
     → AreFitting meter (more ++ lines) → (place : ℕ)

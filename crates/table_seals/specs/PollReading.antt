@@ -13,8 +13,6 @@ use Rattle.table_seals.specs.declared.poll_values.Ending.{Ending}
 use Rattle.table_seals.specs.declared.poll_values.PollNumbers.{PollNumbers}
 use Rattle.table_seals.specs.Tables.{is_word}
 
--- ---- parsing one row of polls or outcomes
-
 -- Parses the numeric columns of a poll's row. If a column is out of its range, the result is the
 -- fault for damage.
 abbrev pub numbers_in : Row → Result PollNumbers RowFault
@@ -60,8 +58,6 @@ ending_in row =
     and_then (or_damaged (whole_in 0 greatest_place (column row 3))) (λ code.
     Ok (record { poll = poll; moment = moment; kind = kind; code = code })))))
 
--- ---- pairing a poll with its outcome
-
 -- A poll with its device's name and its outcome. A poll without an outcome is pending.
 pub record ReadPoll : Type 0 where
   pub numbers : PollNumbers
@@ -93,11 +89,9 @@ if_numbered number (Ok numbers) (Some device) ending =
     if numbers.number == number
     then Some (record { numbers = numbers; device = device; ending = ending }) else None
 
--- The poll in a row if the row is valid and has the poll number `number`, otherwise None.
+-- The poll in a table row if the row is valid and has the poll number `number`, otherwise None.
 abbrev pub poll_at : (number : ℕ) → Row → Option Ending → Option ReadPoll
 poll_at number row ending = if_numbered number (numbers_in row) (word_in (column row 7)) ending
-
--- ---- the polls in a run of polls
 
 abbrev pub and_more : Option ReadPoll → Option (List ReadPoll) → Option (List ReadPoll)
 and_more None more = None
@@ -112,8 +106,6 @@ polls_in next [] (row ∷ rows) = None
 polls_in next (row ∷ rows) outcomes =
     and_more (poll_at next row (ending_at next outcomes))
     (polls_in (suc next) rows (rows_after (ending_at next outcomes) outcomes))
-
--- ---- the polls in consecutive runs of polls
 
 abbrev pub after : List ReadPoll → Option (List ReadPoll) → Option (List ReadPoll)
 after polls None = None

@@ -1,5 +1,5 @@
--- Defines the seal of the polls in the tables, and the check of the polls against a seal. A run of
--- polls has `RUN` consecutive poll numbers.
+-- Defines the seal (digests of earlier records) of the polls in the tables, and the check of the
+-- polls against a seal. A run of polls has `RUN` consecutive poll numbers.
 use Rattle.std.specs.Prelude.{⊤, ◌≡◌, ◌≤◌, ◌↔◌, ◌+◌, ◌*◌, ◌++◌, ℕ, Bool, true, false, List, length, Option, Some, None, Ok, Err, Result, IfSome, unwrap_or}
 use Rattle.sha2.specs.declared.Sha256.{Sha256}
 use Rattle.sha2.specs.Hashers.{Holds256}
@@ -18,8 +18,6 @@ use Rattle.table_seals.specs.PollReading.{ReadPoll, polls_in, polls_of}
 use Rattle.table_seals.specs.PollTexts.{polls_text, polls_text_then, text_then, pending_of, pending_among}
 use Rattle.table_seals.specs.Sealed.{SealedPolls, sealed_polls_of}
 
--- ---- the polls in the tables
-
 -- `polls` are the polls of all runs of `RUN` numbers, up to the run of the last poll. None means
 -- that a row is invalid.
 pub record ReadsRuns (last : ℕ) (content : Content) (polls : Option (List ReadPoll)) : Type 0 where
@@ -28,8 +26,8 @@ pub record ReadsRuns (last : ℕ) (content : Content) (polls : Option (List Read
   pub read : polls_of runs ≡ polls
   pub all : IfSome polls (λ _. last ≤ length runs * RUN)
 
--- `polls` has the polls up to the greatest poll number that a query found; empty if the tables have
--- no polls. If the greatest number is out of range, the polls can't be read.
+-- `polls` has the polls up to the greatest poll number that a query found. The list is empty if the
+-- tables have no polls. If the greatest number is out of range, the polls can't be read.
 abbrev pub ReadsUpTo : Result (Option ℕ) RowFault → Content → Option (List ReadPoll) → Type 0
 ReadsUpTo (Ok last) content polls = ReadsRuns (unwrap_or last 0) content polls
 ReadsUpTo (Err e) content polls = polls ≡ None
@@ -41,16 +39,14 @@ pub record ReadsPolls (content : Content) (polls : Option (List ReadPoll)) : Typ
   pub shown : ShowsLast content rows
   pub reads : ReadsUpTo (first_in 1 greatest_place rows) content polls
 
--- ---- the seal of the polls in the tables
-
--- The seal has the number of these polls, the SHA-256 digest of their text, and the numbers of the
--- pending polls.
+-- The polls' seal has the number of the polls, the SHA-256 digest of their text, and the numbers of
+-- the pending polls.
 pub record IsSealOfPolls (polls : List ReadPoll) (sealed : SealedPolls) : Type 0 where
   pub count : sealed.count ≡ length polls
   pub digest_is : sealed.digest ≡ sha256 (polls_text polls)
   pub pending_are : sealed.pending ≡ pending_among polls
 
--- The result is the seal of these polls, which has a digest of their text. None means that the
+-- The result is the seal of the given polls, which has a digest of their text. None means that the
 -- polls can't be read.
 abbrev pub ArePollsSealed : Option (List ReadPoll) → Option PollSeal → Type 0
 ArePollsSealed None None = ⊤
@@ -65,10 +61,8 @@ pub record SealsPolls (content : Content) (found : Option PollSeal) : Type 0 whe
   pub reads : ReadsPolls content polls
   pub are_sealed : ArePollsSealed polls found
 
--- ---- checking polls against their seal
-
--- The tables have at least the sealed number of polls, and the text that these polls had at sealing
--- time has the sealed digest. Polls that were pending may have an outcome by now.
+-- The tables have at least the sealed number of polls. The sealed digest is that of the text that
+-- these polls had when they were sealed. Polls that were pending may have an outcome by now.
 pub record HasSealedPolls (polls : List ReadPoll) (sealed : SealedPolls) : Type 0 where
   pub enough : sealed.count ≤ length polls
   pub same : sha256 (polls_text_then sealed.count sealed.pending polls) ≡ sealed.digest
@@ -85,10 +79,8 @@ pub record ReportsPolls (sealed : SealedPolls) (content : Content) (differ : Boo
   pub reads : ReadsPolls content polls
   pub reported : (differ ≡ false) ↔ KeepsPolls polls sealed
 
--- ---- intermediate results of digesting the polls in the tables
-
--- The text that the poll had at sealing time was appended. If the poll is pending now, its number
--- was appended too. False means that the poll can't be read.
+-- The text that the poll had when it was sealed (digested) was appended. If the poll is pending
+-- now, its number was appended too. False means that the poll can't be read.
 abbrev pub PutsPoll : (last : ℕ) → (hidden : List ℕ) → Option ReadPoll
     → (old new old_pending new_pending : List ℕ) → Bool → Type 0
 PutsPoll last hidden poll old new old_pending new_pending false = poll ≡ None
@@ -96,8 +88,8 @@ PutsPoll last hidden poll old new old_pending new_pending true =
     (read : ReadPoll) × (poll ≡ Some read) × (new ≡ old ++ text_then last hidden read)
     × (new_pending ≡ old_pending ++ pending_of read)
 
--- The texts that a run of `RUN` polls had at sealing time were appended. The numbers of the polls
--- pending now were appended too.
+-- The texts that a run of `RUN` polls had when they were sealed (digested) were appended. The
+-- numbers of the polls pending now were appended too.
 pub record PutsPolls (last : ℕ) (hidden : List ℕ) (first next : ℕ) (rows outcomes : List Row)
     (old new old_pending new_pending : List ℕ) : Type 0 where
   pub polls : List ReadPoll
@@ -115,7 +107,7 @@ PutsRows last hidden first rows outcomes old new old_pending new_pending None =
 PutsRows last hidden first rows outcomes old new old_pending new_pending (Some next) =
     PutsPolls last hidden first next rows outcomes old new old_pending new_pending
 
--- The texts that a run of `RUN` polls had at sealing time were added to a SHA-256 hasher. The
+-- The texts that a run of `RUN` polls had when they were sealed were added to a SHA-256 hasher. The
 -- numbers of the polls pending now were appended to a list.
 pub record AddsPolls (last : ℕ) (hidden : List ℕ) (first next : ℕ) (rows : RunRows)
     (old new : Sha256) (old_pending new_pending : List ℕ) : Type 0 where
@@ -142,15 +134,15 @@ pub record LooksAtRun (run last : ℕ) (hidden : List ℕ) (first : ℕ) (old ne
   pub theirs : AreRowsOfRun run content rows
   pub adds : AddsRun last hidden first rows old new old_pending new_pending found
 
--- The result has the number of polls, the SHA-256 digest of their text at sealing time, and the
--- numbers of the polls pending now.
+-- The result has the number of polls, the SHA-256 digest of their text when they were sealed, and
+-- the numbers of the pending polls.
 abbrev pub IsDigested : (last : ℕ) → (hidden : List ℕ) → List ReadPoll → SealedPolls → Type 0
 IsDigested last hidden polls found =
     (found.count ≡ length polls)
     × (found.digest ≡ sha256 (polls_text_then last hidden polls))
     × (found.pending ≡ pending_among polls)
 
--- The result is the digest of these polls. None means that the polls can't be read.
+-- The result is the digest of the given polls. None means that the polls can't be read.
 abbrev pub AreDigested : (last : ℕ) → (hidden : List ℕ) → Option (List ReadPoll) → Option PollSeal
     → Type 0
 AreDigested last hidden None None = ⊤
@@ -174,7 +166,7 @@ pub record DigestsPolls (last : ℕ) (hidden : List ℕ) (content : Content) (fo
   pub digested : AreDigested last hidden polls found
 
 -- The tables have at least the sealed number of polls. The digest of the text that these polls had
--- at sealing time equals the sealed digest.
+-- when they were sealed equals the sealed digest.
 abbrev pub AreAsSealed : Option PollSeal → SealedPolls → Type 0
 AreAsSealed None sealed = ⊥
 AreAsSealed (Some found) sealed = (sealed.count ≤ found.count) × (found.digest ≡ sealed.digest)

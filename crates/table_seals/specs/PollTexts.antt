@@ -33,15 +33,13 @@ poll_text poll = poll_line poll.numbers poll.device ++ ending_text poll.ending
 abbrev pub polls_text : List ReadPoll → List ℕ
 polls_text polls = flat_map poll_text polls
 
--- ---- the text that polls had at sealing time
-
--- The outcome that a poll had at sealing time. None if the poll was pending then.
+-- The outcome that a poll had when it was sealed (digested). None if the poll was pending then.
 abbrev pub unless_pending : Bool → Option Ending → Option Ending
 unless_pending true ending = None
 unless_pending false ending = ending
 
--- The text that a poll had at sealing time, when the polls in `pending` had no outcome. The text is
--- empty if the poll's number is greater than `last`.
+-- The text that a poll had when it was sealed (digested), when the polls in `pending` had no
+-- outcome. The text is empty if the poll's number is greater than `last`.
 abbrev pub text_then : (last : ℕ) → (pending : List ℕ) → ReadPoll → List ℕ
 text_then last pending poll =
     if nat_le poll.numbers.number last
@@ -49,12 +47,10 @@ text_then last pending poll =
     ++ ending_text (unless_pending (is_named pending poll.numbers.number) poll.ending)
     else []
 
--- The text that all polls up to the number `last` had at sealing time, when the polls in `pending`
--- had no outcome.
+-- The text that all polls up to the number `last` had when they were sealed (digested), when the
+-- polls in `pending` had no outcome.
 abbrev pub polls_text_then : (last : ℕ) → (pending : List ℕ) → List ReadPoll → List ℕ
 polls_text_then last pending polls = flat_map (text_then last pending) polls
-
--- ---- the numbers of polls without an outcome
 
 abbrev pub unless_ended : (number : ℕ) → Option Ending → List ℕ
 unless_ended number None = number ∷ []

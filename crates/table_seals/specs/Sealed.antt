@@ -1,11 +1,11 @@
--- Logical records of a seal's values, for contracts and proofs.
+-- The values of a seal (digests of a file's records), as contracts and proofs use them.
 use Rattle.std.specs.Prelude.{ℕ, List, map, string_bytes}
 use Rattle.table_seals.specs.declared.seals.MeterSeal.{MeterSeal}
 use Rattle.table_seals.specs.declared.seals.PollSeal.{PollSeal}
 use Rattle.table_seals.specs.declared.seals.Seal.{Seal}
 
--- The seal of a meter: its name, accounting register, range and ceiling, its entries' number and
--- digest, and the indices of its voided entries.
+-- The seal of a meter: its name, accounting register, range and ceiling (maximum power), its
+-- entries' number and digest, and the indices of its voided (cancelled) entries.
 pub record Sealed : Type 0 where
   pub meter : List ℕ
   pub register : List ℕ
@@ -15,7 +15,7 @@ pub record Sealed : Type 0 where
   pub digest : List ℕ
   pub voids : List ℕ
 
--- Converts an executable `MeterSeal` to the logical record `Sealed`.
+-- Converts the program's `MeterSeal` to the record `Sealed` that contracts and proofs use.
 abbrev pub sealed_of : MeterSeal → Sealed
 sealed_of seal = record {
   meter = string_bytes seal.meter;
@@ -33,7 +33,7 @@ pub record SealedPolls : Type 0 where
   pub digest : List ℕ
   pub pending : List ℕ
 
--- Converts an executable `PollSeal` to the logical record `SealedPolls`.
+-- Converts the program's `PollSeal` to the record `SealedPolls` that contracts and proofs use.
 abbrev pub sealed_polls_of : PollSeal → SealedPolls
 sealed_polls_of seal = record {
   count = seal.count;
@@ -41,12 +41,13 @@ sealed_polls_of seal = record {
   pending = seal.pending.items;
 }
 
--- The seal of a file: the seals of its meters in order of index, and the seal of its polls.
+-- The seal (digests of earlier records) of a file: the seals of its meters in order of index, and
+-- the seal of its polls.
 pub record SealedTables : Type 0 where
   pub meters : List Sealed
   pub polls : SealedPolls
 
--- Converts an executable `Seal` to the logical record `SealedTables`.
+-- Converts the program's `Seal` to the record `SealedTables` that contracts and proofs use.
 abbrev pub sealed_tables_of : Seal → SealedTables
 sealed_tables_of seal = record {
   meters = map sealed_of seal.meters.items;

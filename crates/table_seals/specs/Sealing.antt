@@ -26,8 +26,8 @@ pub record IsSealOf (row : Row) (rows : MeterRows) (seal : Sealed) : Type 0 wher
   pub count : seal.entries ≡ length all_entries
   pub digest_is : seal.digest ≡ sha256 (entries_text all_entries)
 
--- The result is the seal (a digest of the entries) of the meter with these rows. None means that
--- the meter can't be sealed.
+-- The result is the seal (a digest of the entries) of the meter with the given rows. None means
+-- that the meter can't be sealed.
 abbrev pub IsSealed : Row → MeterRows → Option MeterSeal → Type 0
 IsSealed row rows None = (seal : Sealed) → IsSealOf row rows seal → ⊥
 IsSealed row rows (Some seal) = IsSealOf row rows (sealed_of seal)
@@ -55,7 +55,7 @@ AreSealed content (row ∷ rows) (seal ∷ seals) =
 AreSealed content [] (seal ∷ seals) = ⊥
 AreSealed content (row ∷ rows) [] = ⊥
 
--- One of these rows of `installations` has a meter that can't be sealed.
+-- True if one of the rows of `installations` has a meter that can't be sealed (digested).
 abbrev pub HasUnsealed : List Row → Content → Type 0
 HasUnsealed rows content =
     (i : ℕ) × (row : Row) × (slice_get rows i ≡ Some row) × SealsRow content row None
@@ -74,13 +74,14 @@ pub record SealsMeters {Z : Type 0} (content : Content) (found : Option (Vec Met
   pub shown : ShowsInstallations content rows
   pub sealed : SealsRows rows content found
 
--- The tables have a meter that can't be sealed.
+-- True if the tables have a meter that can't be sealed (digested).
 pub record HasUnsealedMeter (content : Content) : Type 0 where
   pub rows : List Row
   pub shown : ShowsInstallations content rows
   pub unsealed : HasUnsealed rows content
 
--- The tables can't be sealed: a meter can't be sealed, or the polls can't be read.
+-- True if the tables can't be sealed (digested): a meter can't be sealed, or the polls can't be
+-- read.
 abbrev pub CannotBeSealed : Content → Type 0
 CannotBeSealed content = HasUnsealedMeter content ⊎ SealsPolls content None
 

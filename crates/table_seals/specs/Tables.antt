@@ -1,4 +1,4 @@
--- Defines the values of a meter's rows that a seal covers.
+-- Defines the values of a meter's rows that a seal (digests of earlier records) covers.
 use Rattle.std.specs.Prelude.{◌≡◌, ℕ, nat_lt, Bool, List, [], ◌∷◌, Option, Some, None, Ok, string_bytes, IsUtf8}
 use Rattle.std.specs.List.{list_all}
 use Rattle.energy_core.specs.declared.limits.TheConstants.{MAX_CEILING}
@@ -11,7 +11,8 @@ use Rattle.table_audit.specs.Reading.{entry_in, place_in, range_in, all_in}
 use Rattle.table_seals.specs.declared.tables.ReadRows.{ReadRows}
 use Rattle.table_seals.specs.declared.tables.Terms.{Terms}
 
--- The row of `installations` has this meter's name, accounting register and ceiling.
+-- States that the row of `installations` has the given name, accounting register (an energy
+-- counter) and maximum power of a meter.
 pub record HasTerms (row : Row) (meter register : List ℕ) (ceiling : ℕ) : Type 0 where
   pub meter_is : column row 1 ≡ Text meter
   pub register_is : column row 2 ≡ Text register
@@ -19,16 +20,16 @@ pub record HasTerms (row : Row) (meter register : List ℕ) (ceiling : ℕ) : Ty
   pub meter_text : IsUtf8 meter
   pub register_text : IsUtf8 register
 
--- The result has the terms (name, register, ceiling) of an `installations` row. None means that one
--- of its values is invalid.
+-- The result has the terms (name, register, maximum power) of an `installations` row. None means
+-- that one of its values is invalid.
 abbrev pub TermsAreRead : Row → Option Terms → Type 0
 TermsAreRead row None = (meter register : List ℕ) (ceiling : ℕ)
     → HasTerms row meter register ceiling → ⊥
 TermsAreRead row (Some terms) =
     HasTerms row (string_bytes terms.meter) (string_bytes terms.register) terms.ceiling
 
--- The rows of a meter are valid. They have exactly one counter range, `range`, and exactly these
--- void records and entries.
+-- States that the rows of a meter are valid, with exactly one counter range, `range`, and exactly
+-- the given void (cancellation) records and entries.
 pub record HasRead (rows : MeterRows) (range : ℕ) (voids : List ℕ) (entries : List TableRow) :
     Type 0 where
   pub range_read : all_in range_in rows.ranges.items ≡ Ok (range ∷ [])

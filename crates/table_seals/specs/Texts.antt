@@ -12,8 +12,6 @@ use Rattle.table_seals.specs.declared.checks.Checked.{Checked}
 use Rattle.table_seals.specs.declared.seals.MeterSeal.{MeterSeal}
 use Rattle.table_seals.specs.Sealed.{Sealed, SealedPolls, SealedTables, sealed_of}
 
--- ---- the digested text of a meter's entries
-
 -- The word for the kind of a meter entry in the digested text, such as `opening`.
 abbrev pub kind_word : RowKind → List ℕ
 kind_word Opening = codes " opening "
@@ -23,8 +21,8 @@ kind_word Closing = codes " closing "
 kind_word Reset = codes " reset "
 kind_word Rescale = codes " rescale "
 
--- The counter rollovers of an entry that a person entered. Empty for a reading, since voiding the
--- previous entry changes the rollovers of a reading.
+-- The counter rollovers of an entry that a person entered. Empty for a reading, since voiding
+-- (cancelling) the previous entry changes the rollovers of a reading.
 abbrev pub own_rolls : RowKind → ℕ → List ℕ
 own_rolls Opening rolls = codes " " ++ decimal rolls
 own_rolls Reading rolls = []
@@ -33,8 +31,8 @@ own_rolls Closing rolls = codes " " ++ decimal rolls
 own_rolls Reset rolls = codes " " ++ decimal rolls
 own_rolls Rescale rolls = codes " " ++ decimal rolls
 
--- The digested line of an entry: PLACE KIND MOMENT RAW AFTER SF, and ROLLS for all kinds except
--- readings. It does not show whether the entry is voided.
+-- The digested line of a meter's entry: PLACE KIND MOMENT RAW AFTER SF, and ROLLS for all kinds
+-- except readings. The line does not show whether the entry is voided (cancelled).
 abbrev pub entry_line : TableRow → List ℕ
 entry_line entry =
     decimal entry.place ++ kind_word entry.kind ++ decimal entry.moment ++ codes " "
@@ -45,20 +43,21 @@ entry_line entry =
 abbrev pub entries_text : List TableRow → List ℕ
 entries_text entries = flat_map entry_line entries
 
--- ---- the text of a seal
-
--- The line `meter` of a seal, with all values of the meter's seal except its void records.
+-- The line `meter` of a seal (digests of earlier records), with all values of the meter's seal
+-- except its void (cancellation) records.
 abbrev pub meter_line : Sealed → List ℕ
 meter_line seal =
     codes "meter " ++ seal.meter ++ codes " at " ++ seal.register ++ codes " range "
     ++ decimal seal.range ++ codes " ceiling " ++ decimal seal.ceiling ++ codes " entries "
     ++ decimal seal.entries ++ codes " sha256 " ++ encode_lower seal.digest ++ codes "\n"
 
--- The line `void` of a seal, with a meter's name and the index of its voided entry.
+-- The line `void` of a seal (digests of earlier records), with a meter's name and the index of its
+-- voided (cancelled) entry.
 abbrev pub void_line : (meter : List ℕ) → (place : ℕ) → List ℕ
 void_line meter place = codes "void " ++ meter ++ codes " " ++ decimal place ++ codes "\n"
 
--- The lines of a meter's seal: the line `meter`, and a line for each voided entry.
+-- The lines of a meter's seal (digests of earlier records): the line `meter`, and a line for each
+-- voided (cancelled) entry.
 abbrev pub meter_text : Sealed → List ℕ
 meter_text seal = meter_line seal ++ flat_map (void_line seal.meter) seal.voids
 
@@ -68,11 +67,13 @@ polls_line seal =
     codes "polls " ++ decimal seal.count ++ codes " sha256 " ++ encode_lower seal.digest
     ++ codes "\n"
 
--- The line `pending` of a seal, with the number of a poll without an outcome.
+-- The line `pending` of a seal (digests of earlier records), with the number of a poll without an
+-- outcome.
 abbrev pub pending_line : (poll : ℕ) → List ℕ
 pending_line poll = codes "pending " ++ decimal poll ++ codes "\n"
 
--- The lines of the polls' seal: the line `polls`, and a line for each pending poll.
+-- The lines of the polls' seal (digests of earlier records): the line `polls`, and a line for each
+-- pending poll.
 abbrev pub polls_part : SealedPolls → List ℕ
 polls_part seal = polls_line seal ++ flat_map pending_line seal.pending
 
@@ -84,38 +85,39 @@ body_text seal = codes "seal 2\n" ++ flat_map meter_text seal.meters ++ polls_pa
 abbrev pub last_line : (body : List ℕ) → List ℕ
 last_line body = codes "sha256 " ++ encode_lower (sha256 body) ++ codes "\n"
 
--- The complete text of a file's seal.
+-- The complete text of a file's seal (digests of earlier records).
 abbrev pub seal_text : SealedTables → List ℕ
 seal_text seal = body_text seal ++ last_line (body_text seal)
 
--- The lines of an executable `MeterSeal`: the line `meter`, and a line for each voided entry.
+-- The lines of the program's `MeterSeal` value: the line `meter`, and a line for each voided
+-- (cancelled) entry.
 abbrev pub text_of : MeterSeal → List ℕ
 text_of seal = meter_text (sealed_of seal)
 
--- ---- the printed text of a check of a seal
-
--- The printed line for a meter that differs from its seal.
+-- The printed line for a meter that differs from its seal (digests of earlier records).
 abbrev pub difference_line : {Z : Type 0} → String Z → List ℕ
 difference_line meter = codes "meter " ++ string_bytes meter ++ codes " differs from the seal\n"
 
--- The printed line for polls that differ from their seal, or an empty text if they match it.
+-- The printed line for polls that differ from their seal (digests of earlier records), or an empty
+-- text if they match it.
 abbrev pub polls_difference : (differ : Bool) → List ℕ
 polls_difference true = codes "polls differ from the seal\n"
 polls_difference false = []
 
--- The last printed line of a check that found no meter different from its seal.
+-- The last printed line of a check that found no meter different from its seal (digests of earlier
+-- records).
 abbrev pub rest_line : (polls_differ : Bool) → List ℕ
 rest_line true = codes "polls differ\n"
 rest_line false = codes "sealed: fine\n"
 
--- The last printed line of a check. It has the number of differing meters, or the result for the
--- polls if no meter differs.
+-- The last printed line of a check against a seal. It has the number of differing meters, or the
+-- result for the polls if no meter differs.
 abbrev pub total_line : (differing meters : ℕ) → (polls_differ : Bool) → List ℕ
 total_line differing meters polls_differ =
     if differing == 0 then rest_line polls_differ
     else decimal differing ++ codes " of " ++ decimal meters ++ codes " meters differ\n"
 
--- All printed lines of the check of a seal.
+-- All printed lines of the check of a seal (digests of earlier records).
 abbrev pub checked_text : Checked → List ℕ
 checked_text checked =
     flat_map difference_line checked.differing.items ++ polls_difference checked.polls_differ

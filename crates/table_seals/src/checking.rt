@@ -21,22 +21,23 @@ use std::collections::BTreeSet;
 use store_tables::RowFault;
 use table_audit::{MeterRows, installations, meter_rows};
 
-/// Returns whether `voids`, the indices of voided entries, contains the index `place`.
+/// Returns whether `voids`, the indices of voided (cancelled) entries, contains the index `place`.
 fn is_named(voids: &[u64], place: u64) -> bool
     ensures { result ≡ values.is_named voids.now place }
 {
     voids.iter().any(|v| *v == place)
 }
 
-/// Returns whether `voids`, the indices of voided entries, contains all indices in `places`.
+/// Returns whether `voids`, the indices of voided (cancelled) entries, contains all indices in
+/// `places`.
 fn are_named(voids: &[u64], places: &[u64]) -> bool
     ensures { result ≡ list_all (λ place. values.is_named voids.now place) places.now }
 {
     places.iter().all(|place| is_named(voids, *place))
 }
 
-/// Returns whether a meter still has the counter range, the first entries and the void records that
-/// its seal covers.
+/// Returns whether a meter still has the counter range, the first entries and the void
+/// (cancellation) records that its seal covers. The seal has a digest of earlier entries.
 fn has_sealed(alloc: Global, rows: &MeterRows, seal: &MeterSeal) -> Result<bool, AllocError>
     ensures { IfOk result (λ has. IsTrue has ↔ HasSealed rows.now (sealed_of seal.now)) }
 {
@@ -59,9 +60,9 @@ fn has_sealed(alloc: Global, rows: &MeterRows, seal: &MeterSeal) -> Result<bool,
     Ok(digest.as_slice() == seal.digest.as_slice())
 }
 
-/// Returns whether a meter matches its seal, a digest of its earlier entries. The meter matches if
-/// `known` has its sealed terms, and its rows have the sealed range, entries and void records.
-/// `known` has the terms (name, register, ceiling) of each meter.
+/// Returns whether a meter matches its seal, a digest of its earlier entries. The meter's terms
+/// (name, register, maximum power) must be in `known`. Its rows must have the sealed range, entries
+/// and void (cancellation) records.
 fn keeps(
     alloc: Global,
     known: &BTreeSet<Terms>,
@@ -76,7 +77,7 @@ fn keeps(
 }
 
 /// Queries a meter's rows and returns whether the meter matches its seal, a digest of its earlier
-/// entries. `known` has the terms (name, register, ceiling) of all meters.
+/// entries. `known` has the terms (name, register, maximum power) of all meters.
 fn check_meter<S: Alter>(
     alloc: Global,
     conn: &mut Connection<S>,
@@ -135,7 +136,7 @@ fn check_and_report<S: Alter>(
 }
 
 /// Returns the names of the meters that don't match their seals (digests of earlier entries).
-/// `known` has the terms (name, register, ceiling) of all meters.
+/// `known` has the terms (name, register, maximum power) of all meters.
 fn check_each<S: Alter>(
     alloc: Global,
     conn: &mut Connection<S>,
@@ -154,8 +155,8 @@ fn check_each<S: Alter>(
     Ok(differing)
 }
 
-/// Reads the terms (name, register, ceiling) of all meters, and returns the names of the meters
-/// that don't match their seals.
+/// Reads the terms (name, register, maximum power) of all meters. Returns the names of the meters
+/// that don't match their seals (digests of earlier entries).
 fn check_meters<S: Alter>(
     alloc: Global,
     conn: &mut Connection<S>,
@@ -172,9 +173,9 @@ fn check_meters<S: Alter>(
     }
 }
 
-/// Checks a file's tables against a seal. Returns the names of the meters that don't match the
-/// seal, and whether the polls differ from it. Records that were added after the sealing, such as
-/// the outcome of a pending poll, are not differences.
+/// Checks a file's tables against a seal (digests of earlier records). Returns the names of the
+/// meters that don't match the seal, and whether the polls differ from it. Records that were added
+/// after the sealing, such as the outcome of a pending poll, are not differences.
 ///
 /// Memory holds all rows of `installations`. It also holds the rows and the text of one meter, or
 /// of one run of `RUN` polls, at a time.

@@ -1,4 +1,5 @@
-//! The result of checking a file's tables against a seal, and the printed lines of this result.
+//! The result of checking a file's tables against a seal (digests of earlier records), and the
+//! printed lines of this result.
 ghost use Rattle.std.specs.Prelude.{◌≡◌, ◌++◌, ◌↔◌, OnOk, IsTrue, flat_map};
 ghost use Rattle.table_seals.specs.Checking.{IsAsSealed};
 ghost use Rattle.table_seals.specs.Texts as say;
@@ -17,7 +18,7 @@ pub struct Checked {
 }
 
 impl Checked {
-    /// Returns whether all meters and the polls match the seal.
+    /// Returns whether all meters and the polls match the seal (digests of earlier records).
     pub fn is_fine(&self) -> bool
         ensures { IsTrue result ↔ IsAsSealed self.now }
     {
@@ -77,9 +78,9 @@ fn write_total(
     append_bytes(text, b" meters differ\n")
 }
 
-/// Appends the printed result of checking a file against its seal: a line for each meter that
-/// differs, a line if the polls differ, and a last line. If memory runs out, the text is
-/// incomplete.
+/// Appends the printed result of checking a file against its seal (digests of earlier records): a
+/// line for each meter that differs, a line if the polls differ, and a last line. If memory runs
+/// out, the text is incomplete.
 pub fn append_checked(text: &mut Vec<u8>, checked: &Checked) -> Result<(), AllocError>
     ensures { OnOk result (text.new.items ≡ text.old.items ++ say.checked_text checked.now) }
 {

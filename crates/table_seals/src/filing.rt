@@ -118,7 +118,7 @@ fn keep<'a>(meters: &mut Vec<FiledMeter<'a>>, filed: FiledMeter<'a>) -> Result<(
     }
 }
 
-/// Builds a `FiledMeter` for each of these rows of `installations`. Returns None if a value is
+/// Builds a `FiledMeter` for each of the given rows of `installations`. Returns None if a value is
 /// invalid.
 fn file_rows<'a, S: Alter>(
     alloc: Global,

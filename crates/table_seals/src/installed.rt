@@ -1,5 +1,5 @@
 //! A set of the terms of all installed meters, in which a sealed meter is looked up. The terms are
-//! a meter's name, accounting register and ceiling (maximum power).
+//! a meter's name, accounting register (an energy counter) and ceiling (maximum power).
 ghost use Rattle.std.specs.Prelude.{IfOk, OnOk};
 ghost use Rattle.table_seals.specs.Installed.{AddsTerms, AddsTermsOf, AreTermsOf, ReportsInstalled};
 ghost use Rattle.table_seals.specs.Sealed.{sealed_of};
@@ -10,7 +10,7 @@ use sqlite::Row;
 use std::alloc::{AllocError, Global};
 use std::collections::BTreeSet;
 
-/// Adds a meter's terms (name, register, ceiling) to the set `known`.
+/// Adds a meter's terms (name, register, maximum power) to the set `known`.
 fn add(known: &mut BTreeSet<Terms>, terms: Terms) -> Result<(), AllocError>
     ensures { OnOk result (AddsTerms terms known.old known.new) }
 {
@@ -18,8 +18,8 @@ fn add(known: &mut BTreeSet<Terms>, terms: Terms) -> Result<(), AllocError>
     Ok(())
 }
 
-/// Adds the terms (name, register, ceiling) of an `installations` row to the set `known`. Adds
-/// nothing if the terms are invalid.
+/// Adds the terms (name, register, maximum power) of an `installations` row to the set `known`.
+/// Adds nothing if the terms are invalid.
 fn add_row(known: &mut BTreeSet<Terms>, row: &Row) -> Result<(), AllocError>
     ensures { OnOk result (AddsTermsOf row.now known.old known.new) }
 {
@@ -32,8 +32,8 @@ fn add_row(known: &mut BTreeSet<Terms>, row: &Row) -> Result<(), AllocError>
     }
 }
 
-/// Collects the terms (name, register, ceiling) of all rows of `installations`. The ordered set
-/// makes looking up a sealed meter fast.
+/// Collects the terms (name, register, maximum power) of all rows of `installations`. The ordered
+/// set makes looking up a sealed meter fast.
 pub(crate) fn terms_in(alloc: Global, installed: &[Row]) -> Result<BTreeSet<Terms>, AllocError>
     ensures { IfOk result (AreTermsOf installed.now) }
 {
@@ -44,8 +44,8 @@ pub(crate) fn terms_in(alloc: Global, installed: &[Row]) -> Result<BTreeSet<Term
     Ok(known)
 }
 
-/// Returns whether the set `known` contains the terms (name, register, ceiling) in a meter's seal.
-/// `known` has the terms of all installed meters.
+/// Returns whether the set `known` contains the terms (name, register, maximum power) in a meter's
+/// seal (digests of earlier records). `known` has the terms of all installed meters.
 pub(crate) fn is_installed(known: &BTreeSet<Terms>, seal: &MeterSeal) -> Result<bool, AllocError>
     ensures { IfOk result (ReportsInstalled known.now (sealed_of seal.now)) }
 {

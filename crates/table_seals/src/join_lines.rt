@@ -10,7 +10,8 @@ use energy_core::Last;
 use std::alloc::{AllocError, Global};
 use table_audit::MOST;
 
-// ---- parts of a printed line; if memory runs out, the text is incomplete
+// The following functions append parts of a printed line. If memory runs out, the text is
+// incomplete.
 
 fn write_counter(text: &mut Vec<u8>, last: &Last) -> Result<(), AllocError>
     ensures { OnOk result (text.new.items ≡ text.old.items ++ say.stand last.now) }
@@ -150,7 +151,7 @@ fn append_meter(text: &mut Vec<u8>, meter: &FiledMeter<'_>) -> Result<(), AllocE
     append_bytes(text, b" ")
 }
 
-// ---- complete printed lines about differences between files
+// The following functions return complete printed lines about differences between files.
 
 /// Returns the line that states why a meter does not continue in the next file.
 pub(crate) fn fault_line(
@@ -170,7 +171,7 @@ pub(crate) fn fault_line(
 }
 
 /// Returns the line for a new meter that begins before the last entry of another meter at the same
-/// accounting register.
+/// accounting register (an energy counter).
 pub(crate) fn overlap_line(
     alloc: Global,
     old: &FiledMeter<'_>,
@@ -229,7 +230,7 @@ pub(crate) fn zone_line(
     Ok(line)
 }
 
-// ---- the complete printed text of a check of files
+// The following functions write the complete printed text of a check of successive files.
 
 fn write_lines(text: &mut Vec<u8>, lines: &[Vec<u8>]) -> Result<(), AllocError>
     ensures { OnOk result (text.new.items ≡ text.old.items

@@ -107,8 +107,9 @@ fn fault_between(within: bool, old: &FiledMeter<'_>, new: &FiledMeter<'_>) -> Op
     None
 }
 
-/// Returns whether a new meter overlaps an earlier meter at the same accounting register, because
-/// the new meter's opening is earlier than the last entry of the earlier meter.
+/// Returns whether a new meter overlaps an earlier meter at the same accounting register (an energy
+/// counter). Then the new meter's opening (first entry) is earlier than the last entry of the
+/// earlier meter.
 fn is_beyond(new: &FiledMeter<'_>, old: &FiledMeter<'_>) -> bool
     ensures { result ≡ joins.is_beyond new.now old.now }
 {
@@ -117,7 +118,7 @@ fn is_beyond(new: &FiledMeter<'_>, old: &FiledMeter<'_>) -> bool
 }
 
 /// Returns the first known meter at a new meter's accounting register whose last entry is later
-/// than the new meter's opening.
+/// than the new meter's opening (first entry).
 fn overlapped<'m, 'a>(
     new: &FiledMeter<'_>,
     known: &'m [FiledMeter<'a>],
@@ -157,7 +158,7 @@ fn print_one_fault(
 }
 
 /// Reports a new meter that begins before the last entry of another meter at the same accounting
-/// register.
+/// register (an energy counter).
 fn append_overlap(
     alloc: Global,
     lines: &mut Vec<Vec<u8>>,
@@ -177,7 +178,8 @@ fn append_overlap(
 }
 
 /// Reports a meter of the next file that does not continue the earlier meter of the same name.
-/// Reports a new meter that overlaps another meter at the same accounting register.
+/// Reports a new meter that overlaps another meter at the same accounting register (an energy
+/// counter).
 fn append_meter_lines(
     alloc: Global,
     lines: &mut Vec<Vec<u8>>,

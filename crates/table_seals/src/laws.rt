@@ -8,8 +8,8 @@ pub fn first_entries_stay()
     ensures { FirstEntriesStay }
 {}
 
-/// Theorem: if lines are added to a meter's journal (its history), every voided entry is still
-/// voided.
+/// Theorem: if lines are added to a meter's journal (its history), every voided (cancelled) entry
+/// is still voided.
 pub fn voids_stay()
     ensures { VoidsStay }
 {}

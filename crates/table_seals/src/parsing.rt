@@ -14,7 +14,7 @@ use crate::seals::{MeterSeal, PollSeal, Seal};
 use crate::texts::append_seal;
 use std::alloc::{AllocError, Global};
 
-/// A reason why a text can't be parsed as a seal.
+/// A reason why a text can't be parsed as a seal (digests of earlier records).
 #[derive(Clone, Copy, PartialEq, Eq)]
 pub enum NoSeal {
     /// The text does not have the format of a seal, or its digest is wrong.
@@ -22,7 +22,7 @@ pub enum NoSeal {
     Memory,
 }
 
-/// The values in the line `meter` of a seal.
+/// The values in the line `meter` of a seal (digests of earlier records).
 #[derive(Clone, Copy)]
 struct MeterLine<'a> {
     meter: &'a str,
@@ -33,7 +33,7 @@ struct MeterLine<'a> {
     digest: [u8; 32],
 }
 
-/// The values in the line `polls` of a seal.
+/// The values in the line `polls` of a seal (digests of earlier records).
 #[derive(Clone, Copy)]
 struct PollsLine {
     count: u64,
@@ -99,7 +99,8 @@ fn digest<'a>(text: &'a str, before: &str, end: char, bytes: &mut [u8]) -> Optio
     }
 }
 
-/// Parses the line `meter` of a seal. Returns its values, and the text after the line.
+/// Parses the line `meter` of a seal (digests of earlier records). Returns its values, and the text
+/// after the line.
 fn meter_line<'a>(text: &'a str) -> Option<(MeterLine<'a>, &'a str)>
     ensures reads { (seal : Sealed) (rest : List ℕ) → IsSealable seal
         → text.now ≡ say.meter_line seal ++ rest
@@ -144,8 +145,8 @@ fn meter_line<'a>(text: &'a str) -> Option<(MeterLine<'a>, &'a str)>
     Some((line, rest))
 }
 
-/// Parses the `void` lines of a meter's seal. Returns the indices of the voided entries, and the
-/// text after the lines.
+/// Parses the `void` lines of a meter's seal (digests of earlier records). Returns the indices of
+/// the voided (cancelled) entries, and the text after the lines.
 fn voids<'a>(alloc: Global, text: &'a str) -> Result<Option<(Vec<u64>, &'a str)>, AllocError>
     ensures reads { (meter places rest : List ℕ) → AreVoids meter places rest text.now
         → IfOk result (λ found.
@@ -167,7 +168,8 @@ fn voids<'a>(alloc: Global, text: &'a str) -> Result<Option<(Vec<u64>, &'a str)>
     Ok(Some((places, rest)))
 }
 
-/// Builds the seal of a meter from its parsed line and the indices of its voided entries.
+/// Builds the seal (digests of earlier records) of a meter from its parsed line and the indices of
+/// its voided (cancelled) entries.
 fn seal_in(alloc: Global, line: &MeterLine<'_>, voids: Vec<u64>) -> Result<MeterSeal, AllocError>
     ensures { (seal : Sealed) → IsLineOf seal line.now → voids.items ≡ seal.voids
         → IfOk result (λ found. sealed_of found ≡ seal) }
@@ -186,8 +188,8 @@ fn seal_in(alloc: Global, line: &MeterLine<'_>, voids: Vec<u64>) -> Result<Meter
     })
 }
 
-/// Parses the seals of all meters in a seal's text. Returns the seals, and the text after the last
-/// of these seals.
+/// Parses the seals (digests of earlier records) of all meters in the text of a file's seal.
+/// Returns the meters' seals, and the text after the last of them.
 fn meters<'a>(alloc: Global, text: &'a str) -> Result<Option<(Vec<MeterSeal>, &'a str)>, AllocError>
     ensures reads { (seals : List Sealed) (rest : List ℕ) → AreMeters seals rest text.now
         → IfOk result (λ found. IsSomeAnd found (λ read.
@@ -208,7 +210,8 @@ fn meters<'a>(alloc: Global, text: &'a str) -> Result<Option<(Vec<MeterSeal>, &'
     Ok(Some((seals, rest)))
 }
 
-/// Parses the line `polls` of a seal. Returns its values, and the text after the line.
+/// Parses the line `polls` of a seal (digests of earlier records). Returns its values, and the text
+/// after the line.
 fn polls_line<'a>(text: &'a str) -> Option<(PollsLine, &'a str)>
     ensures reads { (seal : SealedPolls) (rest : List ℕ) → ArePollsSealable seal
         → text.now ≡ say.polls_line seal ++ rest
@@ -231,7 +234,8 @@ fn polls_line<'a>(text: &'a str) -> Option<(PollsLine, &'a str)>
     Some((line, rest))
 }
 
-/// Parses the `pending` lines of a seal. Returns the numbers of the pending polls.
+/// Parses the `pending` lines of a seal (digests of earlier records). Returns the numbers of the
+/// pending polls.
 fn pending(alloc: Global, text: &str) -> Result<Vec<u64>, AllocError>
     ensures { (polls rest : List ℕ) → ArePending polls rest text.now
         → IfOk result (λ read. read.items ≡ polls) }
@@ -245,7 +249,8 @@ fn pending(alloc: Global, text: &str) -> Result<Vec<u64>, AllocError>
     Ok(polls)
 }
 
-/// Parses the seal of the polls in a seal's text: the line `polls`, and the `pending` lines.
+/// Parses the seal (digests of earlier records) of the polls in a seal's text: the line `polls`,
+/// and the `pending` lines.
 fn polls(alloc: Global, text: &str) -> Result<Option<PollSeal>, AllocError>
     ensures { (seal : SealedPolls) (rest : List ℕ) → ArePolls seal rest text.now
         → IfOk result (λ found. IsSomeAnd found (λ read. sealed_polls_of read ≡ seal)) }
@@ -263,7 +268,7 @@ fn polls(alloc: Global, text: &str) -> Result<Option<PollSeal>, AllocError>
     }))
 }
 
-/// Parses the seals of all meters, and then the seal of the polls.
+/// Parses the seals (digests of earlier records) of all meters, and then the seal of the polls.
 fn tables(alloc: Global, text: &str) -> Result<Option<Seal>, AllocError>
     ensures { (seal : SealedTables) (rest : List ℕ) → AreTables seal rest text.now
         → IfOk result (λ found. IsSomeAnd found (λ read. sealed_tables_of read ≡ seal)) }
@@ -279,7 +284,8 @@ fn tables(alloc: Global, text: &str) -> Result<Option<Seal>, AllocError>
     Ok(Some(Seal { meters, polls }))
 }
 
-/// Parses a seal. The text must be exactly the text that `append_seal` writes for the seal.
+/// Parses a seal (digests of earlier records). The text must be exactly the text that `append_seal`
+/// writes for the seal.
 pub fn read_seal(alloc: Global, text: &str) -> Result<Seal, NoSeal>
     ensures is { IfOk result (λ seal. text.now ≡ say.seal_text (sealed_tables_of seal)) }
     ensures reads { (seal : SealedTables) → AreTablesSealable seal

@@ -1,4 +1,4 @@
-//! Parses the values of polls and outcomes that a seal covers.
+//! Parses the values of polls and outcomes that a seal (digests of earlier records) covers.
 ghost use Rattle.std.specs.Prelude.{◌≡◌, ◌≤◌, IfOk, IfSome};
 ghost use Rattle.sqlite.specs.Order.{column};
 ghost use Rattle.store_tables.specs.Limits.{greatest_place};

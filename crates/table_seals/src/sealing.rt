@@ -87,7 +87,7 @@ fn keep(seals: &mut Vec<MeterSeal>, seal: MeterSeal) -> Result<(), RowFault>
     }
 }
 
-/// Computes the seal (a digest of the entries) of the meter in each of these rows of
+/// Computes the seal (a digest of the entries) of the meter in each of the given rows of
 /// `installations`. Returns None if one of the meters can't be sealed.
 fn seal_rows<S: Alter>(
     alloc: Global,
@@ -121,9 +121,10 @@ fn seal_meters<S: Alter>(
     seal_rows(alloc, conn, &rows)
 }
 
-/// Computes the seal of a file's tables: the seals of all meters in order of their index, and the
-/// seal of the polls. Returns None if a name is not a word, or if a value is invalid. Memory holds
-/// all rows of `installations`, and the rows of one meter or one run of `RUN` polls at a time.
+/// Computes the seal (digests of earlier records) of a file's tables: the seals of all meters in
+/// order of their index, and the seal of the polls. Returns None if a name is not a word, or if a
+/// value is invalid. Memory holds all rows of `installations`, and the rows of one meter or one run
+/// of `RUN` polls at a time.
 pub fn seal_tables<S: Alter>(
     alloc: Global,
     conn: &mut Connection<S>,

@@ -1,8 +1,8 @@
 //! The seals of a meter, of polls, and of a complete file. A seal has digests of the records at one
 //! time, to detect later changes of these records.
 
-/// The seal of a meter: its name, accounting register, range and ceiling, its entries' number and
-/// digest, and the indices of its voided entries.
+/// The seal of a meter: its name, accounting register, range and ceiling (maximum power), its
+/// entries' number and digest, and the indices of its voided (cancelled) entries.
 #[derive(Drop)]
 pub struct MeterSeal {
     pub meter: String,
@@ -23,7 +23,8 @@ pub struct PollSeal {
     pub pending: Vec<u64>,
 }
 
-/// The seal of a file: the seals of its meters in order of index, and the seal of its polls.
+/// The seal (digests of earlier records) of a file: the seals of its meters in order of index, and
+/// the seal of its polls.
 #[derive(Drop)]
 pub struct Seal {
     pub meters: Vec<MeterSeal>,

@@ -1,4 +1,4 @@
-//! Parses the values in a meter's rows that a seal covers.
+//! Parses the values in a meter's rows that a seal (digests of earlier records) covers.
 ghost use Rattle.std.specs.Prelude.{◌≡◌, IfOk};
 ghost use Rattle.sqlite.specs.Order.{column};
 ghost use Rattle.table_audit.specs.Reading.{IsTextIn};
@@ -21,7 +21,8 @@ pub(crate) struct Terms {
     pub(crate) ceiling: u64,
 }
 
-/// The parsed rows of a meter outside `installations`: counter range, void records and entries.
+/// The parsed rows of a meter in the other tables than `installations`: counter range, void
+/// (cancellation) records and entries.
 #[derive(Drop)]
 pub(crate) struct ReadRows {
     pub(crate) range: u64,
@@ -40,8 +41,8 @@ pub(crate) fn text(row: &Row, at: usize) -> Result<Option<String>, AllocError>
     }
 }
 
-/// Parses the terms of an `installations` row: the meter's name, accounting register and ceiling.
-/// Returns None if a value is invalid.
+/// Parses the terms of an `installations` row: the meter's name, accounting register (an energy
+/// counter) and ceiling (maximum power). Returns None if a value is invalid.
 pub(crate) fn terms_of(row: &Row) -> Result<Option<Terms>, AllocError>
     ensures { IfOk result (TermsAreRead row.now) }
 {
@@ -61,8 +62,8 @@ pub(crate) fn terms_of(row: &Row) -> Result<Option<Terms>, AllocError>
     }))
 }
 
-/// Parses the counter range, the void records and the entries of a meter, which a seal covers.
-/// Returns None if a row is invalid.
+/// Parses the counter range, the void (cancellation) records and the entries of a meter, which a
+/// seal (digest) covers. Returns None if a row is invalid.
 pub(crate) fn read_rows(alloc: Global, rows: &MeterRows) -> Result<Option<ReadRows>, AllocError>
     ensures { IfOk result (RowsAreRead rows.now) }
 {

@@ -12,7 +12,8 @@ use meter_journal::audit::{RowKind, TableRow};
 use sha2::{Digest, Sha256};
 use std::alloc::{AllocError, Global};
 
-// ---- parts of a seal's text; if memory runs out, the text is incomplete
+// The following functions append parts of a seal's text. If memory runs out, the text is
+// incomplete.
 
 pub(crate) fn append_bytes(text: &mut Vec<u8>, bytes: &[u8]) -> Result<(), AllocError>
     ensures { OnOk result (text.new.items ≡ text.old.items ++ bytes.now) }
@@ -49,7 +50,7 @@ fn write_digest(alloc: Global, text: &mut Vec<u8>, digest: &[u8]) -> Result<(), 
     append_bytes(text, hex.as_bytes())
 }
 
-// ---- the digested text of a meter's entries
+// The following functions append the text of a meter's entries that a seal digests.
 
 fn kind_word(kind: RowKind) -> &'static [u8]
     ensures { result.now ≡ say.kind_word kind }
@@ -104,7 +105,7 @@ pub(crate) fn digest_of(alloc: Global, entries: &[TableRow]) -> Result<[u8; 32],
     Ok(Sha256::digest(text.as_slice()))
 }
 
-// ---- the text of a seal
+// The following functions append the text of a seal, which has digests of a file's records.
 
 fn write_meter_line(alloc: Global, text: &mut Vec<u8>, seal: &MeterSeal) -> Result<(), AllocError>
     ensures { OnOk result (text.new.items ≡ text.old.items ++ say.meter_line (sealed_of seal.now)) }

@@ -1,5 +1,5 @@
--- A worked example of a file rollover. The old office has one device, at whose register a second
--- meter followed a first one.
+-- A worked example of a file rollover, in which a new database file continues the meters. The old
+-- office has one device, at whose register a second meter followed a first one.
 use Rattle.std.proofs.Common.{◌≡◌, ℕ, pos, List, [], ◌∷◌, map, Option, Some, None, refl}
 use Rattle.std.specs.Prelude.{codes}
 use Rattle.energy_core.specs.declared.entries.Entry.TheVariants as entry
@@ -41,7 +41,7 @@ first = record { meter = m1; register = main; ceiling = 100000; range = 42949672
 abbrev second : Opening
 second = record { meter = m2; register = main; ceiling = 50000; range = 65536; at = 2000; raw = 7; sf = pos 1 }
 
--- The records of an office whose second meter was read at timestamps 2900 and 3000.
+-- The records of an example database file whose second meter was read at timestamps 2900 and 3000.
 abbrev facts : List Fact
 facts =
     fact.Entry (record { meter = m2; kind = kind.Reading; entry = entry.Step 3000 60 0 })
@@ -53,7 +53,7 @@ facts =
     ∷ fact.Device device
     ∷ []
 
--- The records of the office after the reading at 3000 was voided.
+-- The records of the example file after the reading at 3000 was voided (cancelled).
 abbrev voided : List Fact
 voided = fact.Void (record { meter = m2; place = 3; at = 3100 }) ∷ facts
 
@@ -63,13 +63,13 @@ carried at raw = record { meter = m2; register = main; ceiling = 50000; range = 
 abbrev openings : List Fact → (until : Option ℕ) → List (Option Opening)
 openings known until = map (opening_until known until) (open_meters known)
 
--- The new file continues the second meter from its last reading. The first meter is closed, so it
--- does not continue.
+-- The new database file continues the second meter from its last reading. The first meter is
+-- closed, so it does not continue.
 at_the_last : openings facts None ≡ Some (carried 3000 60) ∷ []
 at_the_last = refl
 
--- With the timestamp of a reading as its limit, the file rollover uses this reading. With a limit
--- one second earlier, it uses the previous reading.
+-- With a reading's timestamp as its limit, the rollover to a new database file continues the meter
+-- from this reading. With a limit one second earlier, it continues from the previous reading.
 up_to_a_reading : openings facts (Some 3000) ≡ Some (carried 3000 60) ∷ []
 up_to_a_reading = refl
 
@@ -79,17 +79,17 @@ before_a_reading = refl
 at_the_opening : openings facts (Some 2899) ≡ Some (carried 2000 7) ∷ []
 at_the_opening = refl
 
--- With a limit before the meter's opening (first entry), the file rollover can't continue the
+-- With a limit before the meter's opening (first entry), a new database file can't continue the
 -- meter.
 not_yet : openings facts (Some 1999) ≡ None ∷ []
 not_yet = refl
 
--- The file rollover does not use a voided (cancelled) reading.
+-- A new database file does not continue a meter from a voided (cancelled) reading.
 past_a_void : openings voided None ≡ Some (carried 2900 50) ∷ []
 past_a_void = refl
 
--- The commands of the file rollover add the device and its register at the timestamp of the first
--- meter's opening, and then install the meter.
+-- The commands for a new database file add the device and its register at the timestamp of the
+-- first meter's opening, and then install the meter.
 all_commands : commands_for facts (devices_of facts) (carried 3000 60 ∷ [])
     ≡ timed 3000 (command.AddDevice (record { name = Some roof; unit = 17; timeout = 5; window = 2 }))
     ∷ timed 3000

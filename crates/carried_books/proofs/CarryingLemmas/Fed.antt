@@ -1,4 +1,5 @@
--- Lemmas on the history of an office after it executed commands in order.
+-- Lemmas on the history of an office (the part of the program that accepts commands) after it
+-- executed commands in order.
 use Rattle.std.proofs.Common.{◌≡◌, ℕ, Bool, true, false, List, [], ◌∷◌, ◌++◌, Option, Some, None, Ok, Err, if◌then◌else◌, inl, inr, refl, sym, ap, subst, ◌∙◌, append_assoc}
 use Rattle.office_events.specs.declared.answers.Answer.{Answer}
 use Rattle.office_events.specs.declared.answers.Answer.TheVariants as answer
@@ -16,9 +17,10 @@ use Rattle.office_core.specs.Taking.{AnswersEvent, IsAnswer, failures_of}
 use Rattle.carried_books.specs.Carrying.Feeding.{AreFed, Feeds, FeedsOne, Passes, accepted, event_of, history_with}
 use Rattle.carried_books.specs.declared.carrying.commands.TimedCommand.{TimedCommand}
 
--- ---- If a command is answered without a refusal, then the office accepted the command
+-- If an office (the event engine) answers a command without a refusal, then the office accepted
+-- the command.
 
--- True if the answer reports a new command, not the retry of an earlier one.
+-- True if the answer reports a new command, not the repetition of an earlier command.
 abbrev IsNew : Answer → Type 0
 IsNew (answer.Again kind) = ⊥
 IsNew (answer.Done kind) = Unit {0}
@@ -49,8 +51,6 @@ taken past timed given is =
     decided past timed.at (event_of timed) (answer_to slots facts timed.at c) given (refusal_of past timed.at (event_of timed))
     (either_new (is_start c) (answer.Started (next_poll facts) (sent_count slots facts timed.at c) (reads_in_all facts c)) (answer.Done (kind_of c)) tt tt) is
 
--- ---- Feeding the next of a file rollover's remaining commands to an office
-
 pub next_given : (commands given rest later : List TimedCommand) (timed : TimedCommand) → commands ≡ given ++ rest → rest ≡ timed ∷ later
     → commands ≡ given ++ timed ∷ later
 next_given commands given rest later timed are is = are ∙ ap (λ (those : List TimedCommand). given ++ those) is
@@ -61,8 +61,6 @@ given_more commands given rest later timed are is =
     next_given commands given rest later timed are is ∙ sym (append_assoc given (timed ∷ []) later)
 
 module _ {B : Type 0} (ledger : B → Ledger) where
-  -- ---- Feeding one command to an office
-
   pub one_fed : (timed : TimedCommand) (old new : Office B) (given : Answer)
       → After ledger old new (AnswersEvent ledger timed.at (event_of timed) old new (Ok given))
       → After ledger old new (λ past. Stands ledger (with_answer past timed.at (event_of timed) (Ok given)) new)
@@ -82,8 +80,6 @@ module _ {B : Type 0} (ledger : B → Ledger) where
       → FeedsOne ledger timed old new (Err why)
   one_refused timed old new why answers stands = λ past stood clean.
       record { stands = stands past stood clean; answer = answers past stood clean }
-
-  -- ---- Feeding one more command to an office
 
   history_push : (past : History) (given : List TimedCommand) (timed : TimedCommand)
       → history_with past (given ++ timed ∷ []) ≡ accepted timed ∷ history_with past given

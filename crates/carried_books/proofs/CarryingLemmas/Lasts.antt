@@ -1,5 +1,5 @@
--- Lemmas on the last valid (not voided) entry of a meter up to a timestamp. A new file continues
--- the meter from this entry.
+-- Lemmas on the last valid (not voided) entry of a meter up to a timestamp. A new database file
+-- continues the meter from this entry.
 use Rattle.std.proofs.Common.{◌≡◌, ℕ, ◌+◌, ◌<◌, true, false, ◌&&◌, List, [], ◌∷◌, ◌++◌, map, take, drop, length, Option, Some, None, inl, inr, refl, sym, ap, subst, ◌∙◌, arith}
 use Rattle.std.specs.List.{find}
 use Rattle.std.specs.Option.{option_map}
@@ -23,8 +23,6 @@ use Rattle.office_books.proofs.Listing.{none_listed}
 use Rattle.office_books.proofs.Pieces.{last_piece, one_piece_more, piece_at}
 use Rattle.carried_books.specs.Carrying.Standings.{counts, is_until, last_among, last_until, set_by, shown_by}
 
--- ---- The last valid entry of a meter after one more entry
-
 module _ (until : Option ℕ) where
   abbrev latest : List MeterEntry → Option Last
   latest entries = option_map shown_by (find (counts until) entries)
@@ -35,7 +33,7 @@ module _ (until : Option ℕ) where
   pub last_same : (before : List MeterEntry) (e : MeterEntry) → counts until e ≡ false → last_among until (before ++ e ∷ []) ≡ last_among until before
   last_same before e is = ap latest (reverse-append before (e ∷ [])) ∙ ap (option_map shown_by) (cond-false _ _ _ is)
 
-  -- ---- The state of a meter's counter equals the state at its last valid entry
+  -- The state of a meter's counter equals the state at its last valid entry.
 
   set_after : (last : Last) (e : Entry) → set_by e (after last e).sf ≡ after last e
   set_after last (entry.Step at raw rolls) = refl
@@ -104,15 +102,13 @@ module _ (until : Option ℕ) where
   pub not_there : (facts : List Fact) (meter : List ℕ) → meter_of facts meter ≡ None → last_until facts until meter ≡ None
   not_there facts meter is = no_last facts (opening_of facts meter) is
 
-  -- ---- The last valid entry of a meter whose entries are queried in chunks
-
   pub piece_of : (facts : List Fact) (found : Option Opening) (n most : ℕ)
       → first_from (n + 1) most (entries_at facts found) ≡ take most (drop n (entries_at facts found))
   piece_of facts None n most = none_listed (n + 1) most ∙ sym (ap (take most) (drop_all n [] (omega arith)) ∙ take_all most [] (omega arith))
   piece_of facts (Some opening) n most = piece_at facts opening n most
 
-  -- If the last valid entry among the first `n` is known, then adding one more chunk finds the last
-  -- valid entry up to the end of this chunk.
+  -- Given the last valid entry among a meter's first `n` entries, one more chunk of queried entries
+  -- yields the last valid entry so far.
   pub piece_more : (facts : List Fact) (meter : List ℕ) (n : ℕ) (piece : List MeterEntry) (found more : Option Last)
       → piece ≡ entries_from facts meter (n + 1) 65536 → found ≡ last_among until (take n (all_entries facts meter))
       → ((before : List MeterEntry) → found ≡ last_among until before → more ≡ last_among until (before ++ piece))
@@ -123,8 +119,8 @@ module _ (until : Option ℕ) where
       ∙ ap (λ (those : List MeterEntry). last_among until (take n es ++ those)) (are ∙ piece_of facts (opening_of facts meter) n 65536)
       ∙ ap (last_among until) (one_piece_more n 65536 es)
 
-  -- If a chunk is not full, then it was the last one, and the result is the state at the meter's
-  -- last valid entry.
+  -- If a chunk of a meter's queried entries is not full, it was the last chunk, and the result is
+  -- the state at the last valid entry.
   pub piece_last : (facts : List Fact) (meter : List ℕ) (n : ℕ) (piece : List MeterEntry) (found more : Option Last)
       → piece ≡ entries_from facts meter (n + 1) 65536 → found ≡ last_among until (take n (all_entries facts meter))
       → ((before : List MeterEntry) → found ≡ last_among until before → more ≡ last_among until (before ++ piece))

@@ -1,4 +1,5 @@
--- Lemmas on the records that the commands of a file rollover add to the new store.
+-- Lemmas on the records that the commands of a file rollover (the change to a new database file)
+-- add to the new file.
 use Rattle.std.proofs.Common.{◌≡◌, ℕ, List, [], ◌∷◌, ◌++◌, map, reverse, Option, Some, None, refl, sym, ap, ◌∙◌, append_assoc}
 use Rattle.std.specs.List.{flat_map}
 use Rattle.std.specs.Option.{option_map, option_to_list}
@@ -21,7 +22,7 @@ use Rattle.carried_books.specs.Carrying.Feeding.{accepted, history_with}
 use Rattle.carried_books.specs.Carrying.Recorded.{CommandsRecordTheSame, carried_facts, device_facts, list_fact}
 use Rattle.carried_books.specs.declared.carrying.commands.TimedCommand.{TimedCommand}
 
--- The command adds the record `f` to the store, and no other record.
+-- The command adds the record `f` to the database, and no other record.
 abbrev Records : TimedCommand → Fact → Type 0
 Records timed f = (past : History) → facts_of (accepted timed ∷ past) ≡ f ∷ facts_of past
 
@@ -49,8 +50,6 @@ both_record [] later (f ∷ facts) more each rest = absurd each
 both_record (timed ∷ commands) later [] more each rest = absurd each
 both_record (timed ∷ commands) later (f ∷ facts) more each rest = (each.0, both_record commands later facts more each.1 rest)
 
--- ---- The record that each command of a file rollover adds
-
 function_again : (function : ReadFunction) → function_by (code_of function) ≡ function
 function_again HoldingRegisters = refl
 function_again InputRegisters = refl
@@ -73,8 +72,6 @@ register_recorded at register = λ past.
 
 install_recorded : (opening : Opening) → Records (install opening) (fact.Opening opening)
 install_recorded opening = λ past. refl
-
--- ---- The records that all commands of a file rollover add
 
 lists_recorded : (at : ℕ) (device : List ℕ) (list : Option Planned)
     → AllRecord (option_to_list (option_map (put_list at device) list)) (option_to_list (option_map (list_fact device) list))

@@ -1,5 +1,5 @@
--- The theorem that the statement of a meter over two files equals the statement over one file that
--- has the meter's history of both.
+-- The theorem that the statement (report) of a meter over two database files equals the statement
+-- over one file that has the meter's history of both.
 use Rattle.std.proofs.Common.{◌≡◌, ℕ, zero, suc, ◌+◌, ◌-◌, ◌^◌, ◌<◌, ◌≤◌, ◌==◌, Bool, true, false, cond, List, [], ◌∷◌, ◌++◌, map, reverse, Option, Some, None, inl, inr, refl, sym, ap, subst, ◌∙◌, arith}
 use Rattle.std.specs.Prelude.{◌≢◌, filter, find, min}
 use Rattle.std.specs.List.{count_by}
@@ -27,7 +27,7 @@ use Rattle.office_books.proofs.Lists.{map_reverse}
 use Rattle.carried_books.specs.Joining.Statements.{BothFilesStateTheJoinedMeter, moved_entry, own_entries}
 use Rattle.carried_books.proofs.JoiningLemmas.KeptMeters.{reported_alike}
 
--- ---- The energy of a meter is the sum of the energies of its quarter hours
+-- The energy of a meter is the sum of the energies of its quarter hours.
 
 -- The sum of a function over the numbers below a bound.
 abbrev up_to : ℕ → (ℕ → ℕ) → ℕ
@@ -101,8 +101,8 @@ module _ (asked : ℕ → Bool) where
   abbrev those_asked : List Share → List Share
   those_asked rows = filter (λ row. asked row.start) rows
 
-  -- A number above the start of each interval in a list. It bounds the quarter hours whose energies
-  -- are added up.
+  -- A number greater than the starts of all intervals in a list. It bounds the quarter hours whose
+  -- energies are added up.
   abbrev bound : List Share → ℕ
   bound [] = 0
   bound (row ∷ rows) = row.start + 1 + bound rows
@@ -138,7 +138,7 @@ same_energy zone range old new both once =
     ap (λ n. min n (2 ^ 128 - 1))
     (same_by_quarters (λ s. has_moment zone range s) (old ++ new) both (λ s. of_both old new s ∙ sym (once.quarters s)))
 
--- ---- The statement of a meter does not depend on the indexes of its entries
+-- The statement (report) of a meter does not depend on the indexes of its entries.
 
 same_stand : (count : ℕ) (e : MeterEntry) → counter_after_entry (moved_entry count e) ≡ counter_after_entry e
 same_stand count (entry.Opening last) = refl

@@ -13,7 +13,7 @@ use Rattle.office_books.specs.Rows.{TakesAll}
 use Rattle.carried_books.specs.declared.joining.days.JoinedDays.{JoinedDays}
 use Rattle.carried_books.specs.Joining.Days.{AddsRow, AddsUp, AddUp, AreOutOfTurn, HasNumber, TakesShare}
 
--- ---- An energy interval that starts before the latest one is out of order
+-- An energy interval that starts before the latest one is out of order.
 
 behind_latest : (rows : List Share) (latest : Option ℕ) (row : Share) → IsLatest rows latest → row.start < unwrap_or latest 0
     → (earlier : ℕ) × Contains (starts_of rows) earlier × (row.start < earlier)
@@ -26,10 +26,8 @@ pub behind : (zone : Zone) (rows : List Share) (fold : FoldState) (latest : Opti
 behind zone rows fold latest row same taken bound is less =
     behind_latest rows latest row (subst (IsLatest rows) same taken.latest) (subst (λ n. row.start < n) is less)
 
--- ---- Adding energy intervals one after another
-
--- If the energy of all intervals fits in 128 bits, then the energy of the first ones fits in 128
--- bits too.
+-- If the energy of all intervals in a list fits in 128 bits, then the energy of the first ones fits
+-- in 128 bits too.
 pub first_has : (done rest : List Share) → HasNumber (done ++ rest) → HasNumber done
 first_has done rest fits =
     let both : energy_of (done ++ rest) ≡ energy_of done + energy_of rest = sum_by-append (λ (r : Share). r.mwh) done rest in
@@ -91,7 +89,7 @@ add_all zone done (row ∷ rest) s after is fits added took =
     let all = add_all zone (done ++ row ∷ []) rest took.0 after (one.0 ∙ is) fit next took.2 in
     (all.0, subst (λ (rows : List Share). AddUp after.fault zone rows after.fold) same all.1)
 
--- ---- After energy intervals are added to a sum, the time zone of the sum is unchanged
+-- Adding energy intervals to a sum by day leaves the time zone of the sum unchanged.
 
 one_zone : (failed : Option DayFault) (row : Share) (s next : JoinedDays) → MatchOption failed (AddsRow s row next) (λ fault. next ≡ s) → next.zone ≡ s.zone
 one_zone None row s next step = step.zone

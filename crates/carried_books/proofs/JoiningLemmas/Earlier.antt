@@ -1,4 +1,4 @@
--- Lemmas on the results of collecting the data of earlier files.
+-- Lemmas on the results of collecting the data of an office's earlier database files.
 use Rattle.std.proofs.Common.{◌≡◌, List, Option, Some, None, Result, Ok, Err, ◌∙◌}
 use Rattle.std.specs.Prelude.{IfOk}
 use Rattle.interval_core.specs.declared.zone.Zone.{Zone}

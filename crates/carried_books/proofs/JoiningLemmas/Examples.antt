@@ -1,5 +1,5 @@
--- A worked example of a meter in two files. The meter was read in an old file, and continues in a
--- new file, where it was read by hand.
+-- A worked example of a meter in two database files. The meter was read in an old file, and
+-- continues in a new file, where it was read by hand.
 use Rattle.std.proofs.Common.{◌≡◌, ℕ, pos, List, [], ◌∷◌, Some, inl, inr, refl, arith}
 use Rattle.std.specs.Prelude.{codes}
 use Rattle.energy_core.specs.Value.{unit_of}
@@ -30,7 +30,8 @@ register = record { name = main; device = codes "roof"; function = InputRegister
 abbrev opening : (at raw : ℕ) → Opening
 opening at raw = record { meter = codes "m1"; register = main; ceiling = 100000; range = 65536; at = at; raw = raw; sf = pos 0 }
 
--- The records of the old file: the meter was opened at timestamp 1000, and showed 10 Wh at 1900.
+-- The records of the old database file: the meter was opened at timestamp 1000, and showed 10 Wh at
+-- 1900.
 abbrev old : List Fact
 old =
     fact.Entry (record { meter = codes "m1"; kind = kind.Reading; entry = entry.Step 1900 10 0 })
@@ -39,8 +40,8 @@ old =
     ∷ fact.Device device
     ∷ []
 
--- The records of the new file: the meter was opened at timestamp 1900 with 10 Wh, and showed 25 Wh
--- at 2800, read by hand.
+-- The records of the new database file: the meter was opened at timestamp 1900 with 10 Wh, and
+-- showed 25 Wh at 2800, read by hand.
 abbrev new : List Fact
 new =
     fact.Entry (record { meter = codes "m1"; kind = kind.Manual; entry = entry.Step 2800 25 0 })
@@ -55,7 +56,8 @@ in_old = meter_in old (installation_of old (opening 1000 0))
 abbrev in_new : MeterOver
 in_new = meter_in new (installation_of new (opening 1900 10))
 
--- The old and the new file join: together they have one history of one meter.
+-- The old and the new database file join, which means that together they have one history of one
+-- meter.
 one_meter : AreMetersOver main (new ∷ old ∷ []) (both_of in_old in_new ∷ [])
 unfolding unit_of
 one_meter = record {
@@ -77,8 +79,8 @@ one_meter = record {
   );
 }
 
--- The statement of the meter begins with its opening in the old file, and ends with the reading by
--- hand in the new file.
+-- The statement (report) of the meter begins with its opening (first entry) in the old file, and
+-- ends with the reading by hand in the new file.
 stated : (zone : Zone) → statement_over zone all_days (both_of in_old in_new) ≡ record {
   meter = codes "m1";
   entries = record {

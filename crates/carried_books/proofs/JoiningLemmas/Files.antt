@@ -1,4 +1,4 @@
--- Lemmas on adding one more file to the files of an office that join (have one history of each
+-- Lemmas on adding one more file to earlier database files that join (have one history of each
 -- meter).
 use Rattle.std.proofs.Common.{◌≡◌, ℕ, Bool, true, false, not, ◌&&◌, ◌||◌, Option, List, [], ◌∷◌, ◌++◌, Some, None, refl, sym, subst, ◌∙◌}
 use Rattle.interval_core.specs.Fold.{HasTaken}
@@ -20,7 +20,8 @@ use Rattle.carried_books.specs.declared.joining.files.Unjoined.TheVariants as un
 use Rattle.carried_books.specs.declared.joining.days.JoinedDays.{JoinedDays}
 use Rattle.carried_books.proofs.JoiningLemmas.Days.{add_all, first_has, same_zone}
 
--- ---- If a file records a register, then each later file records it
+-- If a database file records a register (a named counter), then each later file of the office
+-- records it.
 
 pub is_in_both : (here before : Bool) → (before ≡ true → here ≡ true) → here ≡ (here || before)
 is_in_both true before stays = refl
@@ -62,8 +63,6 @@ adds_rows span register facts old new None same meters days = record { recorded 
 adds_rows span register facts old new (Some unjoined.NotRecorded) same meters days = absurd days
 adds_rows span register facts old new (Some (unjoined.Apart apart)) same meters days = absurd days
 adds_rows span register facts old new (Some unjoined.OutOfTurn) same meters days = record { days = new.days; added = days }
-
--- ---- Joining one more file of an office
 
 module _ (zone : Zone) (span : Span) (register : List ℕ) (facts : List Fact) (files : List (List Fact)) (old new : JoinedFiles) where
   abbrev before : List Share

@@ -1,4 +1,5 @@
--- The lemma that `JoinedFiles` has the meters and days of the files that were added to it.
+-- The lemma that `JoinedFiles` has the meters and the daily energies of the database files that
+-- were added to it.
 use Rattle.std.proofs.Common.{ℕ, List, Option, Some, None}
 use Rattle.interval_core.specs.declared.zone.Zone.{Zone}
 use Rattle.office_events.specs.declared.facts.Fact.{Fact}

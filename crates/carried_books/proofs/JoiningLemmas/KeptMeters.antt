@@ -1,5 +1,5 @@
--- Lemmas on the collected data of one meter over several files, for its statement: its entries, its
--- quarter hours and its rejected readings.
+-- Lemmas on the collected data of one meter over several database files, for its statement
+-- (report): its entries, its quarter hours and its rejected readings.
 use Rattle.std.proofs.Common.{◌≡◌, ℕ, ◌+◌, ◌-◌, ◌^◌, ◌<◌, ◌&&◌, nat_le, Bool, true, false, cond, List, [], ◌∷◌, ◌++◌, take, drop, length, None, inl, inr, refl, sym, ap, subst, ◌∙◌, append-nil, append_assoc, arith}
 use Rattle.std.specs.Prelude.{filter, min}
 use Rattle.std.specs.List.{count_by, sum_by}
@@ -45,8 +45,6 @@ use Rattle.carried_books.specs.Joining.Statements.{MeterOver, TalliesOn, Reports
 use Rattle.carried_books.specs.declared.joining.kept_meters.KeptMeter.{KeptMeter}
 use Rattle.carried_books.proofs.CarryingLemmas.Lasts.{piece_of}
 
--- ---- The tally of a meter's entries that are queried in chunks
-
 abbrev skipped : Bool → ℕ
 skipped goes_on = cond goes_on 1 0
 
@@ -71,8 +69,8 @@ module _ (zone : Zone) (range : DayRange) (facts : List Fact) (meter : List ℕ)
       ∙ ap (take 65536) (ap (λ c. drop c (all_entries facts meter)) (sym both) ∙ sym (drop-drop n k (all_entries facts meter))
       ∙ ap (drop n) (sym (own_of goes_on (all_entries facts meter))))
 
-  -- True if the tally `now` has the entries of `old` and the first `n` entries of the meter that no
-  -- earlier file has.
+  -- True if the tally `now` has the entries of the tally `old` and the first `n` entries of the
+  -- meter that no earlier database file has.
   abbrev pub HasTallied : (n : ℕ) → (old now : EntryTally) → Type 0
   HasTallied n old now = TalliesOn zone range (take n its_own) old now
 
@@ -102,8 +100,8 @@ all_held : (holds : List HeldReading) → holds_within Whole holds ≡ holds
 all_held [] = refl
 all_held (held ∷ holds) = ap (λ (those : List HeldReading). held ∷ those) (all_held holds)
 
--- The statement of a meter in one file has the counts of its rejected readings and its energy in
--- this file.
+-- The statement (report) of a meter in one database file has the counts of its rejected readings
+-- and its energy in this file.
 pub held_reported : (zone : Zone) (range : DayRange) (holds : List HeldReading) (from to : RejectedWithin) → HasCountedNone zone range from
     → TakesAll CountsReading from (holds_within Whole holds) to → to.counts ≡ held_within zone range holds
 held_reported zone range holds from to fresh took =
@@ -143,8 +141,6 @@ energy_reported zone range rows from to fresh took =
     ∙ filter_among (λ (row : Share). has_moment zone range row.start) (λ row. is_within (span_of range) row.start)
     (λ row has. has_each range.from range.till zone row.start (and_second (nat_le row.start LAST_MOMENT) (has_day range (day_at zone row.start)) has)) rows)
 
--- ---- The collected data of a meter, with one more file
-
 -- If two numbers are capped at `most`, then the capped sum of the capped numbers equals the capped
 -- sum of the numbers.
 capped_both : (most a b : ℕ) → min (min a most + min b most) most ≡ min (a + b) most
@@ -177,7 +173,7 @@ held_both zone range holds more = λ i. record {
   not_below_range = held_for_both zone range holds more cause.NotBelowRange i;
 }
 
--- If two statements have equal fields, then the statements are equal.
+-- If two statements (reports on a meter) have equal fields, then the statements are equal.
 pub reported_alike : {a b : MeterStatement} → a.meter ≡ b.meter → a.entries ≡ b.entries → a.mwh ≡ b.mwh → a.held ≡ b.held → a ≡ b
 reported_alike meter entries mwh held = λ i. record { meter = meter i; entries = entries i; mwh = mwh i; held = held i }
 
@@ -185,8 +181,8 @@ kept_alike : {a b : KeptMeter} → a.stands ≡ b.stands → a.reported ≡ b.re
 kept_alike stands reported = λ i. record { stands = stands i; reported = reported i }
 
 module _ (zone : Zone) (range : DayRange) (facts : List Fact) (row : Installation) where
-  -- If a meter continues in the next file, then its collected data are those of the meter over all
-  -- files.
+  -- If a meter continues in the next database file, then its collected data are those of the meter
+  -- over all files.
   pub reports_both : (old new : KeptMeter) (part : MeterStatement) (m : MeterOver) → old ≡ kept_of zone range m → new ≡ with_part old row part
       → ReportsPart zone range row.opening.meter true facts old.reported.entries part → new ≡ kept_of zone range (both_of m (meter_in facts row))
   reports_both old new part m reported is more =
@@ -196,8 +192,8 @@ module _ (zone : Zone) (range : DayRange) (facts : List Fact) (row : Installatio
       let held = ap (both_held (held_within zone range m.holds)) more.held ∙ sym (held_both zone range m.holds (holds_of facts row.opening.meter)) in
       is ∙ ap (λ (k : KeptMeter). with_part k row part) reported ∙ kept_alike refl (reported_alike refl entries mwh held)
 
-  -- If a meter begins in the next file, then its collected data are those of the meter in this
-  -- file.
+  -- If a meter begins in the next database file, then its collected data are those of the meter in
+  -- this file.
   pub reports_first : (new : KeptMeter) (none : EntryTally) → none ≡ tally_of zone range [] → new.stands ≡ row
       → ReportsPart zone range row.opening.meter false facts none new.reported → new ≡ kept_of zone range (meter_in facts row)
   reports_first new none is stands more = kept_alike stands (reported_alike more.meter_is (more.entries [] is) more.energy more.held)

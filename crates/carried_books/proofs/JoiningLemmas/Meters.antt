@@ -1,5 +1,5 @@
--- Lemmas on adding the meters of a register one after another: each continues or follows the meters
--- before it.
+-- Lemmas on adding the meters of a register (a named counter) one after another: each continues or
+-- follows the meters before it.
 use Rattle.std.proofs.Common.{◌≡◌, ◌↔◌, ◌&&◌, ℕ, ◌<◌, Bool, true, false, not, List, [], ◌∷◌, length, take, Option, Some, None, inl, inr, refl, sym, subst, ◌∙◌, arith}
 use Rattle.std.specs.Prelude.{All, Contains, IsTrue, is_some}
 use Rattle.std.specs.List.{find}
@@ -12,8 +12,6 @@ use Rattle.office_events.specs.declared.questions.Installation.{Installation}
 use Rattle.carried_books.specs.declared.joining.meters.Apart.{Apart}
 use Rattle.office_books.specs.Meters.{installed}
 use Rattle.carried_books.specs.Joining.Meters.{AddMeters, AddOrAreApart, AddsMeter, AddsNext, AddsOrIsApart, GoesOn, NoneGoesOn, is_before}
-
--- ---- The first meter that was not closed before another meter began
 
 pub find_none : {X : Type 0} (p : X → Bool) (xs : List X) → find p xs ≡ None → All (λ x. p x ≡ false) xs
 find_none p [] is = λ k d less. absurd (omega (arith, less))
@@ -35,8 +33,6 @@ find_some p (y ∷ ys) x is = elim (cases_Bool (p y)) [
       (Contains-append_right (y ∷ []) ys x rest.0, rest.1)
 ]
 
--- ---- A meter that continues as a meter of a later file
-
 both_true : (a b : Bool) → (a && b) ≡ true → (a ≡ true) × (b ≡ true)
 both_true true b h = (refl, h)
 both_true false b h = absurd (cc h)
@@ -54,8 +50,6 @@ goes_on_by stands row one goes both are is asks =
       λ t. let parts = both_true one goes (sym are ∙ t) in record { name = names.0 (sym is ∙ parts.0); goes = asks.0 parts.1 },
       λ h. are ∙ of_both one goes (is ∙ names.1 h.name) (asks.1 h.goes),
     )
-
--- ---- Adding one more meter of a register
 
 not_true : (b : Bool) → not b ≡ true → b ≡ false
 not_true true is = absurd (cc is)
@@ -75,15 +69,15 @@ one_apart known row stands is =
     let found = find_some (λ stands. not (is_before stands row)) known stands is in
     (found.0, not_true _ found.1)
 
--- If a meter does not continue the last earlier meter, then it follows all earlier meters, or does
--- neither.
+-- If a meter in a later database file does not continue the last earlier meter, then it follows all
+-- earlier meters, or does neither.
 pub next_or_apart : (known : List Installation) (row : Installation) (after : List Installation) (apart : Option Apart) → NoneGoesOn known row
     → AddsNext known row after apart → AddsOrIsApart known row after apart
 next_or_apart known row after None other adds = inr adds
 next_or_apart known row after (Some apart) other adds = record { begins = adds.0; among = adds.1; not_before = adds.2; other = other }
 
--- If a meter neither continues nor follows the meters before it in a list, then the list can't be
--- added to the earlier meters.
+-- If a meter neither continues nor follows the meters before it in a list, then the list's meters
+-- can't be added to the earlier meters.
 pub apart_among : (known listed mid now after : List Installation) (row : Installation) (begun : List Installation) (apart : Option Apart)
     → is_some apart ≡ true → (n : ℕ) → take n listed ≡ begun → AddMeters known begun mid → Contains listed row → AddsOrIsApart mid row now apart
     → AddOrAreApart known listed after apart
@@ -96,7 +90,8 @@ apart_among known listed mid now after row begun (Some apart) is n same took amo
   is = adds;
 }
 
--- If no conflicting meter is returned, then the meter continues or follows the earlier meters.
+-- If adding a meter returns no conflicting meter, then the meter continues or follows the earlier
+-- meters.
 pub joined_one : (mid : List Installation) (row : Installation) (now : List Installation) (apart : Option Apart) → is_some apart ≡ false
     → AddsOrIsApart mid row now apart → AddsMeter mid row now
 joined_one mid row now None isnt adds = adds

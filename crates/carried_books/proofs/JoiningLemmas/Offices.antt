@@ -1,4 +1,5 @@
--- Lemmas on the days of a register over earlier files and a running office.
+-- Lemmas on the daily energies of a register (a named counter) over earlier database files and the
+-- database of a running office.
 use Rattle.std.proofs.Common.{◌≡◌, ℕ, ◌+◌, ◌<◌, ◌≤◌, true, Bool, inl, inr, List, [], ◌∷◌, ◌++◌, take, get_or, length, map, Option, Some, None, Result, Ok, Err, refl, sym, ap, subst, ◌∙◌, arith, append-nil, reverse}
 use Rattle.std.specs.Prelude.{All, filter}
 use Rattle.std.specs.List.{flat_map}
@@ -55,8 +56,6 @@ use Rattle.carried_books.specs.declared.joining.days.JoinedDays.{JoinedDays}
 use Rattle.carried_books.proofs.JoiningLemmas.Days.{add_all, first_has}
 use Rattle.carried_books.proofs.JoiningLemmas.Reports.{both_within, none_within}
 
--- ---- The meters at a register of a running office
-
 pub all_installed : (facts : List Fact) (register : List ℕ) → AreLawful facts → All (IsInstalled facts) (installations_at facts register)
 all_installed facts register lawful =
     let at : Opening → Bool = λ opening. same opening.register register in
@@ -98,8 +97,8 @@ rows_reported : (facts : List Fact) (asked : Span) (meter : List ℕ) (o : Openi
 rows_reported facts asked meter o there =
     ap (λ (found : Option Opening). option_map (rows_within asked) (option_map (rows_of_opening facts) found)) there
 
--- If the requested item exists, then a query for it is refused only because the store or memory
--- failed, or the office had stopped.
+-- If a requested item exists, then a query for this item is refused only because the database or
+-- memory failed, or the event handling had stopped.
 there_fails : (m : Type 0) (before after : Failures) (why : Refusal) → IsFound {T = Unit {0}} m (Some tt) before after (Err why) → IsOutside m before after why
 there_fails m before after why (inl is) = absurd (cc is.0)
 there_fails m before after why (inr fails) = fails
@@ -114,10 +113,8 @@ not_listed f None before after why (inl is) = inl (ap Err is.0, is.1)
 not_listed f None before after why (inr fails) = inr fails
 not_listed f (Some x) before after why fails = inr fails
 
--- ---- The days over earlier files and a running office
-
--- If further intervals are added to a copy of the sum of earlier intervals, then the result is the
--- sum of all intervals, or a failure.
+-- If further energy intervals are added to a copy of an earlier sum, then the result is the sum of
+-- all intervals, or a failure.
 days_on : (zone : Zone) (rows more : List Share) (earlier : EarlierDays) (copy after : JoinedDays) → GoesOnFrom zone earlier copy → AreSumOf zone rows earlier
     → HasNumber (rows ++ more) → TakesAll TakesShare copy more after → AddUp after.fault zone (rows ++ more) after.fold
 days_on zone rows more earlier copy after is added fits took =
@@ -136,8 +133,6 @@ lists (Some fault.Memory) zone rows fold there before after (Err why) is same ad
     inl (inr (subst (IsOutside (there ≡ Some tt) before after) (sym ends) (inr (is, same))))
 
 module _ {B : Type 0} (ledger : B → Ledger) where
-  -- ---- Adding up the energy intervals of one meter after another
-
   -- True if the quarter hours of the first `n` meters in `listed` were added up.
   abbrev pub HaveFirst : (a b : Office B) → (listed : List Installation) → (n : ℕ) → Span → (from to : JoinedDays) → Type 0
   HaveFirst a b listed n asked from to = After ledger a b (λ past. (openings : List Opening)
@@ -201,8 +196,6 @@ module _ {B : Type 0} (ledger : B → Ledger) where
         subst P keeps.failures fails;
   }
 
-  -- ---- Adding up the energy intervals of a register
-
   pub asks_both : {T : Type 0} (a b d : Office B) (x : T) (result : Result (Unit {0}) Refusal) → OnlyAsks ledger a b (Ok x) → KeepsUnlessRefused ledger b d result
       → OnlyAsks ledger a d result
   asks_both a b d x (Ok done) asks keeps = answered_as ledger a d done (goes_on ledger a b x asks) (kept_on ledger a b d (asked ledger a b x asks) keeps)
@@ -249,10 +242,8 @@ module _ {B : Type 0} (ledger : B → Ledger) where
         whole = tt;
       }
 
-  -- ---- The days of a register over earlier files and a running office
-
-  -- If an interval is out of order although the office answered all queries, then the request for
-  -- the days is refused.
+  -- If an energy interval is out of order although all queries of the database succeeded, then the
+  -- request for the daily energies is refused.
   out_of_turn : {T : Type 0} (a b : Office B) → (is_stopped a ≡ true → ⊥) → Keeps ledger a b → OnlyAsks {T = T} ledger a b (Err (refusal.Store store.NoDay))
   out_of_turn a b goes kept = record {
     stands = kept.stands;
@@ -289,8 +280,8 @@ module _ {B : Type 0} (ledger : B → Ledger) where
       (failures_of ledger b) result found.0 found.1
       (days_on zone rows (rows_within asked (rows_of_register facts register)) earlier copy after is added fits it.whole) ends
 
-  -- If the lookup of a register fails, then the request for its days is refused with the same
-  -- refusal.
+  -- If the lookup of a register (a named counter) fails, then the request for its daily energies is
+  -- refused with the same refusal.
   refused_so : (a b : Office B) (facts : List Fact) (register : List ℕ) (why : Refusal)
       → IsRowFound {T = Unit {0}} (is_there (register_of facts register)) (failures_of ledger a) (failures_of ledger b) (Err why)
       → IsFound {T = Unit {0}} (is_there (register_of facts register) ≡ Some tt) (is_there (register_of facts register)) (failures_of ledger a)
@@ -304,8 +295,6 @@ module _ {B : Type 0} (ledger : B → Ledger) where
       → AsksRegister ledger a b register asked copy after (Err why) → ReportsDaysOver ledger a b zone earlier register asked (Err why)
   days_missing a b zone earlier copy after register asked why asks = λ past stands clean rows added fits.
       inl (refused_so a b (facts_of past) register why (asks past stands clean).answer)
-
-  -- ---- The refusal if memory for the days ran out
 
   pub lacks_register : (a b : Office B) (register : List ℕ) (why : Refusal)
       → ListsAccepted {T = Installation} ledger a b (Err why) (λ facts. meters_named facts (Some register)) → LacksMemory ledger a b register why

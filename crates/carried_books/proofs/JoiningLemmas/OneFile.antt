@@ -1,4 +1,5 @@
--- The theorem that a statement over one file has the statements of the file's meters.
+-- The theorem that a report over one database file has a statement (row) for each meter of the
+-- file.
 use Rattle.std.proofs.Common.{◌≡◌, Bool, suc, List, [], ◌∷◌, ◌++◌, map, reverse, Some, inl, inr, refl, sym, ap, subst, ◌∙◌, arith}
 use Rattle.std.specs.Prelude.{◌≢◌, All, filter}
 use Rattle.std.specs.List.{AllPairs}
@@ -27,7 +28,7 @@ all_turned P [] all = all
 all_turned P (x ∷ xs) all =
     subst (All P) (sym (reverse_cons x xs)) (All-push P (reverse xs) x (all_turned P xs (All-tail P x xs all)) (All-head P x xs all))
 
--- If items are received in order, then the last item is received after all earlier items.
+-- If a function receives items in order, then it receives the last item after all earlier items.
 pub takes_last : {S T : Type 0} (takes : S → T → S → Type 0) (before after : S) (rows : List T) (row : T) → TakesAll takes before (rows ++ row ∷ []) after
     → (mid : S) × TakesAll takes before rows mid × takes mid row after
 takes_last takes before after [] row took = (before, refl, subst (takes before row) (sym took.2) took.1)
@@ -45,8 +46,8 @@ module _ (facts : List Fact) where
   abbrev HasOther : Opening → MeterOver → Type 0
   HasOther opening m = opening.meter ≢ m.stands.opening.meter
 
-  -- If a meter has another name than each earlier meter, then it continues none of them. So it is
-  -- appended to the list.
+  -- If a meter has another name than each earlier meter, then it continues none of them. The meter
+  -- is therefore appended to the list.
   comes_next : (opening : Opening) (known after : List MeterOver) → All (HasOther opening) known → AddsOver known (part opening) after
       → after ≡ known ++ part opening ∷ []
   comes_next opening known after all (inl is) = absurd ((All-pop (HasOther opening) known is.before (Some is.one) is.known_is all).1 is.goes.name)

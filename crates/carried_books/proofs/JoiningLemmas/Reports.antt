@@ -1,4 +1,5 @@
--- Lemmas on the reported days of files that join (have one history of a register).
+-- Lemmas on the daily energies that are reported for a register (a named counter) over several
+-- database files with one joint history.
 use Rattle.std.proofs.Common.{◌≡◌, ℕ, ◌+◌, ◌<◌, ◌^◌, ◌==◌, Bool, true, false, cond, not, List, [], ◌∷◌, ◌++◌, length, Option, inl, inr, refl, sym, ap, subst, ◌∙◌, arith}
 use Rattle.std.specs.Prelude.{filter, map, if◌then◌else◌}
 use Rattle.std.specs.List.{list_any}
@@ -40,8 +41,6 @@ use Rattle.carried_books.specs.Joining.Files.{HasJoined, rows_over, rows_over_wi
 use Rattle.carried_books.specs.Joining.Reports.{IsReportOver}
 use Rattle.carried_books.specs.declared.joining.files.JoinedFiles.{JoinedFiles}
 
--- ---- The energy intervals around the requested days
-
 pub both_within : (span : Span) (rows more : List Share) → rows_within span (rows ++ more) ≡ rows_within span rows ++ rows_within span more
 both_within All rows more = refl
 both_within (Between from till) rows more = filter-append (λ (row : Share). is_within (Between from till) row.start) rows more
@@ -72,7 +71,7 @@ with_number (Between from till) rows more fits =
     let part : energy_of (rows ++ filter asked more) ≡ energy_of rows + energy_of (filter asked more) = sum_by-append (λ (row : Share). row.mwh) rows (filter asked more) in
     omega (arith, fits, both, whole, part)
 
--- ---- Civil days outside the range of a report are not reported
+-- Civil days outside the requested range of a report are not reported.
 
 twice : {X : Type 0} (p : X → Bool) (xs : List X) → filter p (filter p xs) ≡ filter p xs
 twice p [] = refl
@@ -85,10 +84,8 @@ same_text : (form : ReportForm) (days : List DayTotal) → report_text form (day
 same_text form days =
     ap (λ (those : List DayTotal). rows_text form (map shown (rows_by form.period those))) (twice (λ total. is_in form.range total.day) days)
 
--- ---- The report of a register over all files
-
--- If the days are computed from the intervals around the requested range, then the report has the
--- same days in the range as one from all intervals.
+-- If a report is computed only from the energy intervals around its range of days, it has the same
+-- days as a report from all intervals.
 pub report_over : (zone : Zone) (register : List ℕ) (files : List (List Fact)) (form : ReportForm) (days : List DayTotal) → AccountsAreOne
     → AreAccounts zone (rows_within (span_of form.range) (rows_over register files)) (map account_of days)
     → IsReportOver zone register files form (report_text form days)
@@ -99,8 +96,6 @@ report_over zone register files form days one totals =
       record { all = asked.0; are = asked.1; asked = asked.2 },
       sym (same_text form days),
     )
-
--- ---- The days of earlier files' intervals and of the requested intervals of the latest file
 
 days_with : (zone : Zone) (range : DayRange) (asked : Span) → ((start : ℕ) → has_day range (day_at zone start) ≡ true → is_within asked start ≡ true)
     → AccountsAreOne → (rows more : List Share) (days : List DayTotal) → AreAccounts zone (rows ++ rows_within asked more) (map account_of days)
@@ -142,7 +137,7 @@ is_over zone register files form joined days one has fits are =
     let totals = subst (λ (accounts : List DayAccount). AreAccounts zone (rows_over_within span register files) accounts) (sym are) taken.accounts in
     report_over zone register files form days one (subst (λ (those : List Share). AreAccounts zone those (map account_of days)) same totals)
 
--- While the days of a report are written, the output of the report remains the same writer.
+-- Writing the days of a report never replaces the writer of its output.
 pub taken_by : {W : Type 0} (contents : W → Option (List ℕ)) (days : List DayTotal) (from to : ReportRows W) → TakesAll (TakesDay contents) from days to
     → to.output.ghost_name ≡ from.output.ghost_name
 taken_by {W} contents [] from to took = ap (λ (rows : ReportRows W). rows.output.ghost_name) took
@@ -161,8 +156,6 @@ reported_over contents form days from to left output status fresh took few last 
     let got = last.finishes.finished from days taken few in
     let reported = reported_by left.failed status (report_text from.form days) (contents from.output.now) (contents left.output.now) last.means got in
     rw (sym fresh.form, sym fresh.output) reported
-
--- ---- The report of a meter that continues in a second file
 
 -- If a list of numbers is not empty, then it has at least one distinct number.
 positive : (ns : List ℕ) → 0 < length ns → 0 < distinct_count ns

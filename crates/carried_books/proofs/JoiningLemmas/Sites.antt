@@ -1,4 +1,5 @@
--- The theorem that the latest meter reported for a register is its last meter in all files.
+-- The theorem that the latest meter reported for a register (a named counter) is its last meter in
+-- all database files of an office.
 use Rattle.std.proofs.Common.{◌≡◌, ℕ, ◌-◌, Bool, true, false, suc, List, [], ◌∷◌, ◌++◌, map, reverse, length, Option, Some, None, inl, inr, refl, sym, ap, subst, ◌∙◌, arith}
 use Rattle.std.specs.Prelude.{◌⊎◌, ◌≢◌, ◌&&◌, not, All, filter}
 use Rattle.std.specs.List.{AllPairs, find, slice_get}
@@ -20,8 +21,6 @@ use Rattle.carried_books.specs.Joining.Meters.{AddMeters, AddsMeter, as_one, is_
 use Rattle.carried_books.specs.Joining.Sites.{LatestIsOfAllFiles, is_left, last_of, latest, latest_meter, meter_of, of_both, of_office}
 use Rattle.carried_books.specs.declared.joining.sites.LatestMeter.{LatestMeter}
 use Rattle.carried_books.proofs.JoiningLemmas.OneFile.{all_turned, takes_last}
-
--- ---- The last meter of a list
 
 get_last : {X : Type 0} (xs : List X) (x : X) → slice_get (xs ++ x ∷ []) (length xs) ≡ Some x
 get_last [] x = refl
@@ -57,8 +56,6 @@ found_first p (x ∷ xs) = elim (cases_Bool (p x)) [
   | inr fails ↦ cond-false _ _ _ fails ∙ found_first p xs ∙ sym (ap (λ l. slice_get l 0) (cond-false _ _ _ fails))
 ]
 
--- ---- A meter that the earlier files left open
-
 both_hold : (a b : Bool) → a ≡ true → b ≡ true → (a && b) ≡ true
 both_hold true b is holds = holds
 both_hold false b is holds = absurd (cc is)
@@ -71,8 +68,8 @@ not_left : (ended a b : Bool) → (ended && a) ≡ true → (not ended && b) ≡
 not_left true a b is = refl
 not_left false a b is = absurd (cc is)
 
--- If the office's meter does not continue the meter that was open at the end of the earlier files,
--- then the office's meter is the latest meter.
+-- If the current file's meter does not continue the meter that the earlier database files left
+-- open, then the current file's meter is the latest.
 reported_as_new : (known : List Installation) (row : Installation)
     → ((front : List Installation) (stands : Installation) → known ≡ front ++ stands ∷ [] → is_left stands row ≡ false)
     → option_map meter_of (latest_meter known (Some row)) ≡ Some row
@@ -84,8 +81,6 @@ reported_as_new known row other = elim (split_last known) [
       ap (λ (stands : Option Installation). option_map meter_of (latest stands (Some row))) found
       ∙ ap (λ (it : LatestMeter). Some (meter_of it)) reported
 ]
-
--- ---- The latest meter of a register if the office has one meter
 
 reported_of_one : (known : List Installation) (row : Installation) (all : List Installation) → AddsMeter known row all
     → option_map meter_of (latest_meter known (Some row)) ≡ last_of all
@@ -101,8 +96,6 @@ reported_of_one known row all (inr is) =
     let P : Installation → Type 0 = λ stands. is_before stands row ≡ true in
     reported_as_new known row (λ front stands at. not_left stands.ended _ _ (last_holds P front stands (subst (All P) at is.earlier)))
     ∙ sym (ap last_of is.after_is ∙ last_pushed known row)
-
--- ---- The latest meter of a register if the office has several meters
 
 -- The list `rows` ends with a meter whose name has the property `P`.
 record EndsAs (rows : List Installation) (P : List ℕ → Type 0) : Type 0 where
@@ -135,8 +128,8 @@ comes_last mid row all ends (inl is) =
     absurd (ends.named (is.goes.name ∙ ap (λ (meter : Installation). meter.opening.meter) one))
 comes_last mid row all ends (inr is) = ap last_of is.after_is ∙ last_pushed mid row
 
--- Suppose that the office's first meter was added to the meters of the earlier files. Then a later
--- meter with another name does not continue the last of these meters.
+-- Suppose that the first meter of the current database file was added to the meters of the earlier
+-- files. Then a later meter with another name does not continue the last of these meters.
 first_between : (known : List Installation) (first row : Installation) (next : List Installation) → row.opening.meter ≢ first.opening.meter
     → AddsMeter known first next → (front : List Installation) (stands : Installation) → known ≡ front ++ stands ∷ [] → is_left stands row ≡ false
 first_between known first row next other (inl is) front stands at =
@@ -160,8 +153,6 @@ reported_of_several known (first ∷ rest) row mid all others took step =
     let P : Installation → Type 0 = λ it. row.opening.meter ≢ it.opening.meter in
     reported_as_new known row (first_between known first row took.0 (All-head P first rest others) took.1)
     ∙ sym (comes_last mid row all (after_several (λ name. row.opening.meter ≢ name) known first rest mid others took) step)
-
--- ---- The latest meter of a register for any number of meters of the office
 
 none_reported : (stands : Option Installation) → option_map meter_of (latest stands None) ≡ stands
 none_reported None = refl

@@ -1,4 +1,5 @@
--- Lemmas on the collected data of meters over several files, for their statements.
+-- Lemmas on the collected data of meters over several database files, for their statements
+-- (reports).
 use Rattle.std.proofs.Common.{◌≡◌, ℕ, ◌&&◌, Bool, true, false, not, List, [], ◌∷◌, ◌++◌, map, Option, Some, None, Result, Ok, Err, IfOk, inl, inr, refl, sym, ap, subst, ◌∙◌, append-nil, arith}
 use Rattle.std.specs.Prelude.{All, Contains, filter, find, is_some}
 use Rattle.std.specs.Option.{option_map}
@@ -26,8 +27,6 @@ use Rattle.carried_books.specs.declared.joining.statements.JoinedStatement.{Join
 use Rattle.carried_books.proofs.JoiningLemmas.Files.{is_in_both, is_kept}
 use Rattle.carried_books.proofs.JoiningLemmas.Meters.{all_before, next_or_apart, one_apart}
 
--- ---- Lists of collected meter data
-
 all_stand : (zone : Zone) (range : DayRange) (meters : List MeterOver) → map stands_of (map (kept_of zone range) meters) ≡ map (λ m. m.stands) meters
 all_stand zone range [] = refl
 all_stand zone range (m ∷ meters) = ap (λ (those : List Installation). m.stands ∷ those) (all_stand zone range meters)
@@ -52,7 +51,7 @@ module _ (zone : Zone) (range : DayRange) where
         | inr isnt ↦ ap (map reported_of) (cond-false _ _ _ isnt) ∙ rest ∙ sym (ap (map (statement_over zone range)) (cond-false _ _ _ isnt))
       ]
 
-  -- If the last collected meter is `one`, then it has the data of the last of the corresponding
+  -- If the last collected meter is `one`, then `one` has the data of the last of the corresponding
   -- meters.
   pub reported_last : (kept : List KeptMeter) (one : KeptMeter) (meters : List MeterOver) → AreReported zone range (kept ++ one ∷ []) meters
       → (before : List MeterOver) × (m : MeterOver) × (meters ≡ before ++ m ∷ []) × AreReported zone range kept before × (one ≡ kept_of zone range m)
@@ -82,8 +81,6 @@ module _ (zone : Zone) (range : DayRange) where
   before_too row kept meters reported all =
       let same : map stands_of kept ≡ map (λ m. m.stands) meters = ap (map stands_of) reported ∙ all_stand zone range meters in
       stand_before row meters (subst (All (λ stands. is_before stands row ≡ true)) same all)
-
-  -- ---- Adding one more meter of a file to the collected data
 
   pub goes_on_reported : (facts : List Fact) (row : Installation) (kept : List KeptMeter) (last new : KeptMeter) (old after : List KeptMeter)
       → old ≡ kept ++ last ∷ [] → GoesOn last.stands row
@@ -119,8 +116,6 @@ module _ (zone : Zone) (range : DayRange) where
         after_is ∙ reported_more old new meters m reported reports,
       )
 
-  -- ---- Adding all meters of a file to the collected data
-
   pub reported_none : (facts : List Fact) (old : List KeptMeter) → ReportsAll zone range facts [] old old None
   reported_none facts old = λ meters reported. (meters, refl, reported)
 
@@ -137,14 +132,12 @@ module _ (zone : Zone) (range : DayRange) where
         next.2,
       )
 
-  -- ---- The statements of the meters whose data were collected
-
   pub rows_reported : (kept : List KeptMeter) (meters : List MeterOver) → AreReported zone range kept meters
       → rows_of_those zone range kept ≡ statements_over zone range meters
   rows_reported kept meters reported = ap (rows_of_those zone range) reported ∙ rows_of_meters meters
 
-  -- The statements of two appended lists of meters are those of the first list, followed by those
-  -- of the second.
+  -- The statements (reports) of two appended lists of meters are those of the first list, followed
+  -- by those of the second.
   pub rows_both : (kept more : List KeptMeter) → rows_of_those zone range (kept ++ more) ≡ rows_of_those zone range kept ++ rows_of_those zone range more
   rows_both kept more =
       let there : KeptMeter → Bool = λ one. was_installed zone range one.stands in
@@ -158,8 +151,6 @@ module _ (zone : Zone) (range : DayRange) where
       → before ≡ before ++ rows_of_those zone range (one ∷ [])
   row_absent one before isnt = sym (ap (λ (rows : List MeterStatement). before ++ rows) (ap (map reported_of) (cond-false _ _ _ isnt)) ∙ append-nil before)
 
--- ---- The states of the meters whose data were collected
-
 find_stands : (row : Installation) (kept : List KeptMeter) → option_map stands_of (find (λ one. not (is_before one.stands row)) kept)
     ≡ find (λ stands. not (is_before stands row)) (map stands_of kept)
 find_stands row [] = refl
@@ -168,14 +159,14 @@ find_stands row (one ∷ kept) = elim (cases_Bool (not (is_before one.stands row
   | inr isnt ↦ ap (option_map stands_of) (cond-false _ _ _ isnt) ∙ find_stands row kept ∙ sym (cond-false _ _ _ isnt)
 ]
 
--- If the search for a meter that does not precede `row` finds a meter, then this meter is in the
--- list and does not precede `row`.
+-- If a search for a meter that was not closed before the meter `row` began finds a meter, then this
+-- meter is in the list.
 pub stands_apart : (row stands : Installation) (kept : List KeptMeter) → option_map stands_of (find (λ one. not (is_before one.stands row)) kept) ≡ Some stands
     → Contains (map stands_of kept) stands × (is_before stands row ≡ false)
 stands_apart row stands kept is = one_apart (map stands_of kept) row stands (sym (find_stands row kept) ∙ is)
 
--- If the search for a meter that does not precede `row` finds none, then all meters precede `row`
--- (were closed before it began).
+-- If a search for a meter that was not closed before the meter `row` began finds none, then all
+-- meters were closed before `row` began.
 pub stand_earlier : (row : Installation) (kept : List KeptMeter) → option_map stands_of (find (λ one. not (is_before one.stands row)) kept) ≡ None
     → All (λ stands. is_before stands row ≡ true) (map stands_of kept)
 stand_earlier row kept is = all_before (map stands_of kept) row (sym (find_stands row kept) ∙ is)
@@ -185,14 +176,14 @@ stand_more : (kept : List KeptMeter) (one : KeptMeter) (all : List KeptMeter) (s
 stand_more kept one all stands are is =
     ap (map stands_of) are ∙ map-append stands_of kept (one ∷ []) ∙ ap (λ (those : Installation). map stands_of kept ++ those ∷ []) is
 
--- If all collected meters precede the meter `row` (were closed before it began), then appending
--- `row` satisfies `IsNext`.
+-- If all collected meters were closed before the meter `row` began, then appending `row` satisfies
+-- `IsNext`.
 pub stands_next : (row : Installation) (new : KeptMeter) (old after : List KeptMeter) → All (λ stands. is_before stands row ≡ true) (map stands_of old)
     → after ≡ old ++ new ∷ [] → new.stands ≡ row → IsNext (map stands_of old) row (map stands_of after)
 stands_next row new old after earlier are is = record { earlier = earlier; after_is = stand_more old new after row are is }
 
 -- If the meter `row` continues the last collected meter, then replacing that meter by the meter
--- over all files satisfies `AddsMeter`.
+-- over all database files satisfies `AddsMeter`.
 pub stands_on : (row : Installation) (last new : KeptMeter) (kept old after : List KeptMeter) → old ≡ kept ++ last ∷ [] → GoesOn last.stands row
     → after ≡ kept ++ new ∷ [] → new.stands ≡ as_one last.stands row → AddsMeter (map stands_of old) row (map stands_of after)
 stands_on row last new kept old after old_is goes after_is is = inl (record {
@@ -213,7 +204,8 @@ stands_otherwise row last kept old mid after apart old_is other mid_is adds =
     (inr (record { before = map stands_of kept; stands = last.stands; known_is = stand_more kept last old last.stands old_is refl; other = other }))
     (subst (λ (those : List KeptMeter). AddsNext (map stands_of those) row (map stands_of after) apart) (mid_is ∙ sym old_is) adds)
 
--- If `mid` is empty, and `old` is `mid` with nothing appended, then `old` is empty.
+-- If the list `mid` is empty, and the list `old` is `mid` with nothing appended, then `old` is
+-- empty.
 nothing_before : (old mid : List KeptMeter) → old ≡ mid ++ [] → mid ≡ [] → old ≡ []
 nothing_before old mid old_is mid_is = old_is ∙ append-nil mid ∙ mid_is
 
@@ -223,15 +215,15 @@ stands_first row old mid after apart old_is mid_is adds =
     next_or_apart (map stands_of old) row (map stands_of after) apart (inl (ap (map stands_of) (nothing_before old mid old_is mid_is)))
     (subst (λ (those : List KeptMeter). AddsNext (map stands_of those) row (map stands_of after) apart) (sym (old_is ∙ append-nil mid)) adds)
 
--- If two lists of collected data are equal and `ReportsAll` holds for one of them, then it holds
--- for the other.
+-- If two lists of collected meter data are equal and `ReportsAll` holds for one of them, then it
+-- holds for the other.
 pub reported_from : (zone : Zone) (range : DayRange) (facts : List Fact) (listed : List Installation) (old mid new : List KeptMeter) (apart : Option Apart)
     → old ≡ mid → ReportsAll zone range facts listed mid new apart → ReportsAll zone range facts listed old new apart
 reported_from zone range facts listed old mid new apart same reports =
     subst (λ (those : List KeptMeter). ReportsAll zone range facts listed those new apart) (sym same) reports
 
--- If the meters that the store lists are added, then the collected data have these meters, or two
--- meters conflict.
+-- If a register's meters in one database file are added to the collected data, then the data have
+-- these meters, or two meters conflict.
 pub added_listed : (zone : Zone) (range : DayRange) (facts : List Fact) (listed shown : List Installation) (old new : List KeptMeter)
     (result : Result (Option Apart) BooksFault) → shown ≡ listed → IfOk result (AddOrAreApart (map stands_of old) shown (map stands_of new))
     → IfOk result (ReportsAll zone range facts shown old new) → IfOk result (AddsListed zone range facts listed old new)
@@ -247,8 +239,6 @@ pub reported_apart : (zone : Zone) (range : DayRange) (facts : List Fact) (liste
     → is_some apart ≡ true → ReportsAll zone range facts listed old new apart
 reported_apart zone range facts listed old new None is = absurd (cc is)
 reported_apart zone range facts listed old new (Some apart) is = tt
-
--- ---- Joining one more file for a statement
 
 pub parts_so : (register : List ℕ) (facts : List Fact) (old : JoinedStatement) (new : List KeptMeter) (zone : Zone) (range : DayRange) (apart : Apart)
     → AddsListed zone range facts (installations_of facts register) old.meters.items new (Some apart)

@@ -1,4 +1,4 @@
--- The state of the old store and of the new office after a file rollover. A file rollover begins a
+-- The state of the old and the new database file after a file rollover. A file rollover begins a
 -- new database file in which each open meter continues.
 use Rattle.std.specs.Prelude.{◌≡◌, ℕ, List, Option, Result, Ok, Err}
 use Rattle.office_events.specs.declared.facts.Fact.{Fact}
@@ -19,21 +19,21 @@ use Rattle.carried_books.specs.declared.carrying.plans.Plan.{Plan}
 use Rattle.carried_books.specs.declared.carrying.plans.Plan.TheVariants as plan
 use Rattle.carried_books.specs.declared.carrying.plans.Plan.TheVariants.{Ready}
 
--- True if `says` holds for the old store's records. This assumes that no wrong result of the old
--- store was used.
+-- True if `says` holds for the records of the old database file. The file must not have returned a
+-- wrong result.
 abbrev pub OfOld : (old new : Ledger) → (List Fact → Type 0) → Type 0
 OfOld old new says = (known : List Fact) → old.holds known → new.is_clean → says known
 
--- The new office executed all commands of the file rollover. They follow from the old store's
--- records and install `meters` meters.
+-- The office (event engine) of the new file executed all commands of the change to a new database
+-- file. These commands follow from the old file's records and install `meters` meters.
 pub record IsCarried {N : Type 0} (old new : Ledger) (until : Option ℕ) (ledger : N → Ledger)
     (before after : Office N) (meters : ℕ) : Type 0 where
   pub commands : List TimedCommand
   pub are : OfOld old new (λ known. AreCarried known until commands meters)
   pub fed : After ledger before after (λ past. AreFed ledger past commands before after)
 
--- The new office refused one of the file rollover's commands, and is in the state after the earlier
--- commands.
+-- The office of a new database file refused one of the commands that set it up, and is in the state
+-- after the earlier commands.
 pub record IsBrokenOff {N : Type 0} (old new : Ledger) (until : Option ℕ) (ledger : N → Ledger)
     (before after : Office N) (why : Refusal) : Type 0 where
   pub commands : List TimedCommand
@@ -41,18 +41,18 @@ pub record IsBrokenOff {N : Type 0} (old new : Ledger) (until : Option ℕ) (led
   pub are : OfOld old new (λ known. AreCarried known until commands meters)
   pub fed : After ledger before after (λ past. AreFedUpTo ledger past commands before after why)
 
--- True if an open meter of the old store has no valid (not voided) entry up to `until`, from which
--- the new file could continue it. Then the new office was given no command.
+-- True if an open meter of the old database file has no valid (not voided) entry up to `until`. The
+-- new file can't continue this meter, and received no command.
 pub record WaitsFor {N : Type 0} (old new : Ledger) (until : Option ℕ) (before after : Office N)
     (meter : List ℕ) : Type 0 where
   pub none : after ≡ before
   pub are : OfOld old new (λ known. IsNotYet known until (open_meters known) meter)
 
--- The result of a file rollover.
+-- The result of a file rollover, the change to a new database file.
 --
--- A success has the number of installed meters. A fault is a command that the new office refused,
--- an open meter without a valid entry, or a failure of the old store or memory. In the last two
--- cases the new office got no command.
+-- A success has the number of installed meters. A fault is a command that the new file's office
+-- refused, an open meter without a valid entry, or a failure of the old database or memory. In the
+-- last two cases, the new office received no command.
 abbrev pub Carries : {N : Type 0} → (old new : Ledger) → (until : Option ℕ) → (N → Ledger)
     → (before after : Office N) → Result ℕ CarryFault → Type 0
 Carries old new until ledger before after (Ok meters) =
@@ -63,8 +63,8 @@ Carries old new until ledger before after (Err (NotYet meter)) =
     WaitsFor old new until before after meter
 Carries old new until ledger before after (Err (Old why)) = after ≡ before
 
--- The new office followed the plan of a file rollover: it executed all commands of the plan, or
--- refused a command.
+-- The new office followed the plan of a file rollover (the change to a new database file): it
+-- executed all commands of the plan, or refused a command.
 --
 -- If the plan names a meter that has no entry to continue from, the office was given no command.
 abbrev pub Follows : {N : Type 0} → (N → Ledger) → Plan → (before after : Office N)
@@ -78,21 +78,23 @@ Follows ledger (plan.NotYet meter) before after (Err (NotYet name)) =
     (name ≡ meter) × (after ≡ before)
 Follows ledger _ before after _ = ⊥
 
--- The old store failed or memory ran out, and the refusal `why` reports that failure.
+-- The database of the old file failed or memory ran out, and the refusal `why` reports that
+-- failure.
 pub record FailedBy (before after : Failures) (why : Refusal) : Type 0 where
   pub fault : BooksFault
   pub is : why ≡ as_refusal fault
   pub failures : FailuresAfterCalls {T = Unit {0}} (Err fault) before after
 
--- The failure counts of the old store change exactly if the result reports a failure of that store.
+-- The failure counts of the old database change only if the result reports a failure of that
+-- database.
 abbrev pub ReportsFailures : (before after : Failures) → Result ℕ CarryFault → Type 0
 ReportsFailures before after (Ok meters) = after ≡ before
 ReportsFailures before after (Err (New why)) = after ≡ before
 ReportsFailures before after (Err (NotYet meter)) = after ≡ before
 ReportsFailures before after (Err (Old why)) = FailedBy before after why
 
--- The old store was only queried: its records, its time zone and its state after a crash are
--- unchanged.
+-- The old database file was only queried: its records, its time zone and its state after a crash
+-- are unchanged.
 pub record OnlyAsked (old new : Ledger) (result : Result ℕ CarryFault) : Type 0 where
   pub keeps : KeepsFacts old new
   pub failures : ReportsFailures old.failures new.failures result

@@ -18,13 +18,12 @@ use Rattle.office_events.specs.declared.facts.ScaleSource.TheVariants as source
 use Rattle.office_books.specs.Facts.{latest_in, list_of, registers_of}
 use Rattle.carried_books.specs.declared.carrying.commands.TimedCommand.{TimedCommand}
 
--- A command with the timestamp at which a new office is to execute it.
+-- A command with the timestamp at which the office of a new database file is to execute the
+-- command.
 abbrev pub timed : (at : ℕ) → Command → TimedCommand
 timed at c = record { at = at; command = c }
 
--- ---- Commands that set up a device, a point list, an accounting register or a meter
-
--- The command that adds a device to the new office.
+-- The command that adds a device to the new database file.
 abbrev pub device_command : Device → Command
 device_command device = command.AddDevice (record {
   name = Some device.name;
@@ -43,7 +42,7 @@ abbrev pub scale_given : ScaleSource → GivenScale
 scale_given (source.Fixed sf) = given.Fixed sf
 scale_given (source.Register address) = given.Register address
 
--- The command that adds an accounting register to the new office.
+-- The command that adds an accounting register (a named counter) to the new database file.
 abbrev pub register_command : Register → Command
 register_command register = command.AddRegister (record {
   name = Some register.name;
@@ -53,8 +52,8 @@ register_command register = command.AddRegister (record {
   scale = scale_given register.scale;
 })
 
--- The command that installs a meter in the new office, from its opening: the record that installs a
--- meter.
+-- The command that installs a meter in the new database file, given the meter's opening (first
+-- entry).
 abbrev pub install_command : Opening → Command
 install_command opening = command.Install (record {
   register = Some opening.register;
@@ -65,13 +64,12 @@ install_command opening = command.Install (record {
   range = opening.range;
 })
 
--- ---- Commands for a device, its point list and its accounting registers, all with one timestamp
-
--- The command that adds a device, with the command's timestamp.
+-- The command that adds a device to the new database file, with the command's timestamp.
 abbrev pub add_device : (at : ℕ) → Device → TimedCommand
 add_device at device = timed at (device_command device)
 
--- The command that stores a device's point list, with the command's timestamp.
+-- The command that stores a device's point list in the new database file, with the command's
+-- timestamp.
 abbrev pub put_list : (at : ℕ) → (device : List ℕ) → Planned → TimedCommand
 put_list at device list = timed at (list_command device list)
 
@@ -81,38 +79,37 @@ abbrev pub write_lists : (at : ℕ) → List Fact → Device → List TimedComma
 write_lists at facts device =
     option_to_list (option_map (put_list at device.name) (list_of facts device.name))
 
--- The command that adds an accounting register, with the command's timestamp.
+-- The command that adds an accounting register (a named counter), with the command's timestamp.
 abbrev pub add_register : (at : ℕ) → Register → TimedCommand
 add_register at register = timed at (register_command register)
 
--- The commands for the accounting registers of a device, in their order.
+-- The commands for the accounting registers (named counters) of a device, in their order.
 abbrev pub add_registers : (at : ℕ) → List Fact → Device → List TimedCommand
 add_registers at facts device = map (add_register at) (registers_of facts device.name)
 
 -- The commands that set up a device: the device, its point list if it has one, and its accounting
--- registers.
+-- registers (named counters).
 abbrev pub set_up_device : (at : ℕ) → List Fact → Device → List TimedCommand
 set_up_device at facts device =
     add_device at device ∷ (write_lists at facts device ++ add_registers at facts device)
 
--- The commands that set up several devices, in their order.
+-- The commands that set up several devices in a new database file, in the order of the devices.
 abbrev pub set_up_devices : (at : ℕ) → List Fact → List Device → List TimedCommand
 set_up_devices at facts devices = flat_map (set_up_device at facts) devices
 
--- ---- The command that installs a meter, at the timestamp of its opening (its first entry)
-
--- The command that installs a meter. Its timestamp is that of the meter's opening, its first entry.
+-- The command that installs a meter in the new database file. Its timestamp is that of the meter's
+-- opening, its first entry.
 abbrev pub install : Opening → TimedCommand
 install opening = timed opening.at (install_command opening)
 
--- The timestamp at which the new file sets up its devices: that of the first meter's opening, or
--- the latest recorded timestamp if no meter is installed.
+-- The timestamp at which the new database file sets up its devices: that of the first meter's
+-- opening, or the latest recorded timestamp if no meter is installed.
 abbrev pub first_moment : List Fact → List Opening → ℕ
 first_moment facts [] = latest_in facts
 first_moment facts (opening ∷ openings) = opening.at
 
--- All commands for the new file: they set up the devices in `devices`, and then install a meter for
--- each opening in `openings`.
+-- All commands for the new database file. These commands set up the devices in `devices`, and then
+-- install a meter for each opening (first entry) in `openings`.
 abbrev pub commands_for : List Fact → List Device → List Opening → List TimedCommand
 commands_for facts devices openings =
     set_up_devices (first_moment facts openings) facts devices ++ map install openings

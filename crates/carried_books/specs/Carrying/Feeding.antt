@@ -1,5 +1,5 @@
--- The effect of feeding commands to an office in order, each as an event at the command's
--- timestamp.
+-- The effect of feeding commands to an office (the part of the program that executes commands) in
+-- order, each as an event at the command's timestamp.
 use Rattle.std.specs.Prelude.{◌≡◌, List, [], ◌∷◌, ◌++◌, Result, Ok, Err}
 use Rattle.office_events.specs.declared.events.Event.{Event}
 use Rattle.office_events.specs.declared.events.Event.TheVariants as event
@@ -11,34 +11,37 @@ use Rattle.office_core.specs.Standing.{After, Stands, books_in}
 use Rattle.office_core.specs.Taking.{IsAnswer, failures_of}
 use Rattle.carried_books.specs.declared.carrying.commands.TimedCommand.{TimedCommand}
 
--- The event that passes a command to an office.
+-- The event that passes a command to an office, the part of the program that executes commands.
 abbrev pub event_of : TimedCommand → Event
 event_of timed = event.Command timed.command
 
--- The command as an event that an office accepted at the command's timestamp.
+-- The command as an event that the office, which executes commands, accepted at the command's
+-- timestamp.
 abbrev pub accepted : TimedCommand → Accepted
 accepted timed = Fed timed.at (event_of timed)
 
--- The history of an office after it executed a list of commands in order.
+-- The history of an office (event engine) after the office executed a list of commands in order.
 abbrev pub history_with : History → List TimedCommand → History
 history_with past [] = past
 history_with past (timed ∷ later) = history_with (accepted timed ∷ past) later
 
--- The office executed all commands in `commands` in order, and its store did not fail.
+-- The office (event engine) executed all commands in `commands` in order, and the database did not
+-- fail.
 pub record AreFed {B : Type 0} (ledger : B → Ledger) (past : History)
     (commands : List TimedCommand) (old new : Office B) : Type 0 where
   pub stands : Stands ledger (history_with past commands) new
   pub failures : failures_of ledger new ≡ failures_of ledger old
 
--- The office refused the command for the reason `why`, and its state is unchanged.
+-- The office (event engine) refused to execute the command for the reason `why`, and the office's
+-- state is unchanged.
 pub record IsRefused {B : Type 0} (ledger : B → Ledger) (past : History) (timed : TimedCommand)
     (old new : Office B) (why : Refusal) : Type 0 where
   pub stands : Stands ledger past new
   pub answer : IsAnswer past timed.at (event_of timed)
       (failures_of ledger old) (failures_of ledger new) (Err why)
 
--- The office executed the first commands in `commands`, and refused the next one. Feeding stopped
--- there.
+-- The office (event engine) executed the first commands in `commands`, and refused the next
+-- command. No further command was given.
 pub record AreFedUpTo {B : Type 0} (ledger : B → Ledger) (past : History)
     (commands : List TimedCommand) (old new : Office B) (why : Refusal) : Type 0 where
   pub given : List TimedCommand
@@ -47,35 +50,36 @@ pub record AreFedUpTo {B : Type 0} (ledger : B → Ledger) (past : History)
   pub are : commands ≡ given ++ next ∷ later
   pub refused : IsRefused ledger (history_with past given) next old new why
 
--- On `Ok` the office executed the command. On an error it refused the command, and its state is
--- unchanged.
+-- States that on `Ok`, the office (event engine) executed the command. On an error, the office
+-- refused the command, and its state is unchanged.
 abbrev pub IsFedOr : {B : Type 0} → (B → Ledger) → History → TimedCommand
     → (old new : Office B) → Result (Unit {0}) Refusal → Type 0
 IsFedOr ledger past timed old new (Ok done) = AreFed ledger past (timed ∷ []) old new
 IsFedOr ledger past timed old new (Err why) = IsRefused ledger past timed old new why
 
--- On `Ok` the office executed all commands. On an error it executed some and refused the next one.
+-- States that on `Ok`, the office (event engine) executed all commands. On an error, the office
+-- executed some commands and refused the next command.
 abbrev pub AreFedOr : {B : Type 0} → (B → Ledger) → History → List TimedCommand
     → (old new : Office B) → Result (Unit {0}) Refusal → Type 0
 AreFedOr ledger past commands old new (Ok done) = AreFed ledger past commands old new
 AreFedOr ledger past commands old new (Err why) = AreFedUpTo ledger past commands old new why
 
--- The contract of feeding one command to an office. It promises `IsFedOr` for any history of the
--- office before the command.
+-- The contract of feeding one command to an office (event engine). The contract promises `IsFedOr`
+-- for any history of the office before the command.
 abbrev pub FeedsOne : {B : Type 0} → (B → Ledger) → TimedCommand → (old new : Office B)
     → Result (Unit {0}) Refusal → Type 0
 FeedsOne ledger timed old new result =
     After ledger old new (λ past. IsFedOr ledger past timed old new result)
 
--- The contract of feeding several commands to an office. It promises `AreFedOr` for any history of
--- the office before the commands.
+-- The contract of feeding several commands to an office (event engine). The contract promises
+-- `AreFedOr` for any history of the office before the commands.
 abbrev pub Feeds : {B : Type 0} → (B → Ledger) → List TimedCommand → (old new : Office B)
     → Result (Unit {0}) Refusal → Type 0
 Feeds ledger commands old new result =
     After ledger old new (λ past. AreFedOr ledger past commands old new result)
 
--- If a store is clean after the call (no wrong result of it was used), then the store was clean
--- before the call. The store's time zone is unchanged in any case.
+-- If no wrong result of the database was used up to the end of a call, then none was used before
+-- the call. The database's time zone is unchanged in any case.
 pub record Passes {B : Type 0} (ledger : B → Ledger) (old new : Office B) : Type 0 where
   pub clean : (ledger (books_in new)).is_clean → (ledger (books_in old)).is_clean
   pub zone : (ledger (books_in new)).zone ≡ (ledger (books_in old)).zone

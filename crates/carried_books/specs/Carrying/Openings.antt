@@ -1,5 +1,5 @@
--- The open meters of an old office, and the openings (first entries) with which these meters
--- continue in a new office.
+-- The open meters of an old database file, and the openings (first entries) with which these meters
+-- continue in a new file.
 use Rattle.std.specs.Prelude.{◌≡◌, ℕ, List, map, Contains, Option, Some, None}
 use Rattle.std.specs.Option.{option_map, option_to_list}
 use Rattle.std.specs.List.{flat_map}
@@ -15,34 +15,30 @@ use Rattle.carried_books.specs.Carrying.Standings.{last_until}
 use Rattle.carried_books.specs.declared.carrying.openings.Openings.{Openings}
 use Rattle.carried_books.specs.declared.carrying.openings.Openings.TheVariants.{All, NotYet}
 
--- ---- Open meters at the accounting registers of devices, in the order in which devices and
--- registers were added
-
--- The open meter at an accounting register; empty if the register has no open meter.
+-- The open meter at an accounting register (a named counter); empty if the register has no open
+-- meter.
 abbrev pub open_at_register : List Fact → Register → List Installation
 open_at_register facts register = option_to_list (open_at facts register.name)
 
--- The open meters at several accounting registers, in the order of the registers.
+-- The open meters at several accounting registers (named counters), in the order of the registers.
 abbrev pub open_at_registers : List Fact → List Register → List Installation
 open_at_registers facts registers = flat_map (open_at_register facts) registers
 
--- The open meters at a device's accounting registers.
+-- The open meters at a device's accounting registers (named counters).
 abbrev pub open_at_device : List Fact → Device → List Installation
 open_at_device facts device = open_at_registers facts (registers_of facts device.name)
 
--- The open meters at the accounting registers of several devices.
+-- The open meters at the accounting registers (named counters) of several devices.
 abbrev pub open_at_devices : List Fact → List Device → List Installation
 open_at_devices facts devices = flat_map (open_at_device facts) devices
 
--- ---- Openings (first entries) of meters in a new office
-
--- The opening (first entry) of a meter in the new file. It has the register, range and ceiling of
--- the old opening, and the counter's state `last`.
+-- The opening (first entry) of a meter in the new database file. It has the register (a named
+-- counter), range and ceiling of the old opening, and the counter's state of `last`.
 abbrev pub opened_at : Opening → Last → Opening
 opened_at opening last = record opening { at = last.at; raw = last.raw; sf = last.sf }
 
--- The opening (first entry) with which a new file continues a meter: its last valid (not voided)
--- entry up to `until`. `None` if the meter has no such entry.
+-- The opening (first entry) with which a new database file continues a meter: its last valid (not
+-- voided) entry up to `until`. `None` if the meter has no such entry.
 abbrev pub opening_until : List Fact → (until : Option ℕ) → Installation → Option Opening
 opening_until facts until row =
     option_map (opened_at row.opening) (last_until facts until row.opening.meter)
@@ -53,8 +49,8 @@ abbrev pub AreOpeningsOf : List Fact → (until : Option ℕ) → List Installat
     → Type 0
 AreOpeningsOf facts until rows openings = map (opening_until facts until) rows ≡ map Some openings
 
--- The meter with this name is among `rows`, and has no valid (not voided) entry up to `until`. So
--- it can't continue in a new file.
+-- The meter with this name is among `rows`, and has no valid (not voided) entry up to `until`. The
+-- meter can't continue in a new database file.
 pub record IsNotYet (facts : List Fact) (until : Option ℕ) (rows : List Installation)
     (meter : List ℕ) : Type 0 where
   pub row : Installation
@@ -62,8 +58,8 @@ pub record IsNotYet (facts : List Fact) (until : Option ℕ) (rows : List Instal
   pub name : row.opening.meter ≡ meter
   pub none : opening_until facts until row ≡ None
 
--- The result has the openings of all meters in `rows`, or the name of a meter that has no valid
--- (not voided) entry up to `until`.
+-- The result has the openings (first entries) of all meters in `rows`. Otherwise it names a meter
+-- that has no valid (not voided) entry up to `until`.
 abbrev pub AreOpened : List Fact → (until : Option ℕ) → List Installation → Openings → Type 0
 AreOpened facts until rows (All openings) = AreOpeningsOf facts until rows openings.items
 AreOpened facts until rows (NotYet meter) = IsNotYet facts until rows meter

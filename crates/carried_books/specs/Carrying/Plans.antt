@@ -1,5 +1,5 @@
--- The plan of a file rollover: the commands that set up the new office, or the reason why there are
--- none.
+-- The plan of a file rollover (the change to a new database file): the commands that set up the new
+-- office, or the reason why there are none.
 use Rattle.std.specs.Prelude.{◌≡◌, ℕ, ◌≤◌, List, length, reverse, Option}
 use Rattle.std.specs.List.{AllPairs}
 use Rattle.std.specs.List.Sorted.{IsPermutation}
@@ -14,17 +14,17 @@ use Rattle.carried_books.specs.declared.carrying.commands.TimedCommand.{TimedCom
 use Rattle.carried_books.specs.declared.carrying.plans.Plan.{Plan}
 use Rattle.carried_books.specs.declared.carrying.plans.Plan.TheVariants.{Ready, NotYet}
 
--- The devices in the records of an office, in the order in which they were added.
+-- The devices in the records of a database file, in the order in which they were added.
 abbrev pub devices_of : List Fact → List Device
 devices_of facts = reverse (devices_in facts)
 
--- The open (not closed) meters at the accounting registers of all devices of an office. A file
--- rollover continues them.
+-- The open (not closed) meters at the accounting registers (named counters) of all devices of an
+-- old database file. A new database file continues these meters.
 abbrev pub open_meters : List Fact → List Installation
 open_meters facts = open_at_devices facts (devices_of facts)
 
--- True if the commands set up the devices in `devices`, and then install `meters` meters with the
--- openings in `opened`, in the order of the openings' timestamps.
+-- True if the commands set up the devices in `devices`, and then install `meters` meters. The
+-- meters have the openings (first entries) in `opened`, in the order of timestamps.
 pub record AreCommandsFor (facts : List Fact) (devices : List Device) (opened : List Opening)
     (commands : List TimedCommand) (meters : ℕ) : Type 0 where
   pub openings : List Opening
@@ -33,9 +33,9 @@ pub record AreCommandsFor (facts : List Fact) (devices : List Device) (opened : 
   pub are : commands ≡ commands_for facts devices openings
   pub count : meters ≡ length openings
 
--- The commands of a file rollover for the new office.
+-- The commands of a file rollover (the change to a new database file) for the new office.
 --
--- They set up each device of the old office, and install each of its open meters at the meter's
+-- These commands set up each device of the old office. They then install each open meter at its
 -- last valid (not voided) entry up to `until`.
 pub record AreCarried (facts : List Fact) (until : Option ℕ) (commands : List TimedCommand)
     (meters : ℕ) : Type 0 where
@@ -43,7 +43,8 @@ pub record AreCarried (facts : List Fact) (until : Option ℕ) (commands : List 
   pub each : AreOpeningsOf facts until (open_meters facts) opened
   pub so : AreCommandsFor facts (devices_of facts) opened commands meters
 
--- True if the plan has the commands for the devices in `devices` and the openings in `opened`.
+-- True if the plan of a file rollover has the commands for the devices in `devices` and the
+-- openings (first entries of meters) in `opened`.
 abbrev pub IsPlanFor : List Fact → List Device → List Opening → Plan → Type 0
 IsPlanFor facts devices opened (Ready commands meters) =
     AreCommandsFor facts devices opened commands.items meters

@@ -1,5 +1,5 @@
--- An accounting register over the database files of one office. The files join if together they
--- have one history of each meter.
+-- An accounting register (a named counter) over the database files of one office. The files join if
+-- together they have one history of each meter.
 --
 -- A file is represented by its records, and lists of files have the latest file first.
 use Rattle.std.specs.Prelude.{◌≡◌, ℕ, Bool, true, false, List, [], ◌∷◌, ◌++◌, Option, Some, None, is_some}
@@ -23,54 +23,57 @@ use Rattle.carried_books.specs.declared.joining.files.JoinedFiles.{JoinedFiles}
 use Rattle.carried_books.specs.declared.joining.files.Unjoined.{Unjoined}
 use Rattle.carried_books.specs.declared.joining.files.Unjoined.TheVariants as unjoined
 
--- ---- The meters and energy intervals at a register in several files
-
--- Whether the file records an accounting register with this name.
+-- True if the database file records an accounting register (a named counter) with this name.
 abbrev pub is_recorded : (register : List ℕ) → List Fact → Bool
 is_recorded register facts = is_some (register_of facts register)
 
--- Whether one of the files in `files` records an accounting register with this name.
+-- True if one of the database files in `files` records an accounting register (a named counter)
+-- with this name.
 abbrev pub is_recorded_in : (register : List ℕ) → (files : List (List Fact)) → Bool
 is_recorded_in register files = list_any (is_recorded register) files
 
--- The energy intervals of an accounting register in all files, in the order of the files.
+-- The energy intervals of an accounting register (a named counter) in all database files of an
+-- office, in the order of the files.
 abbrev pub rows_over : (register : List ℕ) → (files : List (List Fact)) → List Share
 rows_over register [] = []
 rows_over register (facts ∷ files) = rows_over register files ++ rows_of_register facts register
 
--- The energy intervals of an accounting register in all files that are in the span of time.
+-- The energy intervals of an accounting register (a named counter) in all database files, limited
+-- to a span of time.
 abbrev pub rows_over_within : Span → (register : List ℕ) → (files : List (List Fact)) → List Share
 rows_over_within span register [] = []
 rows_over_within span register (facts ∷ files) =
     rows_over_within span register files ++ rows_within span (rows_of_register facts register)
 
--- The meters at an accounting register in all files, file by file. The meters of each file are in
--- the order of installation.
+-- The meters at an accounting register (a named counter) in all database files, file by file. The
+-- meters of each file are in the order of installation.
 abbrev pub meters_over : (register : List ℕ) → (files : List (List Fact)) → List Installation
 meters_over register [] = []
 meters_over register (facts ∷ files) =
     meters_over register files ++ installations_of facts register
 
--- ---- Files of one office that join at a register: together they have one history of its meters
-
--- If a file records the accounting register, each later file records it too.
+-- If a database file records an accounting register (a named counter), each later file records this
+-- register too.
 abbrev pub StaysRecorded : (register : List ℕ) → (files : List (List Fact)) → Type 0
 StaysRecorded register [] = Unit {0}
 StaysRecorded register (facts ∷ files) =
     (is_recorded_in register files ≡ true → is_recorded register facts ≡ true)
     × StaysRecorded register files
 
--- The files join at an accounting register: together they have one history of its meters `meters`.
+-- Several database files join at an accounting register (a named counter): together they have one
+-- history of the register's meters `meters`.
 --
--- If one file records the accounting register, then all later files do. Each meter of a file
--- continues a meter of the previous files, or begins after their meters were closed.
+-- If one file records the accounting register, then all later files record this register. Each
+-- meter of a file continues a meter of the previous files, or begins after their meters were
+-- closed.
 pub record AreJoined (register : List ℕ) (files : List (List Fact)) (meters : List Installation) :
     Type 0 where
   pub recorded : StaysRecorded register files
   pub joined : AddMeters [] (meters_over register files) meters
 
--- True if `kept` has the data of files that join (have one history) at an accounting register.
--- These are the register's meters, and the sum of its intervals in a span of time by civil day.
+-- True if `kept` has the data of files that join (have one history) at an accounting register (a
+-- named counter). These are the register's meters, and the sum of its intervals in a span of time
+-- by civil day.
 --
 -- The sum is right if the energy of the intervals fits in 128 bits.
 pub record HasJoined (zone : Zone) (span : Span) (register : List ℕ) (files : List (List Fact))
@@ -82,18 +85,17 @@ pub record HasJoined (zone : Zone) (span : Span) (register : List ℕ) (files : 
   pub days : HasNumber (rows_over_within span register files)
       → HasTaken zone (rows_over_within span register files) kept.days.fold
 
--- ---- Adding one more file to the earlier files of an office
-
--- The file's energy intervals were added to the days, or one of them was out of order: before an
--- earlier interval, or after the largest supported timestamp.
+-- The file's energy intervals were added to the energies by day, or one of the intervals was out of
+-- order: before an earlier interval, or after the largest supported timestamp.
 abbrev pub AddDays : (rows : List Share) → (old new : JoinedDays) → Option Unjoined → Type 0
 AddDays rows old new None = TakesAll TakesShare old rows new × (new.fault ≡ None)
 AddDays rows old new (Some unjoined.OutOfTurn) =
     TakesAll TakesShare old rows new × (new.fault ≡ Some OutOfTurn)
 AddDays rows old new (Some why) = ⊥
 
--- The file continues the earlier files. It records the register if an earlier file does, its meters
--- continue or follow the earlier meters, and its energy intervals were added.
+-- A database file continues the earlier files. The file records the register if an earlier file
+-- does, the file's meters continue or follow the earlier meters, and the file's energy intervals
+-- were added.
 pub record JoinsFile (span : Span) (register : List ℕ) (facts : List Fact)
     (old new : JoinedFiles) : Type 0 where
   pub recorded : new.is_recorded ≡ is_recorded register facts
@@ -101,23 +103,23 @@ pub record JoinsFile (span : Span) (register : List ℕ) (facts : List Fact)
   pub meters : AddMeters old.meters.items (installations_of facts register) new.meters.items
   pub days : AddDays (rows_within span (rows_of_register facts register)) old.days new.days None
 
--- One of the file's energy intervals starts before an earlier interval of the earlier files or of
--- this file, or after the largest supported timestamp.
+-- One of the energy intervals of a database file starts before an earlier interval of this file or
+-- of earlier files, or after the largest supported timestamp.
 pub record IsOutOfTurn (span : Span) (register : List ℕ) (facts : List Fact)
     (old : JoinedFiles) : Type 0 where
   pub days : JoinedDays
   pub added : AddDays (rows_within span (rows_of_register facts register)) old.days days
       (Some unjoined.OutOfTurn)
 
--- The meters and the energy intervals of a file were added to those of the earlier files.
+-- The meters and the energy intervals of a database file were added to those of the earlier files.
 pub record AddsBoth (span : Span) (register : List ℕ) (facts : List Fact)
     (old new : JoinedFiles) : Type 0 where
   pub recorded : new.is_recorded ≡ old.is_recorded
   pub meters : AddMeters old.meters.items (installations_of facts register) new.meters.items
   pub days : AddDays (rows_within span (rows_of_register facts register)) old.days new.days None
 
--- The meters and the energy intervals of a file were added, or the reason is returned why the file
--- does not continue the earlier files.
+-- The meters and the energy intervals of a database file were added, or the reason is returned why
+-- the file does not continue the earlier files.
 abbrev pub AddsRows : Span → (register : List ℕ) → (facts : List Fact) → (old new : JoinedFiles)
     → Option Unjoined → Type 0
 AddsRows span register facts old new None = AddsBoth span register facts old new
@@ -127,8 +129,8 @@ AddsRows span register facts old new (Some (unjoined.Apart apart)) =
 AddsRows span register facts old new (Some unjoined.OutOfTurn) =
     IsOutOfTurn span register facts old
 
--- The file continues the history of the register in the earlier files, or the reason is returned
--- why it does not.
+-- The new file continues the history of the register (a named counter) in the earlier files, or the
+-- reason is returned why the file does not.
 abbrev pub Joins : Span → (register : List ℕ) → (facts : List Fact) → (old new : JoinedFiles)
     → Option Unjoined → Type 0
 Joins span register facts old new None = JoinsFile span register facts old new
@@ -139,15 +141,15 @@ Joins span register facts old new (Some (unjoined.Apart apart)) =
 Joins span register facts old new (Some unjoined.OutOfTurn) =
     IsOutOfTurn span register facts old
 
--- The file does not continue the history of the register in the earlier files, for the reason
--- `why`.
+-- The new database file does not continue the history of the register (a named counter) in the
+-- earlier files, for the reason `why`.
 abbrev pub DoesNotJoin : Span → (register : List ℕ) → (facts : List Fact) → (old : JoinedFiles)
     → Unjoined → Type 0
 DoesNotJoin span register facts old why =
     (new : JoinedFiles) × Joins span register facts old new (Some why)
 
--- If the earlier files join (have one history of the register), then they still do with the new
--- file, or the reason is returned why not.
+-- If the earlier database files join (have one history of the register (a named counter)), then
+-- they also join together with the new file. Otherwise the reason why not is returned.
 abbrev pub AllJoin : Span → (register : List ℕ) → (facts : List Fact) → (old new : JoinedFiles)
     → Option Unjoined → Type 0
 AllJoin span register facts old new None = (zone : Zone) (files : List (List Fact))

@@ -1,5 +1,5 @@
--- Joining the meters at a register over the files of one office. Each meter of the next file must
--- continue an earlier meter, or begin after the earlier meters were closed.
+-- Joining the meters at a register (a named counter) over several database files. Each meter of the
+-- next file must continue an earlier meter, or begin after the earlier meters were closed.
 --
 -- Lists have the first installed meter first.
 use Rattle.std.specs.Prelude.{◌≡◌, ◌⊎◌, ◌+◌, ◌-◌, ◌^◌, nat_le, min, Bool, true, false, not, ◌&&◌, List, [], ◌∷◌, ◌++◌, All, Contains, Option, Some, None}
@@ -10,18 +10,16 @@ use Rattle.office_books.specs.Meters.{installed}
 use Rattle.office_books.specs.Rows.{TakesAll, TakesFirst}
 use Rattle.carried_books.specs.declared.joining.meters.Apart.{Apart}
 
--- ---- A meter that continues or precedes another meter
-
--- The meter `stands` of an earlier file continues as the meter `row` of a later file.
+-- The meter `stands` of an earlier database file continues as the meter `row` of a later file.
 --
 -- The two meters have the same name, and the state of `stands` equals the opening (first entry) of
--- `row`. The audit of several files has the same requirement.
+-- `row`. The check of several files has the same requirement.
 pub record GoesOn (stands row : Installation) : Type 0 where
   pub name : row.opening.meter ≡ stands.opening.meter
   pub goes : GoesOnAs (installed stands.opening) stands.last stands.ended (installed row.opening)
 
--- One meter over both files. It has the opening (first entry) of `stands`, the later state of
--- `row`, and the energy of both files in mWh, at most 2^64 - 1.
+-- One meter over two database files. The meter has the opening (first entry) of `stands` and the
+-- later state of `row`. Its energy is that of both files in mWh, at most 2^64 - 1.
 abbrev pub as_one : (stands row : Installation) → Installation
 as_one stands row = record {
   opening = stands.opening;
@@ -30,17 +28,15 @@ as_one stands row = record {
   ended = row.ended;
 }
 
--- Whether the meter `stands` precedes the meter `row`: the meters have different names, and
+-- True if the meter `stands` precedes the meter `row`: the meters have different names, and
 -- `stands` was closed by the time when `row` was opened.
 abbrev pub is_before : (stands row : Installation) → Bool
 is_before stands row =
     stands.ended
     && (nat_le stands.last.at row.opening.at && not (same row.opening.meter stands.opening.meter))
 
--- ---- Adding one more meter of a register
-
--- The meter `row` continues the last meter in `known`. In `after`, both are replaced by one meter
--- over all files.
+-- True if the meter `row` continues the last meter in the list `known`. In the list `after`, both
+-- are replaced by one meter over all database files.
 pub record IsOne (known : List Installation) (row : Installation) (after : List Installation) :
     Type 0 where
   pub before : List Installation
@@ -49,63 +45,63 @@ pub record IsOne (known : List Installation) (row : Installation) (after : List 
   pub goes : GoesOn stands row
   pub after_is : after ≡ before ++ as_one stands row ∷ []
 
--- All meters in the list `known` precede the meter `row`, and `row` is appended to this list.
+-- All meters in the list `known` precede the meter `row` (were closed before `row` began), and
+-- `row` is appended to this list.
 pub record IsNext (known : List Installation) (row : Installation) (after : List Installation) :
     Type 0 where
   pub earlier : All (λ stands. is_before stands row ≡ true) known
   pub after_is : after ≡ known ++ row ∷ []
 
--- The meter `row` continues the last meter in `known`. Or all meters in `known` precede `row`, and
--- `row` is appended to this list.
+-- True if the meter `row` continues the last meter in the list `known`, or all meters in `known`
+-- were closed before `row` began. Then `after` has `row` added.
 abbrev pub AddsMeter : (known : List Installation) → Installation → (after : List Installation)
     → Type 0
 AddsMeter known row after = IsOne known row after ⊎ IsNext known row after
 
--- ---- A meter that neither continues nor follows the earlier meters of a register
-
--- The list `known` is not empty, and the meter `row` does not continue its last meter.
+-- The list of earlier meters `known` is not empty, and the meter `row` of a later file does not
+-- continue the last meter of the list.
 pub record EndsOtherwise (known : List Installation) (row : Installation) : Type 0 where
   pub before : List Installation
   pub stands : Installation
   pub known_is : known ≡ before ++ stands ∷ []
   pub other : GoesOn stands row → ⊥
 
--- The list `known` is empty, or the meter `row` does not continue its last meter.
+-- The list of earlier meters `known` is empty, or the meter `row` of a later database file does not
+-- continue the last meter of the list.
 abbrev pub NoneGoesOn : (known : List Installation) → Installation → Type 0
 NoneGoesOn known row = (known ≡ []) ⊎ EndsOtherwise known row
 
--- The meter `row` does not continue the last meter in `known`. The meter in `apart` was not closed
--- before `row` began, or has the name of `row`.
+-- The meter `row` does not continue the last of the earlier meters in `known`. The meter in `apart`
+-- was not closed before `row` began, or has the name of `row`.
 pub record IsApart (known : List Installation) (row : Installation) (apart : Apart) : Type 0 where
   pub begins : apart.begins ≡ row
   pub among : Contains known apart.stands
   pub not_before : is_before apart.stands row ≡ false
   pub other : NoneGoesOn known row
 
--- The meter `row` is appended to the list `known`, because all meters in the list precede it.
--- Otherwise a meter is returned that was not closed before `row` began, or has its name.
+-- The meter `row` is appended to the list `known`, because all meters in the list were closed
+-- before `row` began. Otherwise a meter is returned that was not closed before `row` began, or has
+-- the name of `row`.
 abbrev pub AddsNext : (known : List Installation) → Installation → (after : List Installation)
     → Option Apart → Type 0
 AddsNext known row after None = IsNext known row after
 AddsNext known row after (Some apart) =
     (apart.begins ≡ row) × Contains known apart.stands × (is_before apart.stands row ≡ false)
 
--- The meter `row` continues the last meter in `known`, or follows all meters in `known`. Otherwise
--- a meter is returned that `row` neither continues nor follows.
+-- The meter `row` continues the last of the earlier meters in `known`, or begins after all of them
+-- were closed. Otherwise a meter is returned with which `row` conflicts.
 abbrev pub AddsOrIsApart : (known : List Installation) → Installation
     → (after : List Installation) → Option Apart → Type 0
 AddsOrIsApart known row after None = AddsMeter known row after
 AddsOrIsApart known row after (Some apart) = IsApart known row apart
 
--- ---- Adding the meters of a file to the earlier meters of a register
-
--- Each meter in `listed` continues or follows the meters before it, beginning with those in
--- `known`.
+-- Each meter in `listed` continues or follows the meters before it, beginning with the earlier
+-- meters in `known`.
 abbrev pub AddMeters : (known listed after : List Installation) → Type 0
 AddMeters known listed after = TakesAll AddsMeter known listed after
 
--- Some meters in `listed` were added to those in `known`, and then one neither continues nor
--- follows the meters before it.
+-- Some meters in `listed` were added to those in `known`, and then a meter was found that neither
+-- continues nor follows the earlier meters.
 pub record AreApart (known listed : List Installation) (apart : Apart) : Type 0 where
   pub mid : List Installation
   pub begun : TakesFirst AddsMeter known listed mid
@@ -114,7 +110,7 @@ pub record AreApart (known listed : List Installation) (apart : Apart) : Type 0 
   pub is : IsApart mid row apart
 
 -- All meters in `listed` were added to those in `known`, or two meters are returned of which the
--- later neither continues nor follows the earlier.
+-- later neither continues the earlier nor begins after its closing.
 abbrev pub AddOrAreApart : (known listed after : List Installation) → Option Apart → Type 0
 AddOrAreApart known listed after None = AddMeters known listed after
 AddOrAreApart known listed after (Some apart) = AreApart known listed apart

@@ -1,4 +1,5 @@
--- A register's days over earlier files and a running office.
+-- The energies of a register (a named counter) by civil day, over earlier database files and the
+-- file of the running program.
 --
 -- The energy intervals of the earlier files were added up before, in order.
 use Rattle.std.specs.Prelude.{◌≡◌, ◌⊎◌, ℕ, List, ◌++◌, map, All, Option, Some, Result, Ok, Err, MatchResult, OnOk}
@@ -34,14 +35,13 @@ use Rattle.carried_books.specs.Joining.Days.{AreOutOfTurn, AreSumOf, HasNumber, 
 use Rattle.carried_books.specs.declared.joining.days.EarlierDays.{EarlierDays}
 use Rattle.carried_books.specs.declared.joining.days.JoinedDays.{JoinedDays}
 
--- ---- The energy intervals of a running office
-
--- The records have this opening (a meter's first entry), and a lookup of the meter's name finds it.
+-- The records of a database file have this opening (a meter's first entry), and a search for the
+-- meter's name finds it.
 abbrev pub IsInstalled : List Fact → Opening → Type 0
 IsInstalled facts opening = opening_of facts opening.meter ≡ Some opening
 
--- The energy intervals of the meters with the openings in `openings` were added up over a span of
--- time, one meter after another; or the store failed.
+-- The energy intervals of the meters with the openings (first entries) in `openings` were added up
+-- over a span of time, one meter after another. Otherwise the database failed.
 abbrev pub TakesMeters : List Fact → List Opening → Span → (before after : Failures)
     → (from to : JoinedDays) → Result (Unit {0}) Refusal → Type 0
 TakesMeters facts openings span before after from to result =
@@ -50,8 +50,8 @@ TakesMeters facts openings span before after from to result =
     (rows_within span (flat_map (rows_of_opening facts) openings)) to)
     (IsOutside ⊥ before after)
 
--- If the meters in `listed` are in the office's records, then their energy intervals were added up
--- from these records. The office was only queried.
+-- If the meters in `listed` are in the records of the current database file, then their energy
+-- intervals were added up from these records. The records were only read.
 pub record AsksMeters {B : Type 0} (ledger : B → Ledger) (old new : Office B)
     (listed : List Installation) (span : Span) (from to : JoinedDays)
     (result : Result (Unit {0}) Refusal) : Type 0 where
@@ -62,8 +62,8 @@ pub record AsksMeters {B : Type 0} (ledger : B → Ledger) (old new : Office B)
       → TakesMeters (facts_of past) openings span
       (failures_of ledger old) (failures_of ledger new) from to result)
 
--- The energy intervals of the accounting register in a span of time were added up. Otherwise no
--- register has the name, or the store failed.
+-- The energy intervals of the accounting register (a named counter) in a span of time were added
+-- up. Otherwise no register has the name, or the database failed.
 pub record TakesRegister (facts : List Fact) (register : List ℕ) (span : Span)
     (before after : Failures) (from to : JoinedDays) (result : Result (Unit {0}) Refusal) :
     Type 0 where
@@ -71,20 +71,18 @@ pub record TakesRegister (facts : List Fact) (register : List ℕ) (span : Span)
   pub whole : OnOk result (TakesAll TakesShare from
       (rows_within span (rows_of_register facts register)) to)
 
--- The energy intervals of the accounting register were added up from the records of all events that
--- the office accepted. The office was only queried.
+-- The energy intervals of the accounting register (a named counter) were added up from the records
+-- of all events that the program accepted. The records were only read.
 abbrev pub AsksRegister : {B : Type 0} → (B → Ledger) → (old new : Office B)
     → (register : List ℕ) → Span → (from to : JoinedDays) → Result (Unit {0}) Refusal → Type 0
 AsksRegister ledger old new register span from to result = After ledger old new (λ past.
     TakesRegister (facts_of past) register span (failures_of ledger old) (failures_of ledger new)
     from to result)
 
--- ---- The days of a register over earlier files and a running office
-
--- The result is the list of days of the energy intervals in `rows`, or the reason for a refusal.
+-- The result has the energy by day of the intervals in `rows`, or the reason for a refusal.
 --
--- The reasons are: no register has the name, the store or memory failed, the office had stopped
--- after a failure, or an interval is out of order.
+-- The reasons are: no register has the name, the database or memory failed, the program's event
+-- handling had stopped after a failure, or an interval is out of order.
 abbrev pub ListsOver : Zone → (rows : List Share) → (there : Option (Unit {0}))
     → (before after : Failures) → Result (Vec DayTotal Global) Refusal → Type 0
 ListsOver zone rows there before after (Ok days) =
@@ -93,14 +91,15 @@ ListsOver zone rows there before after (Err why) =
     IsFound {T = Unit {0}} (there ≡ Some tt) there before after (Err why)
     ⊎ ((why ≡ refusal.Store store.NoDay) × (after ≡ before) × AreOutOfTurn rows)
 
--- The energy intervals of earlier files, followed by those of the office in a span.
+-- The energy intervals of earlier database files, followed by those of the current file in a span
+-- of time.
 abbrev pub rows_of_both : Span → (earlier : List Share) → List Fact → (register : List ℕ)
     → List Share
 rows_of_both span earlier facts register =
     earlier ++ rows_within span (rows_of_register facts register)
 
--- The days of an accounting register over earlier files and the office's accepted events. The total
--- energy must fit in 128 bits.
+-- The energy by day of an accounting register (a named counter) over earlier database files and the
+-- events that the running program accepted. The total energy must fit in 128 bits.
 abbrev pub ReportsDaysOver : {B : Type 0} → (B → Ledger) → (old new : Office B) → Zone
     → (earlier : EarlierDays) → (register : List ℕ) → Span
     → Result (Vec DayTotal Global) Refusal → Type 0
@@ -111,8 +110,8 @@ ReportsDaysOver ledger old new zone earlier register span result = After ledger 
     (is_there (register_of (facts_of past) register))
     (failures_of ledger old) (failures_of ledger new) result)
 
--- The refusal if memory for the days ran out. It reports any other failure first: that no register
--- has the name, the store failed, or the office had stopped. Otherwise it is `Memory`.
+-- The refusal of a request if memory ran out. Any other failure is reported first: no register has
+-- the name, the database failed, or the program had stopped. Otherwise the refusal is `Memory`.
 abbrev pub LacksMemory : {B : Type 0} → (B → Ledger) → (old new : Office B)
     → (register : List ℕ) → Refusal → Type 0
 LacksMemory ledger old new register why = After ledger old new (λ past.

@@ -1,4 +1,5 @@
--- An accounting register's report over the files of one office, on a range of days.
+-- The report of an accounting register (a named counter) over several database files, on a range of
+-- days.
 use Rattle.std.specs.Prelude.{◌≡◌, ◌↔◌, ℕ, List, [], ◌∷◌, ◌++◌, map, Option, Some}
 use Rattle.std.specs.declared.io.Write as writers
 use Rattle.command_io.specs.declared.status.ExitStatus.{ExitStatus}
@@ -19,31 +20,31 @@ use Rattle.carried_books.specs.Joining.Files.{HasJoined, rows_over}
 use Rattle.carried_books.specs.declared.joining.files.JoinedFiles.{JoinedFiles}
 
 -- True if `days` are the civil days in the range, with the energy of the register's intervals in
--- all files.
+-- all database files.
 pub record AreDaysOver (zone : Zone) (register : List ℕ) (files : List (List Fact))
     (range : DayRange) (days : List DayAccount) : Type 0 where
   pub all : List DayAccount
   pub are : AreAccounts zone (rows_over register files) all
   pub asked : days ≡ accounts_within range all
 
--- The text of the report over all files. It has the register's days in the range, by the clocks of
--- the time zone, in the requested units and format.
+-- The text of a register's report over all database files. The text has the register's energy by
+-- day in the range, by the clocks of the time zone, in the requested units and format.
 abbrev pub IsReportOver : Zone → (register : List ℕ) → (files : List (List Fact)) → ReportForm
     → (text : List ℕ) → Type 0
 IsReportOver zone register files form text = (days : List DayTotal)
     × AreDaysOver zone register files form.range (map account_of days)
     × (text ≡ report_text form days)
 
--- The report over all files was printed. If a write failed, only a beginning of the report was
--- printed.
+-- The report of a register (a named counter) over all database files was printed. If a write
+-- failed, only a beginning of the report was printed.
 pub record PrintsOver (zone : Zone) (register : List ℕ) (files : List (List Fact))
     (form : ReportForm) (status : ExitStatus) (had holds : Option (List ℕ)) : Type 0 where
   pub text : List ℕ
   pub is : IsReportOver zone register files form text
   pub reported : IsReported text Fine status had holds
 
--- The report was printed from the data of files that join (have one history of the register), if
--- their total energy fits in 128 bits.
+-- The report of a register (a named counter) was printed from the data of files that join (have one
+-- history of the register). The total energy must fit in 128 bits.
 abbrev pub ReportsJoined : {W : Type 0} → writers.Ghosts W → JoinedFiles → ReportForm
     → (had holds : W) → ExitStatus → Type 0
 ReportsJoined w joined form had holds status =
@@ -52,14 +53,15 @@ ReportsJoined w joined form had holds status =
     → HasNumber (rows_over register files)
     → PrintsOver zone register files form status (w.contents had) (w.contents holds)
 
--- The theorem that a report over one file has the register's days in this file.
+-- The theorem that a report over one database file has the register's energy by day in this file.
 abbrev pub OneFileReportsItsDays : Type 0
 OneFileReportsItsDays = (zone : Zone) (register : List ℕ) (facts : List Fact) (range : DayRange)
     (days : List DayAccount)
     → AreDaysOver zone register (facts ∷ []) range days
     ↔ AreDaysWithin zone facts (Some register) range days
 
--- The theorem that a report of a meter's days over two files equals the report over a single file.
+-- The theorem that a report of a meter's energy by day over two database files equals the report
+-- over a single file.
 --
 -- The second file continues the meter where the first file ended. The single file has the complete
 -- history of the meter.

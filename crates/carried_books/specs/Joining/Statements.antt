@@ -1,4 +1,4 @@
--- Statements of an accounting register's meters over the files of one office, on a range of days. A
+-- Statements of an accounting register's meters over several database files, on a range of days. A
 -- statement has the numbers against which a bill is checked.
 --
 -- A file is represented by its records, and lists of files have the latest file first.
@@ -38,17 +38,15 @@ use Rattle.carried_books.specs.declared.joining.meters.Apart.{Apart}
 use Rattle.carried_books.specs.declared.joining.kept_meters.KeptMeter.{KeptMeter}
 use Rattle.carried_books.specs.declared.joining.statements.JoinedStatement.{JoinedStatement}
 
--- ---- The data of a meter over several files
-
--- The data of a meter over several files: its state, its entries in order (including voided ones),
--- its energy intervals, and its rejected readings.
+-- The data of a meter over several database files: its state, its entries in order (including
+-- voided (cancelled) entries), its energy intervals, and its rejected readings.
 pub record MeterOver : Type 0 where
   pub stands : Installation
   pub entries : List MeterEntry
   pub rows : List Share
   pub holds : List HeldReading
 
--- The data of a meter in one of the files that have the meter.
+-- The data of a meter in a single database file that has the meter.
 abbrev pub meter_in : List Fact → Installation → MeterOver
 meter_in facts row = record {
   stands = row;
@@ -57,7 +55,7 @@ meter_in facts row = record {
   holds = holds_of facts row.opening.meter;
 }
 
--- The entries of a meter in one file that no earlier file has.
+-- The entries of a meter in one database file that no earlier file has.
 --
 -- If the meter continues from an earlier file, its opening (first entry) is left out, since it
 -- repeats the last valid entry of that file.
@@ -65,8 +63,8 @@ abbrev pub own_entries : (goes_on : Bool) → List MeterEntry → List MeterEntr
 own_entries true entries = drop 1 entries
 own_entries false entries = entries
 
--- The data of a meter over several files. It combines the data `one` of the earlier files with the
--- data `next` of the next file, in which the meter continues.
+-- The data of a meter over several database files, combined from its data `one` in the earlier
+-- files and its data `next` in the next file.
 abbrev pub both_of : (one next : MeterOver) → MeterOver
 both_of one next = record {
   stands = as_one one.stands next.stands;
@@ -75,10 +73,8 @@ both_of one next = record {
   holds = one.holds ++ next.holds;
 }
 
--- ---- Joining the meters at a register over several files
-
--- The meter `next` continues the last meter in `known`. In `after`, both are replaced by one meter
--- over all files.
+-- True if the meter `next` continues the last meter in the list `known`. In the list `after`, both
+-- are replaced by one meter over all database files.
 pub record IsOneOver (known : List MeterOver) (next : MeterOver) (after : List MeterOver) :
     Type 0 where
   pub before : List MeterOver
@@ -94,20 +90,20 @@ pub record IsNextOver (known : List MeterOver) (next : MeterOver) (after : List 
   pub earlier : All (λ one. is_before one.stands next.stands ≡ true) known
   pub after_is : after ≡ known ++ next ∷ []
 
--- The meter `next` continues the last meter in `known`. Or all meters in `known` precede `next`,
--- and `next` is appended to this list.
+-- True if the meter `next` continues the last meter in the list `known`, or all meters in `known`
+-- were closed before `next` began.
 abbrev pub AddsOver : (known : List MeterOver) → MeterOver → (after : List MeterOver) → Type 0
 AddsOver known next after = IsOneOver known next after ⊎ IsNextOver known next after
 
--- The data of the meters at an accounting register in all files, file by file. The meters of each
--- file are in the order of installation.
+-- The data of the meters at an accounting register (a named counter) in all database files, file by
+-- file. The meters of each file are in the order of installation.
 abbrev pub parts_over : (register : List ℕ) → (files : List (List Fact)) → List MeterOver
 parts_over register [] = []
 parts_over register (facts ∷ files) =
     parts_over register files ++ map (meter_in facts) (installations_of facts register)
 
--- The files join at the accounting register (have one history of its meters), and `meters` are its
--- meters over all files.
+-- The database files join at the accounting register (have one history of its meters), and `meters`
+-- are its meters over all files.
 --
 -- A meter that the latest file does not have keeps its data from the earlier files.
 pub record AreMetersOver (register : List ℕ) (files : List (List Fact)) (meters : List MeterOver) :
@@ -115,12 +111,11 @@ pub record AreMetersOver (register : List ℕ) (files : List (List Fact)) (meter
   pub recorded : StaysRecorded register files
   pub joined : TakesAll AddsOver [] (parts_over register files) meters
 
--- ---- The statement of a meter over several files
-
--- The statement of a meter over all files.
+-- The statement of a meter over all database files, to check a bill.
 --
--- It has the first and last entry and the corrections in the range. Its energy is that of the
--- intervals that start in the range. It also has the counts of rejected readings in the range.
+-- The statement has the first and last entry and the corrections in the range of days. The energy
+-- is that of the intervals that start in the range. The counts of rejected readings are those in
+-- the range.
 abbrev pub statement_over : Zone → DayRange → MeterOver → MeterStatement
 statement_over zone range m = record {
   meter = m.stands.opening.meter;
@@ -129,45 +124,45 @@ statement_over zone range m = record {
   held = held_within zone range m.holds;
 }
 
--- The statements of the meters that were installed in the range. The time of installation is that
--- of the meter's first entry in the first file that has the meter.
+-- The statements (reports, one for each meter) of the meters that were installed in the range of
+-- days. A meter's first entry in the first database file that has the meter is its installation.
 abbrev pub statements_over : Zone → DayRange → List MeterOver → List MeterStatement
 statements_over zone range meters =
     map (statement_over zone range) (filter (λ m. was_installed zone range m.stands) meters)
 
--- True if `text` has the statements of the accounting register's meters over the files.
+-- True if `text` has the statements (reports) of the accounting register's meters over the database
+-- files.
 abbrev pub IsStatementOver : Zone → (register : List ℕ) → (files : List (List Fact))
     → StatementForm → (text : List ℕ) → Type 0
 IsStatementOver zone register files form text = (meters : List MeterOver)
     × AreMetersOver register files meters
     × (text ≡ statement_text form (statements_over zone form.range meters))
 
--- ---- The collected data of a meter over several files
-
--- The data of a meter that are collected for its statement: its state over all files, and its
--- statement for the range.
+-- The data of a meter that are collected for a statement (billing report): the state over all
+-- database files, and the statement for the range of days.
 abbrev pub kept_of : Zone → DayRange → MeterOver → KeptMeter
 kept_of zone range m = record { stands = m.stands; reported = statement_over zone range m }
 
--- The collected data in `kept` are those of the meter at the same index in `meters`.
+-- Each element of `kept` has the data collected over several database files for the meter at the
+-- same index in `meters`.
 abbrev pub AreReported : Zone → DayRange → List KeptMeter → List MeterOver → Type 0
 AreReported zone range kept meters = kept ≡ map (kept_of zone range) meters
 
--- The state of a meter whose data were collected.
+-- The state of a meter whose data were collected over several database files.
 abbrev pub stands_of : KeptMeter → Installation
 stands_of kept = kept.stands
 
--- The statement of a meter whose data were collected.
+-- The statement (report) of a meter whose data were collected over several database files.
 abbrev pub reported_of : KeptMeter → MeterStatement
 reported_of kept = kept.reported
 
--- The statements of the meters in `kept` that were installed in the range.
+-- The statements (reports) of the meters in `kept` that were installed in the range.
 abbrev pub rows_of_those : Zone → DayRange → List KeptMeter → List MeterStatement
 rows_of_those zone range kept =
     map reported_of (filter (λ one. was_installed zone range one.stands) kept)
 
--- True if `kept` has the statements of an accounting register's meters over files that join, on the
--- days of the range in the time zone.
+-- True if `kept` has the statements (reports) of a register's meters over files that join (have one
+-- history), on the days of a range.
 pub record HasStated (zone : Zone) (range : DayRange) (register : List ℕ)
     (files : List (List Fact)) (kept : JoinedStatement) : Type 0 where
   pub recorded : kept.is_recorded ≡ is_recorded_in register files
@@ -176,16 +171,14 @@ pub record HasStated (zone : Zone) (range : DayRange) (register : List ℕ)
   pub are : AreMetersOver register files meters
   pub reported : AreReported zone range kept.meters.items meters
 
--- ---- Collecting the data of a register's meters in one more file
-
--- The tally (first and last entry, corrections) of some entries becomes the tally of these entries
--- followed by `entries`.
+-- The tally (first and last entry, corrections) of some meter entries is extended by the entries in
+-- `entries`.
 abbrev pub TalliesOn : Zone → DayRange → List MeterEntry → (old new : EntryTally) → Type 0
 TalliesOn zone range entries old new = (before : List MeterEntry)
     → old ≡ tally_of zone range before → new ≡ tally_of zone range (before ++ entries)
 
--- The statement of a meter in one file. Its tally of entries continues that of the earlier files.
--- Its energy and rejected readings are those of this file alone.
+-- The statement (report) of a meter in one database file. The tally of entries continues the tally
+-- of the earlier files. The energy and rejected readings are those of this file alone.
 pub record ReportsPart (zone : Zone) (range : DayRange) (meter : List ℕ) (goes_on : Bool)
     (facts : List Fact) (begun : EntryTally) (reported : MeterStatement) : Type 0 where
   pub meter_is : reported.meter ≡ meter
@@ -207,7 +200,7 @@ both_held one more = record {
   not_below_range = counted (one.not_below_range + more.not_below_range);
 }
 
--- The collected data of a meter over the earlier files and the next file.
+-- The collected data of a meter over the earlier database files and the next file.
 abbrev pub with_part : KeptMeter → Installation → (part : MeterStatement) → KeptMeter
 with_part kept row part = record {
   stands = as_one kept.stands row;
@@ -219,8 +212,8 @@ with_part kept row part = record {
   };
 }
 
--- If the meters in `listed` of one more file continue or follow the earlier meters, then their data
--- are added to the collected data.
+-- If the meters in `listed`, which are those of one more file, continue or follow the earlier
+-- meters, their data are added to the collected data.
 abbrev pub ReportsAll : Zone → DayRange → (facts : List Fact) → (listed : List Installation)
     → (old new : List KeptMeter) → Option Apart → Type 0
 ReportsAll zone range facts listed old new None = (meters : List MeterOver)
@@ -229,18 +222,19 @@ ReportsAll zone range facts listed old new None = (meters : List MeterOver)
     × AreReported zone range new after
 ReportsAll zone range facts listed old new (Some apart) = Unit {0}
 
--- The meters of the file were added to the collected meters, or two meters are returned of which
--- the later neither continues nor follows the earlier.
+-- The meters of the database file were added to the collected meters. Otherwise two meters are
+-- returned of which the later neither continues the earlier nor begins after its closing.
 abbrev pub AddsListed : Zone → DayRange → (facts : List Fact) → (listed : List Installation)
     → (old new : List KeptMeter) → Option Apart → Type 0
 AddsListed zone range facts listed old new apart =
     AddOrAreApart (map stands_of old) listed (map stands_of new) apart
     × ReportsAll zone range facts listed old new apart
 
--- The file does not continue the earlier files, for a reason that a report over files would also
--- give.
+-- The database file does not continue the earlier files, for the reason that a daily report over
+-- the files would also return.
 --
--- A statement allows energy intervals out of order, since it only needs their sum.
+-- A statement (a report on meters) allows energy intervals out of order, since the statement only
+-- needs their sum.
 abbrev pub DoesNotGoOn : (register : List ℕ) → (facts : List Fact) → (old : JoinedStatement)
     → Unjoined → Type 0
 DoesNotGoOn register facts old unjoined.NotRecorded =
@@ -249,25 +243,23 @@ DoesNotGoOn register facts old (unjoined.Apart apart) =
     AreApart (map stands_of old.meters.items) (installations_of facts register) apart
 DoesNotGoOn register facts old unjoined.OutOfTurn = ⊥
 
--- ---- The printed text of the statements
-
--- The text of the statements in `rows` was printed. If a write failed, only a beginning of the text
--- was printed.
+-- The text of the statements (reports on meters) in `rows` was printed. If a write failed, only a
+-- beginning of the text was printed.
 abbrev pub PrintsRows : {W : Type 0} → (contents : W → Option (List ℕ)) → StatementForm
     → List MeterStatement → ExitStatus → (had holds : W) → Type 0
 PrintsRows contents form rows status had holds =
     IsReported (statement_text form rows) Fine status (contents had) (contents holds)
 
--- The statements of the register's meters over the files were printed. If a write failed, only a
--- beginning of them was printed.
+-- The statements (reports) on a register's meters over several database files were printed. If a
+-- write failed, only a beginning of the text was printed.
 pub record PrintsStatement (zone : Zone) (register : List ℕ) (files : List (List Fact))
     (form : StatementForm) (status : ExitStatus) (had holds : Option (List ℕ)) : Type 0 where
   pub text : List ℕ
   pub is : IsStatementOver zone register files form text
   pub reported : IsReported text Fine status had holds
 
--- The statements were printed from the data of files that join (have one history of the register),
--- for the requested days.
+-- The statements (reports) on a register's meters were printed from the data of files that join
+-- (have one history of the register), for the requested days.
 abbrev pub StatesJoined : {W : Type 0} → writers.Ghosts W → JoinedStatement → StatementForm
     → (had holds : W) → ExitStatus → Type 0
 StatesJoined w joined form had holds status =
@@ -275,10 +267,8 @@ StatesJoined w joined form had holds status =
     → HasStated zone form.range register files joined
     → PrintsStatement zone register files form status (w.contents had) (w.contents holds)
 
--- ---- The theorem on the statement over a single file
-
--- The theorem that a statement over one file, which an office wrote, has the statements of the
--- file's meters.
+-- The theorem that a report over one database file, which the program wrote, has a statement (row)
+-- for each meter of the file.
 abbrev pub OneFileStatesItsMeters : Type 0
 OneFileStatesItsMeters = (zone : Zone) (range : DayRange) (register : List ℕ) (facts : List Fact)
     (meters : List MeterOver)
@@ -286,19 +276,17 @@ OneFileStatesItsMeters = (zone : Zone) (range : DayRange) (register : List ℕ) 
     → statements_over zone range meters
     ≡ statements_of zone range facts (installations_of facts register)
 
--- ---- The theorem on the statement of a meter that continues in a second file
-
--- A meter entry with its index in a single file that has the entries of two files. There `count`
--- entries of the old file come before it.
+-- A meter entry with its index in a single database file that has the entries of two files. In the
+-- single file, `count` entries of the old file come before it.
 abbrev pub moved_entry : (count : ℕ) → MeterEntry → MeterEntry
 moved_entry count (entry.Opening last) = entry.Opening last
 moved_entry count (entry.Later row sf) = entry.Later (moved_row count row) sf
 
--- True if `both` is the meter in one file that has the history of the meter from the old and the
--- new file.
+-- True if `both` is the meter in one database file that has the history of the meter from the old
+-- and the new file.
 --
--- The new entries follow the old ones, each quarter hour has the energy of both files, and the new
--- rejected readings follow the old ones.
+-- The new file's entries follow the old file's entries, and each quarter hour has the energy of
+-- both files. The rejected readings are in the same order.
 pub record HaveOneJournal (old new both : MeterOver) : Type 0 where
   pub count : ℕ
   pub name : both.stands.opening.meter ≡ old.stands.opening.meter
@@ -307,7 +295,8 @@ pub record HaveOneJournal (old new both : MeterOver) : Type 0 where
   pub rows : AreCountedOnce old.rows new.rows both.rows
   pub holds : both.holds ≡ old.holds ++ new.holds
 
--- The theorem that the statement of a meter over two files equals the statement over a single file.
+-- The theorem that the statement (report) of a meter over two database files equals the statement
+-- over a single file.
 --
 -- The second file continues the meter where the first file ended. The single file has the meter's
 -- history of both files.

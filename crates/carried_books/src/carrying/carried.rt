@@ -10,8 +10,8 @@ use office_core::Office;
 use office_events::Refusal;
 use std::alloc::Global;
 
-// Feeds the commands of a file rollover to a new office. Returns the number of installed meters, or
-// the reason why the plan could not be followed.
+// Feeds the commands of a plan to the office of a new database file. Returns the number of
+// installed meters, or the reason why the plan could not be followed.
 fn follow<N: Books>(office: &mut Office<N>, plan: Plan) -> Result<u64, CarryFault>
     ensures follows { Follows N.ledger plan office.old office.new result }
     ensures passes { Passes N.ledger office.old office.new }
@@ -25,13 +25,13 @@ fn follow<N: Books>(office: &mut Office<N>, plan: Plan) -> Result<u64, CarryFaul
     }
 }
 
-/// Sets up a new office from the store of an old office, and returns the number of installed
-/// meters.
+/// Sets up the office of a new database file from an old database file, and returns the number of
+/// installed meters.
 ///
-/// The new office gets the devices, point lists and accounting registers of the old office. Each
-/// open meter continues from its last valid (not voided) entry, up to timestamp `until` if it is
-/// given. The meters come in the order of these entries. The old store is only queried, before the
-/// new office is given any command.
+/// The new office gets the devices, point lists and accounting registers (named counters) of the
+/// old office. Each open meter continues from its last valid (not voided) entry, up to the
+/// timestamp `until` if one is given. The meters are installed in the order of these entries. The
+/// old file is only queried, before the new office receives any command.
 pub fn carry_books<O: Books, N: Books>(
     alloc: Global,
     old: &mut O,

@@ -1,5 +1,5 @@
-//! The commands of a file rollover. They set up a new office (a new database file) with the
-//! devices, registers and open meters of an old one.
+//! Commands that set up a new office (a new database file) with the devices, registers and open
+//! meters of an old one.
 ghost use Rattle.std.specs.Prelude.{◌≡◌, ◌++◌, ◌∷◌, [], map, OnOk};
 ghost use Rattle.office_books.specs.Ledgers.{Consults, Finds};
 ghost use Rattle.carried_books.specs.Carrying.Adding.{Adds};
@@ -12,14 +12,15 @@ use office_events::{
 };
 use std::alloc::{AllocError, Global};
 
-/// A command with the timestamp at which a new office executes it, in seconds since 1970-01-01 UTC.
+/// A command with the timestamp at which the office of a new database file executes the command, in
+/// seconds since 1970-01-01 UTC.
 #[derive(Drop)]
 pub struct TimedCommand {
     pub at: u64,
     pub command: Command,
 }
 
-// ---- Commands that set up a device, a point list, an accounting register or a meter
+// Returns the command that adds a device to the new database file.
 
 fn add_device(at: u64, device: &Device) -> TimedCommand
     ensures { result ≡ commands.add_device at device.now }
@@ -87,9 +88,8 @@ fn install(opening: &Opening) -> TimedCommand
     }
 }
 
-// ---- Commands that set up devices in the new office
-
-// Adds the command for a device's point list, if the device has one.
+// Extends a list of commands with the command that stores a device's point list, if the device has
+// one.
 fn add_list<B: Books>(
     added: &mut Vec<TimedCommand>,
     books: &mut B,
@@ -106,7 +106,8 @@ fn add_list<B: Books>(
     Ok(())
 }
 
-// Adds one command for each accounting register in `registers`.
+// Extends a list of commands with one command for each element of `registers`. The command creates
+// an accounting register (a named counter).
 fn add_each(
     added: &mut Vec<TimedCommand>,
     at: u64,
@@ -121,7 +122,8 @@ fn add_each(
     Ok(())
 }
 
-// Adds the commands for the accounting registers of a device.
+// Extends a list of commands with the commands that create the accounting registers (named
+// counters) of a device.
 fn add_registers<B: Books>(
     added: &mut Vec<TimedCommand>,
     books: &mut B,
@@ -138,7 +140,8 @@ fn add_registers<B: Books>(
     Ok(())
 }
 
-// Adds the commands for a device, its point list and its accounting registers.
+// Extends a list of commands with those that create a device, its point list and its accounting
+// registers (named counters).
 fn set_up_device<B: Books>(
     added: &mut Vec<TimedCommand>,
     books: &mut B,
@@ -155,7 +158,8 @@ fn set_up_device<B: Books>(
     add_registers(added, books, at, device)
 }
 
-// Adds the commands for each device in `devices`, its point list and its accounting registers.
+// Extends a list of commands with those that create each device in `devices`, its point list and
+// its accounting registers (named counters).
 fn set_up_devices<B: Books>(
     added: &mut Vec<TimedCommand>,
     books: &mut B,
@@ -173,10 +177,8 @@ fn set_up_devices<B: Books>(
     Ok(())
 }
 
-// ---- Commands that install meters in the new office
-
-// Adds one command for each opening in `openings`. The command installs a meter, with this opening
-// as its first entry.
+// Extends a list of commands with one command for each opening in `openings`. The command installs
+// a meter, with this opening as its first entry.
 fn add_installs(added: &mut Vec<TimedCommand>, openings: &[Opening]) -> Result<(), AllocError>
     ensures { OnOk result
         (added.new.items ≡ added.old.items ++ map commands.install openings.now) }
@@ -187,8 +189,8 @@ fn add_installs(added: &mut Vec<TimedCommand>, openings: &[Opening]) -> Result<(
     Ok(())
 }
 
-// Returns the timestamp at which the new file sets up its devices: that of the first meter's
-// opening, or the latest recorded timestamp if no meter is installed.
+// Returns the timestamp at which the new database file sets up its devices: that of the first
+// meter's opening, or the latest recorded timestamp if no meter is installed.
 fn first_moment<B: Books>(books: &mut B, openings: &[Opening]) -> Result<u64, BooksFault>
     ensures found { Finds (B.ledger books.old) (B.ledger books.new) result
         (λ known at. at ≡ commands.first_moment known openings.now) }
@@ -201,7 +203,8 @@ fn first_moment<B: Books>(books: &mut B, openings: &[Opening]) -> Result<u64, Bo
 }
 
 /// Returns the commands that set up the devices in `devices`, with the point lists and registers
-/// that the store has for them. The last commands install a meter for each opening in `openings`.
+/// that the old database file has for these devices. The last commands install a meter for each
+/// opening (first entry) in `openings`.
 pub fn commands_for<B: Books>(
     alloc: Global,
     books: &mut B,

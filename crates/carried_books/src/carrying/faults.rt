@@ -1,14 +1,15 @@
-//! Reasons why an office could not continue in a new database file.
+//! Reasons why the meters of a database file could not continue in a new file.
 use office_events::{Name, Refusal};
 
-/// The reason why an office could not continue in a new database file.
+/// The reason why the meters of a database file could not continue in a new file.
 #[derive(Clone, Copy)]
 pub enum CarryFault {
-    /// The old office's store failed, or memory ran out. The refusal says which.
+    /// The database of the old file failed, or memory ran out. The refusal states which of both
+    /// happened.
     Old(Refusal),
-    /// The new office refused a command.
+    /// The office of the new database file refused a command that sets up this file.
     New(Refusal),
     /// The open meter with this name has no valid (not voided) entry up to the requested timestamp.
-    /// The new file can't continue such a meter.
+    /// The new database file can't continue such a meter.
     NotYet(Name),
 }

@@ -1,4 +1,4 @@
-//! Feeds the commands of a file rollover to an office, in order.
+//! Feeds the commands that set up a new database file to its office (the event engine), in order.
 ghost use Rattle.carried_books.specs.Carrying.Feeding.{Feeds, FeedsOne, Passes};
 
 use crate::carrying::commands::TimedCommand;
@@ -6,7 +6,7 @@ use office_books::Books;
 use office_core::Office;
 use office_events::{Event, Refusal};
 
-// Feeds a command to an office, at the command's timestamp.
+// Feeds a command to an office (the event engine), at the command's timestamp.
 fn feed_one<B: Books>(office: &mut Office<B>, timed: TimedCommand) -> Result<(), Refusal>
     ensures feeds { FeedsOne B.ledger timed office.old office.new result }
     ensures passes { Passes B.ledger office.old office.new }
@@ -18,8 +18,8 @@ fn feed_one<B: Books>(office: &mut Office<B>, timed: TimedCommand) -> Result<(),
     }
 }
 
-/// Feeds commands to an office, each at its timestamp, up to the first command that the office
-/// refuses.
+/// Feeds commands to an office (the event engine), each at its timestamp, up to the first command
+/// that the office refuses.
 pub fn feed_all<B: Books>(
     office: &mut Office<B>,
     commands: Vec<TimedCommand>,

@@ -1,5 +1,5 @@
-//! Finds the open meters of an old office, and the openings (first entries) with which they
-//! continue in the new office.
+//! Finds the open meters in an old database file, and the openings (first entries) with which these
+//! meters continue in a new file.
 ghost use Rattle.std.specs.Prelude.{◌≡◌, ◌≤◌, ◌∷◌, [], IfOk};
 ghost use Rattle.std.specs.List.{AllPairs};
 ghost use Rattle.std.specs.List.Sorted.{IsPermutation};
@@ -15,8 +15,8 @@ use office_books::{Books, BooksFault};
 use office_events::{Device, Installation, Name, Opening, Register};
 use std::alloc::{AllocError, Global};
 
-/// The openings (first entries) of all open meters, or the name of a meter that has no valid entry
-/// to continue from.
+/// The openings (first entries) of all open meters in a new database file, or the name of a meter
+/// that has no valid entry to continue from.
 #[derive(Drop)]
 pub enum Openings {
     All(Vec<Opening>),
@@ -24,7 +24,8 @@ pub enum Openings {
     NotYet(Name),
 }
 
-// Adds the open meter at an accounting register, if the register has an open meter.
+// Adds the open meter at an accounting register (a named counter) to a list of meters, if the
+// register has an open meter.
 fn add_open<B: Books>(
     rows: &mut Vec<Installation>,
     books: &mut B,
@@ -43,7 +44,8 @@ fn add_open<B: Books>(
     Ok(())
 }
 
-// Adds the open meter at each accounting register in `registers`.
+// Adds the open meter at each accounting register (a named counter) in `registers` to a list of
+// meters.
 fn add_registers<B: Books>(
     rows: &mut Vec<Installation>,
     books: &mut B,
@@ -60,7 +62,7 @@ fn add_registers<B: Books>(
     Ok(())
 }
 
-// Adds the open meters at a device's accounting registers.
+// Adds the open meters at a device's accounting registers (named counters) to a list of meters.
 fn add_device<B: Books>(
     rows: &mut Vec<Installation>,
     books: &mut B,
@@ -74,7 +76,8 @@ fn add_device<B: Books>(
     add_registers(rows, books, &registers)
 }
 
-// Adds the open meters at the accounting registers of each device in `devices`.
+// Adds the open meters at the accounting registers (named counters) of each device in `devices` to
+// a list of meters.
 fn add_devices<B: Books>(
     rows: &mut Vec<Installation>,
     books: &mut B,
@@ -91,8 +94,8 @@ fn add_devices<B: Books>(
     Ok(())
 }
 
-/// Returns the open meters at the accounting registers of the devices in `devices`, in the order of
-/// the devices.
+/// Returns the open meters at the accounting registers (named counters) of the devices in
+/// `devices`, in the order of the devices.
 pub fn open_meters<B: Books>(
     alloc: Global,
     books: &mut B,
@@ -107,8 +110,8 @@ pub fn open_meters<B: Books>(
     Ok(rows)
 }
 
-// Returns the opening (first entry) of a meter in the new office: the old `opening`, with the
-// counter in the state `last`.
+// Returns the opening (first entry) of a meter in a new database file: the `opening` in the old
+// file, with the counter in the state `last`.
 fn opened_at(opening: &Opening, last: Last) -> Opening
     ensures { result ≡ openings.opened_at opening.now last }
 {
@@ -120,8 +123,8 @@ fn opened_at(opening: &Opening, last: Last) -> Opening
     }
 }
 
-/// Returns the openings (first entries) of the meters in `rows` in the new office, each at the
-/// meter's last valid (not voided) entry up to `until`. If a meter has no such entry, returns the
+/// Returns the openings (first entries) of the meters in `rows` in a new database file, each from
+/// the last valid (not voided) entry up to `until`. If a meter has no such entry, returns the
 /// meter's name.
 pub fn openings_of<B: Books>(
     alloc: Global,
@@ -143,8 +146,8 @@ pub fn openings_of<B: Books>(
     Ok(Openings::All(opened))
 }
 
-/// Returns the openings in `opened` in the order of their timestamps. An office refuses a command
-/// whose timestamp is before that of an earlier command.
+/// Returns the openings (first entries) in `opened` in the order of their timestamps. A new file's
+/// office refuses a command whose timestamp is before that of an earlier command.
 pub fn in_order(opened: Vec<Opening>) -> Result<Vec<Opening>, AllocError>
     ensures same { IfOk result (λ v. IsPermutation opened.items v.items) }
     ensures ordered { IfOk result (λ v. AllPairs (λ (a b : Opened). a.at ≤ b.at) v.items) }

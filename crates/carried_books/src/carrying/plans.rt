@@ -1,5 +1,5 @@
-//! Plans a file rollover: queries the old store for all commands before the new office gets the
-//! first one.
+//! Plans a new database file in which meters continue. All queries of the old file are done before
+//! the first command for the new file.
 ghost use Rattle.office_books.specs.Ledgers.{Consults, Finds};
 ghost use Rattle.carried_books.specs.Carrying.Plans as plans;
 
@@ -9,10 +9,10 @@ use office_books::{Books, BooksFault};
 use office_events::{Device, Name, Opening};
 use std::alloc::Global;
 
-/// The plan of a file rollover.
+/// The plan of a new database file in which meters continue (a file rollover).
 ///
-/// The plan has the commands for the new office and the number of meters that they install. Or it
-/// names a meter that has no valid entry to continue from.
+/// The plan has the commands for the new file and the number of meters that they install. Otherwise
+/// the plan names a meter that has no valid entry to continue from.
 #[derive(Drop)]
 pub enum Plan {
     Ready {
@@ -23,8 +23,8 @@ pub enum Plan {
     NotYet(Name),
 }
 
-// Returns the plan that sets up the devices in `devices` and installs a meter for each opening
-// (first entry) in `opened`.
+// Returns the plan for a new database file, which sets up the devices in `devices` and installs a
+// meter for each opening (first entry) in `opened`.
 fn plan_for<B: Books>(
     alloc: Global,
     books: &mut B,
@@ -43,7 +43,7 @@ fn plan_for<B: Books>(
     })
 }
 
-/// Returns the plan of a file rollover. The old office's store is only queried.
+/// Returns the plan for a new database file in which meters continue. The old file is only queried.
 pub fn plan_of<B: Books>(
     alloc: Global,
     books: &mut B,

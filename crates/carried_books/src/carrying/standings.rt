@@ -1,5 +1,5 @@
 //! Finds the state of a meter's counter at its last valid (not voided) entry up to a timestamp. A
-//! new file continues the meter from this state.
+//! new database file continues the meter from this state.
 ghost use Rattle.std.specs.Prelude.{◌≡◌, ◌++◌, ◌∷◌, [], List};
 ghost use Rattle.office_books.specs.Entries.{all_entries};
 ghost use Rattle.office_books.specs.Ledgers.{Consults, Finds};
@@ -10,8 +10,8 @@ use energy_core::{Entry, Last};
 use office_books::{Books, BooksFault, MeterEntry};
 use office_events::Name;
 
-// The number of entries in one query. `MOST_PIECES` is the largest number of queries whose entry
-// indexes all fit in 64 bits.
+// The number of entries in one database query. `MOST_PIECES` is the largest number of queries whose
+// entry indexes all fit in 64 bits.
 const PIECE: u32 = 65536;
 
 const MOST_PIECES: u64 = 281_474_976_710_655;
@@ -53,15 +53,15 @@ fn is_valid(entry: &MeterEntry) -> bool
     }
 }
 
-// Returns whether an entry is valid (not voided) and not later than `until`.
+// Returns whether a meter entry is valid (not voided) and not later than `until`.
 fn counts(until: Option<u64>, entry: &MeterEntry) -> bool
     ensures { result ≡ standings.counts until entry.now }
 {
     is_valid(entry) && is_until(until, shown(entry).at)
 }
 
-// Returns the state of the counter after one more entry. The state remains `found` if the entry is
-// voided or later than `until`.
+// Returns the last state of a meter's counter after one more entry. If the entry is voided
+// (cancelled) or later than `until`, returns `found`.
 fn last_with(found: Option<Last>, until: Option<u64>, entry: &MeterEntry) -> Option<Last>
     ensures { (before : List Listed) → found ≡ standings.last_among until before
         → result ≡ standings.last_among until (before ++ entry.now ∷ []) }
@@ -73,8 +73,8 @@ fn last_with(found: Option<Last>, until: Option<u64>, entry: &MeterEntry) -> Opt
     }
 }
 
-// Returns the state of the counter after further entries. The state remains `found` if each of
-// these entries is voided or later than `until`.
+// Returns the last state of a meter's counter after further entries. If each of these entries is
+// voided (cancelled) or later than `until`, returns `found`.
 fn last_after(found: Option<Last>, until: Option<u64>, entries: &[MeterEntry]) -> Option<Last>
     ensures { (before : List Listed) → found ≡ standings.last_among until before
         → result ≡ standings.last_among until (before ++ entries.now) }

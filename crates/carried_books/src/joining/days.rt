@@ -1,4 +1,4 @@
-//! Adds up the energy intervals of several files by civil day.
+//! Adds up the energy intervals of several database files by civil day.
 ghost use Rattle.std.specs.Prelude.{◌≡◌, map};
 ghost use Rattle.std.proofs.Props.{props};
 
@@ -28,7 +28,8 @@ impl JoinedDays {
     ghost use Rattle.office_core.specs.DaySums.{EndsAs};
     ghost use Rattle.carried_books.specs.Joining.Days.{AddsRow};
 
-    /// Creates a sum to which no interval was added yet. The function allocates no memory.
+    /// Creates a sum of energy by civil day to which no interval was added yet. The function
+    /// allocates no memory.
     pub fn new(alloc: Global, zone: Zone) -> JoinedDays
         ensures zone { result.zone ≡ zone }
         ensures works { result.fault ≡ None }
@@ -49,7 +50,8 @@ impl JoinedDays {
         self.zone
     }
 
-    // Adds an energy interval, or records the fault that it is out of order.
+    // Adds an energy interval to the sum by civil day, or records the fault that the interval is
+    // out of order.
     fn add(&mut self, row: Share)
         requires works { self.old.fault ≡ None }
         ensures { AddsRow self.old row self.new }
@@ -64,15 +66,16 @@ impl JoinedDays {
         }
     }
 
-    /// Returns the first failure, if any: an interval was out of order, or memory ran out.
+    /// Returns the first failure of the sum, if any: an energy interval was out of order, or memory
+    /// ran out.
     pub fn fault(&self) -> Option<DayFault>
         ensures { result ≡ self.now.fault }
     {
         self.fault
     }
 
-    /// Returns the civil days with their energy, in order, or the first failure. An interval out of
-    /// order has the same refusal as an interval without a civil day.
+    /// Returns the civil days with their energy, in order, or the first failure. The refusal for an
+    /// interval out of order is that for an interval without a civil day.
     pub(crate) fn into_days(self) -> Result<Vec<DayTotal>, Refusal>
         ensures { EndsAs self.fault self.fold.accounts result }
     {
@@ -83,7 +86,8 @@ impl JoinedDays {
         }
     }
 
-    /// Returns the civil days of the intervals that were added so far, in order.
+    /// Returns the civil days of the energy intervals that were added so far, in order, with their
+    /// energy.
     pub fn into_rows(self) -> Vec<DayTotal>
         ensures { map account_of result.items ≡ self.fold.accounts }
     {
@@ -93,8 +97,8 @@ impl JoinedDays {
 
 /// The sum of energy intervals of earlier files by civil day, without the time zone of the days.
 ///
-/// The time zone is left out because of a limit of the proof system. It has no rule for a call over
-/// a file's store that borrows a value with a time zone.
+/// A limit of the proof system is the reason why the time zone is left out. The proof system has no
+/// rule for a call over a file's database that borrows a value with a time zone.
 #[derive(Drop)]
 pub struct EarlierDays {
     fold: DayFold,
@@ -107,7 +111,8 @@ impl EarlierDays {
     ghost use Rattle.interval_core.specs.Days.{account_of};
     ghost use Rattle.carried_books.specs.Joining.Days.{GoesOnFrom};
 
-    /// Creates the sum of earlier files from a sum of intervals, leaving out its time zone.
+    /// Creates the sum of the earlier files' energy from a sum of intervals by civil day, without
+    /// the time zone.
     pub fn new(days: JoinedDays) -> EarlierDays
         ensures { result.fold ≡ days.fold }
     {
@@ -115,15 +120,15 @@ impl EarlierDays {
         EarlierDays { fold, latest }
     }
 
-    /// Returns the energy of each civil day, in order.
+    /// Returns the energy of each civil day in earlier database files, in order.
     pub fn into_rows(self) -> Vec<DayTotal>
         ensures { map account_of result.items ≡ self.fold.accounts }
     {
         self.fold.into_rows()
     }
 
-    /// Returns a copy of the sum to which further energy intervals can be added, by the civil days
-    /// of the time zone `zone`.
+    /// Returns a copy of a sum of energy by day, to which further energy intervals can be added, by
+    /// the civil days of the time zone `zone`.
     pub(crate) fn continue_in(&self, zone: Zone) -> Result<JoinedDays, AllocError>
         ensures { IfOk result (GoesOnFrom zone self.now) }
     {

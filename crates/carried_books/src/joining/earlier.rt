@@ -1,5 +1,5 @@
-//! Collects the accounting registers of earlier files, so that a running office can report energy
-//! over all files.
+//! Collects the accounting registers (named counters) of earlier database files, so that the
+//! running program can report energy over all files.
 ghost use Rattle.std.specs.Prelude.{◌≡◌, List, map, IfOk};
 ghost use Rattle.office_events.specs.declared.facts.Fact.{Fact};
 ghost use Rattle.office_books.specs.Ledgers.{Consults};
@@ -16,7 +16,8 @@ use office_books::{Books, BooksFault, Span};
 use office_events::{Device, Installation, Name, Register};
 use std::alloc::{AllocError, Global};
 
-/// An accounting register in earlier files: its meters and its energy by day.
+/// An accounting register (a named counter) in earlier database files: its meters and its energy by
+/// day.
 ///
 /// The meters are in the order of installation. Each meter has its first entry (opening), its
 /// latest state and its energy over all of these files.
@@ -27,15 +28,16 @@ pub struct EarlierRegister {
     pub days: EarlierDays,
 }
 
-/// The data of an accounting register in the files that were added so far. The next file is
-/// compared with them.
+/// The data of an accounting register (a named counter) in the database files that were added so
+/// far. The next file is compared with these data.
 #[derive(Drop)]
 pub struct KeptRegister {
     pub name: Name,
     pub files: JoinedFiles,
 }
 
-// Returns the accounting register with its collected data, after all files were added.
+// Returns the accounting register (a named counter) with its collected data, after all database
+// files were added.
 fn earlier_of(kept: KeptRegister) -> EarlierRegister
     ensures { reported result ≡ kept_as kept }
 {
@@ -48,10 +50,10 @@ fn earlier_of(kept: KeptRegister) -> EarlierRegister
     }
 }
 
-/// Adds the register's data in the next file, and returns the reason if the file does not continue
-/// the earlier files.
+/// Adds the data of an accounting register (a named counter) in the next database file. Returns the
+/// reason if the file does not continue the earlier files.
 ///
-/// The store of the next file is only queried.
+/// The next file is only queried.
 pub fn add_next_file<B: Books>(
     kept: &mut KeptRegister,
     books: &mut B,
@@ -66,8 +68,8 @@ pub fn add_next_file<B: Books>(
     add_books(&mut kept.files, books, &name, Span::All)
 }
 
-// Compares the meters of a store at an accounting register with those of the earlier files: each
-// must continue or follow the earlier meters.
+// Compares the meters of a database file at an accounting register (a named counter) with those of
+// the earlier files: each meter must continue or follow the earlier meters.
 fn hold_meters<B: Books>(kept: &KeptRegister, books: &mut B) -> Result<Option<Unjoined>, BooksFault>
     ensures holds { (known : List Fact) → (B.ledger books.old).holds known
         → (B.ledger books.new).is_clean
@@ -87,12 +89,12 @@ fn hold_meters<B: Books>(kept: &KeptRegister, books: &mut B) -> Result<Option<Un
     }
 }
 
-/// Compares the file of a running office with the earlier files, and returns the reason if it does
-/// not continue them.
+/// Compares the running program's database file with the earlier files. Returns the reason if the
+/// current file does not continue the earlier files.
 ///
-/// The function checks that the register is recorded, and that its meters continue or follow the
-/// earlier ones. The collected data stay those of the earlier files. The store of the office is
-/// only queried.
+/// The function checks that the register (a named counter) is recorded, and that its meters
+/// continue or follow the earlier meters. The collected data stay those of the earlier files. The
+/// current file is only queried.
 pub fn compare_file<B: Books>(
     kept: &KeptRegister,
     books: &mut B,
@@ -113,8 +115,8 @@ pub fn compare_file<B: Books>(
     }
 }
 
-/// The accounting registers of several files. Each register is collected from the first file that
-/// has it.
+/// The accounting registers (named counters) of several database files. Each register is collected
+/// from the first file that has it.
 #[derive(Drop)]
 pub struct KeptRegisters {
     alloc: Global,
@@ -122,7 +124,8 @@ pub struct KeptRegisters {
     kept: Vec<KeptRegister>,
 }
 
-// Returns whether the accounting register with this name is collected already.
+// Returns whether the accounting register (a named counter) with this name is among the registers
+// collected from earlier database files.
 fn is_kept(kept: &[KeptRegister], name: &Name) -> bool {
     for one in kept {
         if one.name.is(name) {
@@ -132,7 +135,7 @@ fn is_kept(kept: &[KeptRegister], name: &Name) -> bool {
     false
 }
 
-// Adds the data in the next file's store to each collected register.
+// Adds the data of the next database file to each collected register.
 fn add_all<B: Books>(
     kept: &mut Vec<KeptRegister>,
     books: &mut B,
@@ -154,8 +157,8 @@ fn add_all<B: Books>(
     Ok(None)
 }
 
-// Compares the store with each collected register, and returns the first reason why the store does
-// not continue the earlier files.
+// Compares a database file with each collected register, and returns the first reason why the file
+// does not continue the earlier files.
 fn compare_all<B: Books>(
     kept: &[KeptRegister],
     books: &mut B,
@@ -175,7 +178,8 @@ fn compare_all<B: Books>(
     Ok(None)
 }
 
-// Adds an accounting register of the store, if the register is not collected yet.
+// Adds an accounting register (a named counter) of a database file to the collected registers, if
+// no earlier file has the register.
 fn add_new<B: Books>(
     alloc: Global,
     zone: Zone,
@@ -206,7 +210,8 @@ fn add_new<B: Books>(
     }
 }
 
-// Adds the accounting registers in `registers` that are not collected yet.
+// Adds the accounting registers (named counters) in `registers` to the collected registers, if they
+// are not among them yet.
 fn add_registers<B: Books>(
     alloc: Global,
     zone: Zone,
@@ -229,7 +234,8 @@ fn add_registers<B: Books>(
     Ok(None)
 }
 
-// Adds those accounting registers of a device that are not collected yet.
+// Adds the accounting registers (named counters) of a device to the collected registers, if they
+// are not among them yet.
 fn add_device<B: Books>(
     alloc: Global,
     zone: Zone,
@@ -245,7 +251,8 @@ fn add_device<B: Books>(
     }
 }
 
-// Adds the accounting registers of the devices in `devices` that are not collected yet.
+// Adds the accounting registers (named counters) of the devices in `devices` to the collected
+// registers, if they are not among them yet.
 fn add_devices<B: Books>(
     alloc: Global,
     zone: Zone,
@@ -268,7 +275,8 @@ fn add_devices<B: Books>(
     Ok(None)
 }
 
-// Adds all accounting registers of the store that are not collected yet.
+// Adds all accounting registers (named counters) of a database file to the collected registers, if
+// they are not among them yet.
 fn add_others<B: Books>(
     alloc: Global,
     zone: Zone,
@@ -283,8 +291,8 @@ fn add_others<B: Books>(
     }
 }
 
-// Adds the data of all accounting registers in the store, whether or not they are collected
-// already.
+// Adds the data of all accounting registers (named counters) in a database file, whether or not an
+// earlier file has the register.
 fn add_books_to<B: Books>(
     alloc: Global,
     zone: Zone,
@@ -305,7 +313,8 @@ fn add_books_to<B: Books>(
 }
 
 impl KeptRegisters {
-    /// Returns the accounting registers in the order in which the files first had them.
+    /// Returns the accounting registers (named counters) that were collected from several database
+    /// files, in the order in which the files first had them.
     pub fn into_registers(self) -> Result<Vec<EarlierRegister>, AllocError>
         ensures { IfOk result (λ registers. map reported registers.items
             ≡ map kept_as self.kept.items) }
@@ -319,7 +328,8 @@ impl KeptRegisters {
     }
 }
 
-/// Collects all accounting registers of the files, whichever register and range were requested.
+/// Collects all accounting registers (named counters) of the database files, whichever register and
+/// range were requested.
 impl Keeping for KeptRegisters {
     ghost use Rattle.std.specs.Prelude.{◌≡◌};
 
@@ -345,14 +355,15 @@ impl Keeping for KeptRegisters {
     }
 }
 
-/// The accounting registers of earlier files, with which the file of a running office is compared.
+/// The accounting registers (named counters) of earlier files, with which the running program's
+/// database file is compared.
 #[derive(Drop)]
 pub struct ComparedRegisters {
     pub kept: KeptRegisters,
 }
 
-/// Compares a file with all accounting registers, whichever register and range were requested.
-/// Collects no data of the file.
+/// Compares a database file with all accounting registers (named counters), whichever register and
+/// range were requested. Adds no data of the file to those of the earlier files.
 impl Keeping for ComparedRegisters {
     ghost use Rattle.std.specs.Prelude.{◌≡◌};
 

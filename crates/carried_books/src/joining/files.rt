@@ -1,5 +1,5 @@
-//! Joins the files of one office at an accounting register, the oldest file first. Files join if
-//! together they have one history of the register's meters.
+//! Joins several database files at an accounting register (a named counter), the oldest file first.
+//! Files join if together they have one history of the register's meters.
 ghost use Rattle.std.specs.Prelude.{◌≡◌, ℕ, List, [], IfOk};
 ghost use Rattle.office_events.specs.declared.facts.Fact.{Fact};
 ghost use Rattle.office_books.specs.Intervals.{rows_of_register};
@@ -18,21 +18,22 @@ use office_books::{Books, BooksFault, Span};
 use office_events::{Installation, Name};
 use std::alloc::Global;
 
-/// The reason why a file does not continue the earlier files of its office.
+/// The reason why a file does not continue the earlier database files.
 #[derive(Clone, Copy)]
 pub enum Unjoined {
-    /// The file does not record the accounting register, though an earlier file does.
+    /// The database file does not record the accounting register (a named counter), though an
+    /// earlier file does.
     NotRecorded,
-    /// A meter of the file at the accounting register neither continues an earlier meter nor begins
-    /// after the earlier meters were closed.
+    /// A meter of the database file at the accounting register (a named counter) neither continues
+    /// an earlier meter nor begins after the earlier meters were closed.
     Apart(Apart),
-    /// An energy interval of the file starts before an earlier interval, or after the largest
-    /// supported timestamp.
+    /// An energy interval of the database file starts before an earlier interval, or after the
+    /// largest supported timestamp.
     OutOfTurn,
 }
 
-/// An accounting register over several files: whether it is recorded, its meters, and its energy by
-/// day.
+/// An accounting register (a named counter) over several database files: whether it is recorded,
+/// its meters, and its energy by day.
 #[derive(Drop)]
 pub struct JoinedFiles {
     pub is_recorded: bool,
@@ -40,8 +41,8 @@ pub struct JoinedFiles {
     pub days: JoinedDays,
 }
 
-/// Creates the data of an accounting register to which no file was added yet. The function
-/// allocates no memory.
+/// Creates the data of an accounting register (a named counter) over several database files, to
+/// which no file was added yet. The function allocates no memory.
 pub fn no_files(alloc: Global, zone: Zone) -> JoinedFiles
     ensures { (span : Asked) (register : List ℕ) → HasJoined zone span register [] result }
 {
@@ -52,7 +53,7 @@ pub fn no_files(alloc: Global, zone: Zone) -> JoinedFiles
     }
 }
 
-/// Returns whether the store has an accounting register with this name.
+/// Returns whether a database file has an accounting register (a named counter) with this name.
 pub(crate) fn is_recorded<B: Books>(books: &mut B, register: &Name) -> Result<bool, BooksFault>
     ensures found { Finds (B.ledger books.old) (B.ledger books.new) result
         (λ known is. is ≡ files.is_recorded register.now known) }
@@ -64,8 +65,8 @@ pub(crate) fn is_recorded<B: Books>(books: &mut B, register: &Name) -> Result<bo
     }
 }
 
-/// Adds the meters of a store at an accounting register. Returns two meters of which the later
-/// neither continues nor follows the earlier, if any.
+/// Adds the meters of a database file at an accounting register (a named counter). Returns a pair
+/// of conflicting meters if a meter neither continues nor follows the earlier meters.
 pub(crate) fn join_meters<B: Books>(
     meters: &mut Vec<Installation>,
     books: &mut B,
@@ -86,8 +87,9 @@ pub(crate) fn join_meters<B: Books>(
     }
 }
 
-// Adds the energy intervals of an accounting register in a span of time. Returns the reason if one
-// is out of order: it starts before an earlier one, or after the largest supported timestamp.
+// Adds the energy intervals of an accounting register (a named counter) in a span of time. Returns
+// the reason if an interval is out of order: it starts before an earlier interval, or after the
+// largest supported timestamp.
 fn join_days<B: Books>(
     days: &mut JoinedDays,
     books: &mut B,
@@ -110,8 +112,9 @@ fn join_days<B: Books>(
     }
 }
 
-// Adds the meters and the energy intervals of an accounting register in a file. Returns the reason
-// if they don't continue those of the earlier files.
+// Adds the meters and the energy intervals of an accounting register (a named counter) in a
+// database file to those of the earlier files. Returns the reason if they don't continue the
+// earlier files.
 fn add_rows<B: Books>(
     joined: &mut JoinedFiles,
     books: &mut B,
@@ -132,8 +135,8 @@ fn add_rows<B: Books>(
     }
 }
 
-// Adds an accounting register of the next file, and returns the reason if the file does not
-// continue the earlier files.
+// Adds the data of an accounting register in the next database file, and returns the reason if the
+// file does not continue the earlier files.
 fn add_file<B: Books>(
     joined: &mut JoinedFiles,
     books: &mut B,
@@ -157,11 +160,11 @@ fn add_file<B: Books>(
     }
 }
 
-/// Adds the register's data in the next file: its meters, and its quarter-hour energies in a span
-/// of time.
+/// Adds the data of an accounting register (a named counter) in the next database file: the meters,
+/// and the quarter-hour energies in a span of time.
 ///
-/// Returns the reason if the next file does not continue the earlier files.
-/// The store of the next file is only queried.
+/// Returns the reason if the next file does not continue the earlier files. The next file is only
+/// queried.
 pub fn add_books<B: Books>(
     joined: &mut JoinedFiles,
     books: &mut B,

@@ -1,4 +1,4 @@
-//! A trait for values that collect the data of several files of one office, the oldest file first.
+//! A trait for values that collect the data of several database files, the oldest file first.
 
 use crate::joining::files::{JoinedFiles, Unjoined, add_books, no_files};
 use interval_core::{DayRange, Zone};
@@ -7,11 +7,12 @@ use office_core::span_around;
 use office_events::Name;
 use std::alloc::Global;
 
-/// A collector of the data of several files, to report a register on the days of a range.
+/// A collector of the data of several files, to report a register (a named counter) on the days of
+/// a range.
 ///
 /// Code that opens a file is proved for every implementation of this trait. The reason is a limit
-/// of the proof system: it has no rule for a call over the file's store that names the collected
-/// value.
+/// of the proof system, which has no rule for a call that names the collected value and the file's
+/// database.
 pub trait Keeping: Drop {
     ghost use Rattle.std.specs.Prelude.{ℕ, List, [], IfOk};
     ghost use Rattle.interval_core.specs.declared.zone.Zone.{Zone};
@@ -21,21 +22,21 @@ pub trait Keeping: Drop {
     ghost use Rattle.carried_books.specs.Joining.Keeping.{KeepsFile, PartsFile};
     ghost use Rattle.carried_books.specs.declared.joining.files.Unjoined.{Unjoined as Why};
 
-    /// True if the value has the data of the files in a list, by civil days of a time zone. The
-    /// list has the latest file first.
+    /// True if the collector has the data of the database files in a list, by civil days of a time
+    /// zone. The list has the latest file first.
     ghost keeps: { Zone → DayRange → List ℕ → List (List Fact) → Self → Type 0 };
-    /// True if a file with the given records does not continue the collected files, for the given
-    /// reason.
+    /// True if a database file with the given records does not continue the files whose data were
+    /// collected, for the given reason.
     ghost parts: { DayRange → List ℕ → List Fact → Self → Why → Type 0 };
 
-    /// Creates a value that has collected no files yet. The function allocates no memory.
+    /// Creates a collector that has data of no database file yet. The function allocates no memory.
     fn none(alloc: Global, zone: Zone, range: DayRange) -> Self
         ensures { (register : List ℕ) → keeps zone range register [] result };
 
-    /// Adds the register's data in the next file, and returns the reason if the file does not
-    /// continue the earlier files.
+    /// Adds the data of an accounting register (a named counter) in the next database file. Returns
+    /// the reason if the file does not continue the earlier files.
     ///
-    /// The store of the next file is only queried.
+    /// The next file is only queried.
     fn add<B: Books>(
         &mut self,
         books: &mut B,
@@ -51,7 +52,8 @@ pub trait Keeping: Drop {
         ensures reads { Consults (B.ledger books.old) (B.ledger books.new) result };
 }
 
-/// Collects the meters of an accounting register and its energy by civil day.
+/// Collects the meters and the energy by civil day of an accounting register (a named counter) over
+/// several database files.
 impl Keeping for JoinedFiles {
     ghost use Rattle.office_core.specs.DayRange.{span_of};
     ghost use Rattle.carried_books.specs.Joining.Files.{DoesNotJoin, HasJoined};

@@ -1,5 +1,5 @@
-//! The data of a meter that are collected over several files, for its statement (the numbers
-//! against which a bill is checked).
+//! The data of a meter that are collected over several database files, for its statement (the
+//! numbers against which a bill is checked).
 ghost use Rattle.std.specs.Prelude.{◌≡◌, ◌≤◌, if◌then◌else◌};
 ghost use Rattle.office_books.specs.Entries.{all_entries};
 ghost use Rattle.office_books.specs.Holds.{holds_of};
@@ -17,21 +17,22 @@ use office_books::{Books, BooksFault, Span};
 use office_core::span_around;
 use office_events::{Installation, Name};
 
-/// A meter over several files: its state, and its statement on a range of days.
+/// A meter over several database files: its state, and its statement (report) on a range of days.
 #[derive(Clone, Copy)]
 pub struct KeptMeter {
     pub stands: Installation,
     pub reported: MeterStatement,
 }
 
-// The number of entries in one query. `MOST_PIECES` is the largest number of queries whose entry
-// indexes all fit in 64 bits.
+// The number of entries in one database query. `MOST_PIECES` is the largest number of queries whose
+// entry indexes all fit in 64 bits.
 const PIECE: u32 = 65536;
 
 const MOST_PIECES: u64 = 281_474_976_710_655;
 
-// Returns the index of a meter's first entry that no earlier file has. If the meter continues from
-// an earlier file, its entry 1 repeats the last entry there, so the index is 2.
+// Returns the index of the first entry of a meter in a database file that no earlier file has. If
+// the meter continues from an earlier file, its entry 1 repeats the last entry there, so the index
+// is 2.
 fn first_place(goes_on: bool) -> u64
     ensures place { result ≡ if goes_on then 2 else 1 }
     ensures few { result ≤ 2 }
@@ -39,8 +40,8 @@ fn first_place(goes_on: bool) -> u64
     if goes_on { 2 } else { 1 }
 }
 
-// Returns the tally (first and last entry, corrections) of a meter's entries in the earlier files
-// and in this store. The entries of this store are queried in chunks.
+// Returns the tally (first and last entry, corrections) of a meter's entries in the earlier
+// database files and in the next file. The entries of the next file are queried in chunks.
 fn tally_on<B: Books>(
     books: &mut B,
     begun: EntryTally,
@@ -66,8 +67,8 @@ fn tally_on<B: Books>(
     Err(BooksFault::Memory)
 }
 
-// Returns the energy of a meter in the range, in mWh. Only the quarter hours around the range's
-// days are queried.
+// Returns the energy of a meter in a range of days, in mWh. Only the quarter hours around the
+// range's days are queried.
 fn energy<B: Books>(
     books: &mut B,
     zone: &Zone,
@@ -83,7 +84,8 @@ fn energy<B: Books>(
     Ok(energy.mwh())
 }
 
-// Returns the counts of a meter's rejected readings in the range.
+// Returns the counts of a meter's rejected readings in a range of days, one for each cause of
+// rejection.
 fn held<B: Books>(
     books: &mut B,
     zone: &Zone,
@@ -99,8 +101,8 @@ fn held<B: Books>(
     Ok(held.counts())
 }
 
-/// Returns the statement of a meter in one file. Its tally of entries continues the tally of the
-/// earlier files.
+/// Returns the statement (report) of a meter in one database file. Its tally of entries continues
+/// the tally of the earlier files.
 pub(crate) fn part_in_file<B: Books>(
     books: &mut B,
     begun: EntryTally,
@@ -140,7 +142,8 @@ fn both_held(one: &RejectedCounts, more: &RejectedCounts) -> RejectedCounts
     }
 }
 
-/// Returns the data of a meter over the earlier files and the next file.
+/// Returns the data of a meter for its statement (billing report), over the earlier database files
+/// and the next file.
 pub(crate) fn with_part(kept: &KeptMeter, row: &Installation, part: &MeterStatement) -> KeptMeter
     ensures { result ≡ statements.with_part kept.now row.now part.now }
 {

@@ -1,4 +1,5 @@
-//! Theorems on reports and statements over several files, and on the latest meter of a register.
+//! Theorems on daily reports and meter statements over several database files, and on the latest
+//! meter of a register (a named counter).
 //!
 //! The contract of each function states a theorem. The body of the function is empty or calls other
 //! theorems.
@@ -10,12 +11,13 @@ ghost use Rattle.carried_books.specs.Joining.Statements.{OneFileStatesItsMeters}
 
 use office_books::names_are_distinct;
 
-/// Proves that a report over one file has the register's days in this file.
+/// Proves that a report over one database file has the register's energy by day in this file.
 pub fn days_of_one_file_are_its_own()
     ensures { OneFileReportsItsDays }
 {}
 
-/// Proves that a report of a meter's days over two files equals the report over a single file.
+/// Proves that a report of a meter's energy by day over two database files equals the report over a
+/// single file.
 ///
 /// The second file continues the meter where the first file ended. The single file has the complete
 /// history of the meter.
@@ -23,15 +25,16 @@ pub fn joined_days_agree_with_both_files()
     ensures { BothFilesTellTheJoinedDays }
 {}
 
-/// Proves that a statement over one file has the statements of the file's meters. An office must
-/// have written the file.
+/// Proves that a report over one database file has a statement (row) for each of the file's meters.
+/// The program must have written the file.
 pub fn one_file_states_its_meters()
     ensures { OneFileStatesItsMeters }
 {
     names_are_distinct();
 }
 
-/// Proves that the statement of a meter over two files equals the statement over a single file.
+/// Proves that the statement (report) of a meter over two database files equals the statement over
+/// a single file.
 ///
 /// The second file continues the meter where the first file ended. The single file has the meter's
 /// history of both files.
@@ -39,11 +42,11 @@ pub fn both_files_state_the_joined_meter()
     ensures { BothFilesStateTheJoinedMeter }
 {}
 
-/// Proves that the latest meter that is reported for an accounting register is the register's last
-/// meter in all files.
+/// Proves that the latest meter that is reported for an accounting register (a named counter) is
+/// the register's last meter in all database files.
 ///
-/// The meters of the latest file must continue or follow those of the earlier files, and an office
-/// must have written the latest file.
+/// The meters of the latest file must continue or follow those of the earlier files, and the
+/// program must have written the latest file.
 pub fn latest_is_of_all_files()
     ensures { LatestIsOfAllFiles }
 {

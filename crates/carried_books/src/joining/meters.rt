@@ -1,4 +1,5 @@
-//! Joins the meters at an accounting register over several files, the oldest file first.
+//! Joins the meters at an accounting register (a named counter) over several database files, the
+//! oldest file first.
 ghost use Rattle.std.specs.Prelude.{◌≡◌, ◌↔◌, ◌&&◌, IsTrue, not, find, IfOk};
 ghost use Rattle.meter_journal.specs.Audit.CarriedFiles.{GoesOnAs};
 ghost use Rattle.carried_books.specs.Joining.Meters as meters;
@@ -10,8 +11,8 @@ use office_books::installed;
 use office_events::Installation;
 use std::alloc::AllocError;
 
-/// Two meters at a register, an earlier one and a later one. The later meter neither continues the
-/// earlier meter nor begins after the earlier meter was closed.
+/// Two meters at a register (a named counter), an earlier one and a later one. The later meter
+/// neither continues the earlier meter nor begins after the earlier meter was closed.
 #[derive(Clone, Copy)]
 pub struct Apart {
     pub stands: Installation,
@@ -32,7 +33,7 @@ fn is_same(last: &Last, other: &Last) -> bool
 }
 
 // Returns whether the meter `meter`, in the state `last`, continues as the meter `next` of the next
-// file.
+// database file.
 fn goes_on_as(meter: &Installed, last: &Last, ended: bool, next: &Installed) -> bool
     ensures { IsTrue result ↔ GoesOnAs meter.now last.now ended next.now }
 {
@@ -42,8 +43,8 @@ fn goes_on_as(meter: &Installed, last: &Last, ended: bool, next: &Installed) -> 
         && is_same(&next.opening, last)
 }
 
-/// Returns whether the meter `stands` continues as the meter `row` of the same name in a later
-/// file.
+/// Returns whether the meter `stands` of an earlier database file continues as the meter `row` of
+/// the same name in a later file.
 pub(crate) fn goes_on(stands: &Installation, row: &Installation) -> bool
     ensures { IsTrue result ↔ GoesOn stands.now row.now }
 {
@@ -56,8 +57,8 @@ pub(crate) fn goes_on(stands: &Installation, row: &Installation) -> bool
     )
 }
 
-/// Returns one meter over both files: with the opening (first entry) of `stands`, the later state
-/// of `row`, and the energy in both files.
+/// Returns one meter over two database files. The meter has the opening (first entry) of `stands`,
+/// the later state of `row`, and the energy in both files.
 pub(crate) fn as_one(stands: &Installation, row: &Installation) -> Installation
     ensures { result ≡ meters.as_one stands.now row.now }
 {
@@ -79,7 +80,8 @@ pub(crate) fn is_before(stands: &Installation, row: &Installation) -> bool
     both(stands.ended, both(is_earlier, !is_same))
 }
 
-// Returns the first meter in `known` that was not closed before the meter `row` began.
+// Returns the first of the earlier meters in `known` that was not closed before the meter `row`
+// began.
 fn not_before(known: &[Installation], row: &Installation) -> Option<Installation>
     ensures { result ≡ find (λ stands. not (meters.is_before stands row.now)) known.now }
 {
@@ -91,8 +93,8 @@ fn not_before(known: &[Installation], row: &Installation) -> Option<Installation
     None
 }
 
-// Appends the meter `row` to `known`, or returns a meter in `known` that was not closed before
-// `row` began.
+// Appends the meter `row` to the earlier meters in `known`, or returns a meter in `known` that was
+// not closed before `row` began.
 fn add_next(known: &mut Vec<Installation>, row: &Installation) -> Result<Option<Apart>, AllocError>
     ensures { IfOk result (AddsNext known.old.items row.now known.new.items) }
 {
@@ -108,8 +110,9 @@ fn add_next(known: &mut Vec<Installation>, row: &Installation) -> Result<Option<
     }
 }
 
-// Adds the meter `row` to `known`: `row` continues the last meter or follows all meters. If `row`
-// does neither, returns `row` and a meter that it does not follow.
+// Adds the meter `row` to the earlier meters in `known`, if `row` continues the last of them or
+// begins after all were closed. If `row` does neither, returns `row` and a meter that it does not
+// follow.
 fn add_meter(known: &mut Vec<Installation>, row: &Installation) -> Result<Option<Apart>, AllocError>
     ensures { IfOk result (AddsOrIsApart known.old.items row.now known.new.items) }
 {
@@ -124,8 +127,8 @@ fn add_meter(known: &mut Vec<Installation>, row: &Installation) -> Result<Option
     add_next(known, row)
 }
 
-/// Adds the meters in `listed`, of one file, to the earlier files' meters in `known`. If one of
-/// them neither continues nor follows the earlier meters, returns it and an earlier meter.
+/// Adds the meters in `listed`, of one database file, to the earlier files' meters in `known`. If a
+/// meter neither continues nor follows the earlier meters, returns this meter and an earlier one.
 ///
 /// The meters of the file are in the order of installation.
 pub fn add_meters(

@@ -1,4 +1,5 @@
-//! Joins the days of an accounting register in earlier files with those of a running office.
+//! Joins the energies by day of an accounting register (a named counter) in earlier database files
+//! with those of the current file.
 ghost use Rattle.std.specs.Prelude.{Err};
 ghost use Rattle.std.specs.declared.alloc.Global.{Global};
 ghost use Rattle.std.specs.declared.vec.Vec.{Vec};
@@ -13,7 +14,8 @@ use office_books::{Books, Span, facts_are_lawful};
 use office_core::Office;
 use office_events::{Installation, Name, Refusal};
 
-// Adds the energy intervals of the meters in `meters` in a span of time, one meter after another.
+// Adds to a sum by day the energy intervals of the meters in `meters` in a span of time, one meter
+// after another.
 fn add_meters_within<B: Books>(
     days: &mut JoinedDays,
     office: &mut Office<B>,
@@ -31,7 +33,8 @@ fn add_meters_within<B: Books>(
     Ok(())
 }
 
-// Adds the energy intervals of an accounting register in a span of time, from the office's records.
+// Adds to a sum by day the energy intervals of an accounting register (a named counter) in a span
+// of time, from the current database file.
 fn add_register<B: Books>(
     days: &mut JoinedDays,
     office: &mut Office<B>,
@@ -49,8 +52,8 @@ fn add_register<B: Books>(
     }
 }
 
-// Returns the refusal if memory for the days runs out: the refusal of a query for the register, or
-// `Memory` if this query succeeds.
+// Returns the refusal of a request if memory for the energies by day runs out: the refusal of a
+// query for the register (a named counter), or `Memory` if this query succeeds.
 fn without_memory<B: Books>(office: &mut Office<B>, register: &Name) -> Refusal
     ensures lacks { LacksMemory B.ledger office.old office.new register.now result }
     ensures asks { OnlyAsks {T = Vec DayTotal Global} B.ledger office.old office.new (Err result) }
@@ -61,12 +64,12 @@ fn without_memory<B: Books>(office: &mut Office<B>, register: &Name) -> Refusal
     }
 }
 
-/// Returns the days of a register over earlier files and a running office, with energy in mWh.
+/// Returns the energy by civil day of a register (a named counter) over earlier database files and
+/// the current file, in mWh.
 ///
-/// The days have the energy of the earlier files and of the office's quarter hours in a span of
-/// time, by the civil days of a time zone. The zone must be that of the earlier days. The office is
-/// only queried. A quarter hour that starts before an earlier one has the same refusal as one
-/// without a civil day.
+/// From the current file, the days have the energy of the quarter hours in a span of time. The time
+/// zone must be that of the earlier days. The current file is only queried. If a quarter hour
+/// starts before an earlier one, the refusal is that for a quarter hour without a civil day.
 pub fn days_over<B: Books>(
     office: &mut Office<B>,
     zone: Zone,

@@ -1,4 +1,4 @@
-//! Reports an accounting register over the files of one office.
+//! Reports the energy of an accounting register (a named counter) over several database files.
 ghost use Rattle.std.specs.Prelude.{◌≡◌, ◌<◌, ◌^◌, length, if◌then◌else◌};
 ghost use Rattle.energy_report.specs.Texts.{report_text};
 ghost use Rattle.office_books.specs.Rows.{TakesAll};
@@ -23,7 +23,7 @@ fn hand_on<K: RowSink<DayTotal>>(days: &[DayTotal], sink: &mut K)
     }
 }
 
-// Prints the end of a report, and returns the exit status.
+// Prints the end of a report on energy by day, and returns the exit status.
 fn finish<W: Write>(rows: &mut ReportRows<'_, W>) -> ExitStatus
     ensures { PrintsLast W.contents result rows.old rows.new }
 {
@@ -35,7 +35,8 @@ fn finish<W: Write>(rows: &mut ReportRows<'_, W>) -> ExitStatus
     }
 }
 
-/// Prints the energy of the days in the form's range, by period, in the form's unit and format.
+/// Prints the energy of days by period (day, month or year). The request `form` has the range of
+/// days, the unit and the format.
 pub fn report_days<W: Write>(days: &[DayTotal], form: &ReportForm, output: &mut W) -> ExitStatus
     ensures { IsReported (report_text form.now days.now) ExitStatus.Fine result
         (W.contents output.old) (W.contents output.new) }
@@ -45,8 +46,8 @@ pub fn report_days<W: Write>(days: &[DayTotal], form: &ReportForm, output: &mut 
     finish(&mut rows)
 }
 
-/// Prints the energy of an accounting register over files that join, on the days of a range, by
-/// period, in the form's unit and format.
+/// Prints the energy of an accounting register (a named counter) over files that join (have one
+/// history), by period. The request `form` has the range of days, the unit and the format.
 ///
 /// The collected data must include the quarter hours around the days of the range.
 pub fn report_joined<W: Write>(joined: JoinedFiles, form: &ReportForm, output: &mut W) -> ExitStatus

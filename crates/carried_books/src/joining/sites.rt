@@ -1,4 +1,5 @@
-//! Joins the meters at an accounting register in earlier files with those of a running office.
+//! Joins the meters at an accounting register (a named counter) in earlier database files with
+//! those of the current file.
 ghost use Rattle.std.specs.Prelude.{◌≡◌};
 ghost use Rattle.carried_books.specs.Joining.Sites as sites;
 
@@ -6,16 +7,16 @@ use crate::joining::earlier::EarlierRegister;
 use crate::joining::meters::{as_one, both};
 use office_events::{Installation, Name};
 
-/// A meter over all files. `earlier` is its energy in the earlier files, in mWh, if these files
-/// have the meter.
+/// A meter over all database files. `earlier` is its energy in the earlier files, in mWh, if these
+/// files have the meter.
 #[derive(Clone, Copy)]
 pub struct LatestMeter {
     pub meter: Installation,
     pub earlier: Option<u64>,
 }
 
-/// Returns the meters at a register in earlier files, in the order of installation. Each meter has
-/// its data from all of these files.
+/// Returns the meters at a register (a named counter) in earlier database files, in the order of
+/// installation. Each meter has its data from all of these files.
 ///
 /// The result is empty if the files have no such register.
 pub fn earlier_meters<'a>(earlier: &'a [EarlierRegister], register: &Name) -> &'a [Installation]
@@ -29,8 +30,8 @@ pub fn earlier_meters<'a>(earlier: &'a [EarlierRegister], register: &Name) -> &'
     &[]
 }
 
-// Returns whether the office's meter `row` continues the meter `stands`, which was still open at
-// the end of the earlier files.
+// Returns whether the current file's meter `row` continues the meter `stands`, which was still open
+// at the end of the earlier database files.
 fn is_left(stands: &Installation, row: &Installation) -> bool
     ensures { result ≡ sites.is_left stands.now row.now }
 {
@@ -38,7 +39,8 @@ fn is_left(stands: &Installation, row: &Installation) -> bool
     both(!stands.ended, is_one)
 }
 
-// Returns the latest meter at a register if only earlier files have a meter there.
+// Returns the latest meter at a register (a named counter) if only earlier database files have a
+// meter at this register.
 fn of_earlier(stands: &Installation) -> LatestMeter
     ensures { result ≡ sites.of_earlier stands.now }
 {
@@ -48,8 +50,8 @@ fn of_earlier(stands: &Installation) -> LatestMeter
     }
 }
 
-// Returns the latest meter if the office has the meter `row`, and the last meter of the earlier
-// files is `stands`.
+// Returns the latest meter at a register if the current database file has the meter `row`, and the
+// last meter of the earlier files is `stands`.
 fn of_both(stands: &Installation, row: &Installation) -> LatestMeter
     ensures { result ≡ sites.of_both stands.now row.now }
 {
@@ -66,8 +68,8 @@ fn of_both(stands: &Installation, row: &Installation) -> LatestMeter
     }
 }
 
-// Returns the latest meter at a register over all files; `None` if neither the earlier files nor
-// the office have a meter there.
+// Returns the latest meter at a register (a named counter) over all database files, or `None` if no
+// file has a meter at this register.
 fn latest(stands: &Option<Installation>, row: &Option<Installation>) -> Option<LatestMeter>
     ensures { result ≡ sites.latest stands.now row.now }
 {
@@ -87,11 +89,11 @@ fn latest(stands: &Option<Installation>, row: &Option<Installation>) -> Option<L
 }
 
 /// Returns the latest meter at a register, from its meters in earlier files and its latest meter in
-/// the office.
+/// the current file.
 ///
-/// If the office's meter continues the last meter of the files, the result is one meter over all
-/// files, with the energy of all files. If the office has no meter at the register, the result is
-/// the last meter of the files.
+/// If the current file's meter continues the last meter of the files, the result is one meter over
+/// all files, with the energy of all files. If the current file has no meter at the register, the
+/// result is the last meter of the files.
 pub fn latest_meter(earlier: &[Installation], row: &Option<Installation>) -> Option<LatestMeter>
     ensures { result ≡ sites.latest_meter earlier.now row.now }
 {

@@ -1,4 +1,5 @@
-//! Creates the statements of the meters at an accounting register over the files of one office.
+//! Creates the statements (billing reports) of the meters at an accounting register (a named
+//! counter) over several database files.
 ghost use Rattle.std.specs.Prelude.{◌≡◌, ◌∷◌, ◌++◌, [], List, map, find, not, IfErr, IfOk, OnOk};
 ghost use Rattle.std.specs.Option.{option_map};
 ghost use Rattle.office_events.specs.declared.facts.Fact.{Fact};
@@ -22,10 +23,12 @@ use office_events::{Installation, Name};
 use std::alloc::{AllocError, Global};
 use std::io::Write;
 
-/// The statements of the meters of an accounting register, over several files of an office.
+/// The statements of the meters of an accounting register (a named counter), over several database
+/// files.
 ///
-/// `is_recorded` says whether any of the files contains the register. `meters` has the statement of
-/// each of its meters for a range of days in the time zone `zone`, over all files together.
+/// `is_recorded` says whether any of the files contains the register. `meters` has the statement
+/// (billing report) of each of the register's meters for a range of days in the time zone `zone`,
+/// over all files together.
 #[derive(Drop)]
 pub struct JoinedStatement {
     pub is_recorded: bool,
@@ -33,7 +36,8 @@ pub struct JoinedStatement {
     pub zone: Zone,
 }
 
-// Returns the first meter in `known` that was not closed before the meter `row` began.
+// Returns the first of the earlier meters in `known` that was not closed before the meter `row`
+// began.
 fn not_before(known: &[KeptMeter], row: &Installation) -> Option<Installation>
     ensures { result ≡ option_map stands_of
         (find (λ one. not (meters.is_before one.stands row.now)) known.now) }
@@ -80,8 +84,8 @@ fn add_next<B: Books>(
     }
 }
 
-// Adds the meter `row` to the meters in `known`, if `row` continues the last meter in `known` or
-// follows all of them. On an error the last meter may be missing from `known`.
+// Adds the meter `row` to the earlier meters in `known`, if `row` continues the last of them or
+// begins after all were closed. On an error, the last meter may be missing from `known`.
 fn add_row<B: Books>(
     known: &mut Vec<KeptMeter>,
     books: &mut B,
@@ -110,8 +114,8 @@ fn add_row<B: Books>(
     add_next(known, books, zone, range, row)
 }
 
-// Adds the meters of a file in the order of installation. If one of them neither continues nor
-// follows the earlier meters, returns it and an earlier meter.
+// Adds the meters of a database file to those of earlier files, in the order of installation. If a
+// meter neither continues nor follows the earlier meters, returns this meter and an earlier one.
 fn add_listed<B: Books>(
     known: &mut Vec<KeptMeter>,
     books: &mut B,
@@ -136,7 +140,8 @@ fn add_listed<B: Books>(
     Ok(None)
 }
 
-// Adds the meters of the store at an accounting register to those of the earlier files.
+// Adds the meters of a database file at an accounting register (a named counter) to those of the
+// earlier files.
 fn add_meters<B: Books>(
     known: &mut Vec<KeptMeter>,
     books: &mut B,
@@ -154,7 +159,8 @@ fn add_meters<B: Books>(
     add_listed(known, books, zone, range, &listed)
 }
 
-/// Collects the statements of an accounting register's meters over several files.
+/// Collects the statements (billing reports) of an accounting register's meters over several
+/// database files.
 impl Keeping for JoinedStatement {
     ghost keeps = { HasStated };
 
@@ -187,9 +193,8 @@ impl Keeping for JoinedStatement {
     }
 }
 
-// ---- The printed text of the statements
-
-// Adds the statement of a meter, if the meter was installed in the range of days.
+// Adds the statement (billing report) of a meter to a list, if the meter was installed in the range
+// of days.
 fn add_part_statement(
     rows: &mut Vec<MeterStatement>,
     zone: &Zone,
@@ -206,7 +211,7 @@ fn add_part_statement(
     Ok(())
 }
 
-// Returns the statements of the meters that were installed in the range of days.
+// Returns the statements (billing reports) of the meters that were installed in the range of days.
 fn rows_of(
     alloc: Global,
     zone: &Zone,
@@ -231,10 +236,11 @@ fn print_rows<W: Write>(form: &StatementForm, rows: &[MeterStatement], output: &
     }
 }
 
-/// Prints the statements of a register's meters over files that join, on the days of a range.
+/// Prints the statements (billing reports) of a register's meters over several database files, on
+/// the days of a range.
 ///
 /// The meters are those that were installed in the range, in the order of installation, with their
-/// data from all files. The range must be that for which the data were collected. On `Err` memory
+/// data from all files. The range must be that for which the data were collected. On `Err`, memory
 /// ran out, and nothing is printed.
 pub fn state_joined<W: Write>(
     alloc: Global,

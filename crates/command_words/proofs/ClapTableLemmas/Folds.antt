@@ -1,5 +1,5 @@
--- Proves that a fold can be extended by one item. Applying the step to item `i` after a fold over
--- the first `i` items is the fold over the first `i` + 1 items.
+-- Proves how a fold over a list is extended. A step with item `i` after a fold over the first `i`
+-- items is the fold over the first `i + 1` items.
 use Rattle.std.proofs.Common.{◌≡◌, ◌∙◌, ◌+◌, ◌<◌, ◌∷◌, [], ap, sym, ℕ, List, length, take, get_or}
 use Rattle.std.specs.Prelude.{fold}
 use Rattle.std.proofs.lemmas.List.{take_more}

@@ -62,7 +62,7 @@ abbrev pub program_with : Text → (commands later : List App) → App
 program_with name commands later =
     as_program (with_apps (with_apps (new_app name) commands) later)
 
--- ---- the `clap` definitions of the rows in a program's tables
+-- Definitions that convert the rows of a program's option tables to `clap` rules and commands.
 
 -- The `clap` rule of the option `name`, for the kind of option that the table states.
 abbrev pub rule_by : Text → Value → Rule
@@ -104,9 +104,9 @@ abbrev pub program_app : ProgramText → App
 program_app p =
     as_program (with_commands (with_commands (new_app p.name.now) p.commands.now) p.later.now)
 
--- ---- results of parsing arguments with `clap`
+-- Definitions of the results of parsing arguments with `clap`.
 
--- The bytes of each argument, for contracts.
+-- The bytes of each command-line argument.
 abbrev pub texts : List (Bor Text) → List Text
 texts words = map (λ word. word.now) words
 

@@ -14,17 +14,17 @@ use Rattle.command_words.specs.declared.values.list_fault.ListFault.TheVariants 
 abbrev pub Text : Type 0
 Text = List ℕ
 
--- The logical model of a device, for contracts: its name, and the host and port of its address.
+-- A device in a list, for contracts: its name, and the host and port of its address.
 pub record Place : Type 0 where
   pub name : Text
   pub host : Text
   pub port : ℕ
 
--- Maps a runtime value of the type `Device` to its logical model `Place`, for contracts.
+-- Converts a parsed device from the program's type to the type in contracts.
 abbrev pub place_of : Device → Place
 place_of d = record { name = d.name.now; host = d.host.now; port = d.port }
 
--- Maps a list of parsed devices to their logical models, for contracts.
+-- Converts a list of parsed devices to the type in contracts.
 abbrev pub places_of : List Device → List Place
 places_of devices = map place_of devices
 
@@ -93,7 +93,7 @@ are_distinct (text ∷ texts) = not (list_any (bytes_eq text) texts) && are_dist
 abbrev pub names_in : List Text → List Text
 names_in parts = map name_in parts
 
--- The bytes of each part of a list, for contracts.
+-- The bytes of each part of a device list.
 abbrev pub texts : List (Bor Text) → List Text
 texts parts = map (λ part. part.now) parts
 
@@ -122,8 +122,8 @@ abbrev pub IsFault : ListFault → Option (List Place) → Type 0
 IsFault fault.Memory due = ⊤
 IsFault (fault.Part part why) due = None ≡ due
 
--- States that a function parses a list correctly. It returns the devices `due`, or a fault that
--- `IsFault` allows.
+-- States that a function parses a device list correctly. It returns the devices `due`, or an
+-- allowed fault.
 abbrev pub Reads : {Z : Type 0} → Option (List Place) → Result (Vec Device Z) ListFault → Type 0
 Reads due result =
     MatchResult result (λ devices. Some (places_of devices.items) ≡ due)

@@ -1,4 +1,4 @@
--- Functions that combine optional values.
+-- Functions that apply a function to an optional value or to each item of a list.
 use Rattle.std.specs.Prelude.{List, [], ◌∷◌, Option, Some, None}
 
 -- Applies `rest` to the value, or returns None if there is no value.

@@ -35,7 +35,7 @@ pub struct OptionText<'a> {
     pub help: &'a str,
 }
 
-/// A command with its options. The help text begins with `about`, and ends with `after` below the
+/// A command with its options. Its help text begins with `about`, and ends with `after` below the
 /// options.
 #[derive(Clone, Copy)]
 pub struct CommandText<'a> {

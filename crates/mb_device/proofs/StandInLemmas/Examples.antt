@@ -1,4 +1,4 @@
--- The greatest number of turns of a connection to a simulated device.
+-- The greatest number of turns (reads) of a connection to a simulated device.
 use Rattle.std.proofs.Common.{◌≡◌, refl}
 use Rattle.mb_device.specs.declared.stand_in.connections.TheConstants.{MOST_TURNS}
 

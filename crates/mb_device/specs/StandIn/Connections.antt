@@ -6,7 +6,7 @@ use Rattle.mb_device.specs.Tricks.{begun}
 use Rattle.mb_device.specs.declared.server.ServeFault.{ServeFault}
 use Rattle.mb_device.specs.declared.trick.Trick.{Trick}
 
--- True if a new server with these injected faults served the connection.
+-- True if the simulated device served a new connection, with these injected faults.
 pub record ServesSome (tricks : List (ℕ × Trick)) (result : Result ℕ ServeFault)
     (old new : Around) : Type 0 where
   pub left : Standing

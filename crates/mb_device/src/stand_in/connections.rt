@@ -14,9 +14,9 @@ use std::net::{OpenListener, OpenStream};
 /// input.
 pub const MOST_TURNS: u32 = 100_000;
 
-/// Responds to frames of a link until its input ends, in at most `MOST_TURNS` turns. Returns the
-/// number of frames executed, including frames whose response an injected fault dropped, delayed or
-/// cut off.
+/// Responds to the frames of a connection until its input ends, with at most `MOST_TURNS` reads.
+/// Returns the number of frames executed, including frames whose response an injected fault
+/// dropped, delayed or cut off.
 pub fn answer_one<L: Link>(
     link: &mut L,
     bank: &mut Bank,
@@ -49,7 +49,7 @@ fn answer_stream<S: Read + Write + OpenStream + Drop>(
 /// Accepts `connections` connections, one after another, and serves the simulated device on each.
 ///
 /// Injected faults start again on each connection, and the register map keeps its values. A failure
-/// ends only its connection, and a client that sends nothing loses its connection after at most
+/// ends only its connection. A client that sends nothing loses its connection after at most
 /// `MOST_TURNS` seconds. If the listener fails, the call returns the listener's error.
 pub fn answer_all<L: OpenListener>(
     listener: &L,

@@ -4,11 +4,11 @@ use Rattle.mb_wire.specs.declared.sockets.counts.Counts.{Counts}
 use Rattle.mb_wire.specs.declared.sockets.deadline_link.DeadlineLink.{DeadlineLink}
 use Rattle.mb_wire.specs.declared.sockets.socket.SocketLink.{SocketLink}
 
--- The deadline of a link, in the clock's seconds: the last time at which the link's calls work.
+-- The deadline of a link (a byte connection), in the clock's seconds. Later calls fail.
 abbrev pub until_of : {L C : Type 0} → DeadlineLink L C → ℕ
 until_of link = link.until
 
--- True if all counts are 0 and no read was made, as for a new link.
+-- True if all call counts of a link are 0 and no read was made, as for a new link.
 pub record CountsNothing (counts : Counts) : Type 0 where
   pub failures : counts.failures ≡ 0
   pub takes : counts.takes ≡ 0

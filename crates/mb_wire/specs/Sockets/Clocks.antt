@@ -1,4 +1,4 @@
--- Defines the times that a clock will return, for clocks whose times are known in advance.
+-- The times that a clock will return, if they are known in advance.
 use Rattle.std.specs.Prelude.{◌≡◌, ℕ, Bool, List, [], ◌∷◌, Option, None, Some, nat_lt}
 use Rattle.mb_wire.specs.declared.sockets.clock.FixedClock.{FixedClock}
 
@@ -15,7 +15,8 @@ next_moment (moment ∷ later) = moment
 abbrev pub ReportsLate : (until : ℕ) → (late : Bool) → (moments : List ℕ) → Type 0
 ReportsLate until late moments = late ≡ nat_lt until (next_moment moments)
 
--- The list of times after the clock returned the first. A clock repeats the last time of its list.
+-- The remaining times of a clock after it returned the first. A clock repeats the last time of its
+-- list.
 abbrev pub later_moments : List ℕ → List ℕ
 later_moments [] = []
 later_moments (moment ∷ []) = moment ∷ []

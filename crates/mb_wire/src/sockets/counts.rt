@@ -1,4 +1,4 @@
-//! Counts the calls of a link: failures, reads and ends of the input.
+//! Counts the calls of a connection: failures, reads and ends of the input.
 ghost use Rattle.std.specs.Prelude.{◌≡◌, is_err, true, Some};
 ghost use Rattle.mb_wire.specs.Links.{is_end, is_failed_give, risen};
 ghost use Rattle.mb_wire.specs.Sockets.Beginnings.{CountsNothing};
@@ -27,7 +27,7 @@ impl Counts {
         }
     }
 
-    /// Counts a read from the link into a buffer of `room` bytes with the result `answer`.
+    /// Counts a read from the connection into a buffer of `room` bytes with the result `answer`.
     pub fn count_read(&mut self, room: usize, answer: Result<Took, LinkFailed>)
         ensures failures { self.new.failures ≡ risen (is_err answer) self.old.failures }
         ensures takes { self.new.takes ≡ risen true self.old.takes }
@@ -43,7 +43,7 @@ impl Counts {
         self.last = Some(LastTake { room, answer });
     }
 
-    /// Counts a write of `bytes` to the link with the result `answer`.
+    /// Counts a write of `bytes` to the connection with the result `answer`.
     pub fn count_write(&mut self, bytes: &[u8], answer: Result<usize, LinkFailed>)
         ensures failures { self.new.failures ≡
             risen (is_failed_give answer bytes.now) self.old.failures }

@@ -1,10 +1,10 @@
-//! A link whose calls fail after a deadline.
+//! A connection whose calls fail after a deadline.
 use crate::sockets::clock::Clock;
 use crate::sockets::counts::Counts;
 use crate::{LastTake, Link, LinkFailed, Took};
 
-/// A link whose calls fail after a given time. Each call reads the clock, which is tested and not
-/// proved.
+/// A connection whose calls fail after a given time. Each call reads the clock, which is tested and
+/// not proved.
 #[derive(Drop)]
 pub struct DeadlineLink<'l, L: Link, C: Clock> {
     link: &'l mut L,
@@ -18,7 +18,7 @@ impl<'l, L: Link, C: Clock> DeadlineLink<'l, L, C> {
     ghost use Rattle.mb_wire.specs.Sockets.Beginnings.{IsFreshHaste, until_of};
     ghost use Rattle.mb_wire.specs.Sockets.Clocks.{ReportsLate};
 
-    /// Creates a link that works until the clock's time is after `until`, in seconds.
+    /// Creates a connection that works until the clock's time is after `until`, in seconds.
     pub fn new(link: &'l mut L, clock: &'l mut C, until: u64) -> DeadlineLink<'l, L, C>
         ensures until { until_of result ≡ until }
         ensures fresh { IsFreshHaste result }

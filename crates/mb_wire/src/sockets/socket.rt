@@ -1,4 +1,4 @@
-//! A `Link` over a connected socket.
+//! A byte connection over a connected socket.
 ghost use Rattle.std.specs.Prelude.{◌≡◌};
 
 use crate::sockets::counts::Counts;

@@ -1,4 +1,4 @@
--- Lemmas about a cache, which still agrees with the records after one more record.
+-- Lemmas that a cache of lookup results agrees with the store's records after one more record.
 use Rattle.std.proofs.Common.{◌≡◌, ℕ, ◌+◌, ◌<◌, Bool, false, cond, List, ◌∷◌, ◌++◌, reverse, take, length, get_or, Option, Some, None, refl, sym, ap, subst, ◌∙◌}
 use Rattle.std.specs.List.{find, filter}
 use Rattle.std.specs.Option.{option_and_then}
@@ -29,14 +29,15 @@ use Rattle.memory_books.proofs.KeptLemmas.Answering.{each_same, each_left, none_
 use Rattle.memory_books.proofs.KeptLemmas.Latest.{latest_stays, moved_latest}
 use Rattle.memory_books.proofs.KeptLemmas.Waiting.{polls_come}
 
--- After a point list of one device is recorded, the point lists of all other devices are unchanged.
+-- After a point list (the Modbus registers to read) of one device is recorded, the point lists of
+-- all other devices are unchanged.
 other_list : (put : DeviceList) (facts : List Fact) (device : List ℕ) → same put.device device ≡ false
     → list_of (fact.List put ∷ facts) device ≡ list_of facts device
 other_list put facts device apart =
     ap (λ (b : Bool). option_and_then (λ (p : DeviceList). if_some p.list.points p.list) (cond b (Some put) (find (λ (p : DeviceList). same p.device device) (lists_in facts)))) apart
 
--- After an accounting register of one device is recorded, the accounting registers of all other
--- devices are unchanged.
+-- After an accounting register (a named energy counter) of one device is recorded, the accounting
+-- registers of all other devices are unchanged.
 other_registers : (r : Register) (facts : List Fact) (device : List ℕ) → same r.device device ≡ false
     → registers_of (fact.Register r ∷ facts) device ≡ registers_of facts device
 other_registers r facts device apart =
@@ -74,8 +75,8 @@ pub record NamesAreTrue (kept : Known) (facts : List Fact) : Type 0 where
   pub registers : EachIs (λ device v. v.items ≡ registers_of facts device) kept.registers
   pub standing : EachIs (IsLatest facts) kept.standing
 
--- If a record changes no point list, register list or state of a meter, then an unchanged cache
--- agrees with the new records.
+-- If a record changes no point list, register list or state of a meter, then the unchanged cache of
+-- these agrees with the new records.
 quiet : (f : Fact) (facts : List Fact) (old new : Known) → ((device : List ℕ) → list_of (f ∷ facts) device ≡ list_of facts device)
     → ((device : List ℕ) → registers_of (f ∷ facts) device ≡ registers_of facts device)
     → ((meter : List ℕ) (row : Installation) → IsLatest facts meter row → IsLatest (f ∷ facts) meter row)
@@ -125,8 +126,8 @@ comes stay hold move ranges (fact.Outcome e) facts old new lawful changes are =
 comes stay hold move ranges (fact.Reply r) facts old new lawful changes are =
     quiet (fact.Reply r) facts old new (λ device. refl) (λ device. refl) (λ meter row is. latest_stays stay (fact.Reply r) facts meter row refl refl is) changes are
 
--- After one more record, the point lists, registers, states of meters and polls in the cache agree
--- with the records.
+-- After one more record, the cached point lists, registers, states of meters and polls agree with
+-- the records.
 pub all_comes : OtherMetersStay → HoldsChangeNothing → EntriesMoveOn → InstallationsAreInRange → (f : Fact) (facts : List Fact) (old mid new : Known) (polls : Polls)
     → AreLawful (f ∷ facts) → Changes f old mid → mid.polls ≡ old.polls → PollsChange f mid.polls polls
     → new.lists ≡ mid.lists → new.registers ≡ mid.registers → new.standing ≡ mid.standing → new.polls ≡ polls
@@ -141,8 +142,8 @@ all_comes stay hold move ranges f facts old mid new polls lawful changes same_po
       polls = subst (λ (p : Polls). PollsAreTrue p (f ∷ facts)) (sym own) there;
     }
 
--- If the cache agreed with the first `i` new records, then it agrees with the first `i + 1` new
--- records.
+-- If a cache of lookup results agreed with the first `i` new records, then it agrees with the first
+-- `i + 1` new records.
 pub one_more : (old now new : Known) (known facts : List Fact) (i : ℕ) (f : Fact) → i < length facts → f ≡ get_or facts i f
     → ((known : List Fact) → AreLawful (f ∷ known) → AreTrue now known → AreTrue new (f ∷ known))
     → (AreLawful (with_facts (take i facts) known) → AreTrue old known → AreTrue now (with_facts (take i facts) known))

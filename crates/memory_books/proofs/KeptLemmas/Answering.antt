@@ -30,8 +30,8 @@ inserted old new name other x updates =
       | inr apart ↦ inl (updates.2 (named other) (is_eq-key_cmp (named name) (named other) ∙ apart))
     ]
 
--- After a result is cached, at most the cached result for its name has changed, even if memory ran
--- out.
+-- After a lookup result is cached for a name, at most the cached result for this name has changed,
+-- even if memory ran out.
 pub write_in : {T E : Type 0} (r : Result (Option T) E) (old new : BTreeMap Key T) (name : List ℕ) (x : T)
     → OnOk r (Updates key_cmp old new (named name) (Some x)) → OnErr r (IsUnchanged old new) → (other : List ℕ)
     → (get key_cmp new (named other) ≡ get key_cmp old (named other)) ⊎ ((other ≡ name) × (get key_cmp new (named other) ≡ Some x))
@@ -41,12 +41,12 @@ write_in {T = T} (Err e) old new name x ok err other = inl (ap (λ (es : List (K
 pub none_and_some : {T P : Type 0} (o : Option T) (x : T) → o ≡ None → o ≡ Some x → P
 none_and_some o x n s = absurd (let e : None ≡ Some x = sym n ∙ s in cc)
 
--- If a cache is empty, then every property holds for all of its results.
+-- If a cache of lookup results is empty, then every property holds for all of its results.
 pub none_kept : {T : Type 0} (so : List ℕ → T → Type 0) (answers : Answers T) → ((name : List ℕ) → answer_to answers name ≡ None) → EachIs so answers
 none_kept so answers none name x is = none_and_some (answer_to answers name) x (none name) is
 
--- If a result is cached after a removal, then it was also cached before, and its name is not the
--- removed name.
+-- If a result is still cached after another name's result was removed, then the result was also
+-- cached before the removal.
 pub forgot : {T : Type 0} (old new : Answers T) (name : List ℕ) → Forgets name old new → (other : List ℕ) (x : T) → answer_to new other ≡ Some x
     → (same name other ≡ false) × (answer_to old other ≡ Some x)
 forgot old new name forgets other x is =
@@ -75,15 +75,15 @@ kept_too {T} so old new name y may there are other x is =
       | inr this ↦ subst (λ (n : List ℕ). so n x) (sym this.0) (subst (so name) (some_one y x (sym this.1 ∙ is)) there)
     ]
 
--- If a new property follows from an old property of the results, then the new property holds for
--- all results of an unchanged cache.
+-- If a new property of cached results follows from an old property, then it holds for all results
+-- of an unchanged cache that had the old property.
 pub each_same : {T : Type 0} (so now : List ℕ → T → Type 0) (old new : Answers T) → new ≡ old → ((name : List ℕ) (x : T) → so name x → now name x)
     → EachIs so old → EachIs now new
 each_same {T} so now old new same_one go are name x is =
     go name x (are name x (sym (ap (λ (a : Answers T). answer_to a name) same_one) ∙ is))
 
--- If a new property follows from an old property of the results, then the new property holds for
--- the results that remain after a removal.
+-- If a new property of cached results follows from an old property, then it holds for the results
+-- that remain after a removal.
 pub each_left : {T : Type 0} (so now : List ℕ → T → Type 0) (old new : Answers T) (name : List ℕ) → Forgets name old new
     → ((other : List ℕ) (x : T) → same name other ≡ false → so other x → now other x) → EachIs so old → EachIs now new
 each_left so now old new name forgets go are other x is =

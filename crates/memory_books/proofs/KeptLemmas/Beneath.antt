@@ -1,4 +1,5 @@
--- The lemma that a store with an empty cache has the same model as the store below the cache.
+-- The lemma that a store with an empty cache has the same records and properties as the store from
+-- which it caches results.
 use Rattle.std.proofs.Common.{List, refl}
 use Rattle.office_events.specs.declared.facts.Fact.{Fact}
 use Rattle.office_books.specs.Ledgers.{Ledger}

@@ -1,4 +1,4 @@
--- Lemmas about the cached pending polls, which agree with the records after one more record.
+-- Lemmas that the cached pending polls agree with the store's records after one more record.
 use Rattle.std.proofs.Common.{◌≡◌, ◌⊎◌, inl, inr, ℕ, ◌<◌, ◌≤◌, ◌==◌, true, false, List, [], ◌∷◌, length, is_some, Option, Some, None, refl, sym, ap, subst, ◌∙◌, Result, Ok, Err, OnOk, OnErr, arith}
 use Rattle.std.specs.BTreeMap.{BTreeMap, get, Updates, IsUnchanged, is_at}
 use Rattle.std.specs.Map.{lookup}
@@ -76,7 +76,7 @@ starts p facts h =
     let own : (p.number == p.number) ≡ true = grind (arith, nat_tests) in
     ap (option_map (poll_row (fact.Poll p ∷ facts))) (cond-true _ _ _ own) ∙ ap (row_so p) (no_end facts p.number h.1 (omega (arith, fits.number)))
 
--- After one poll is started, all other polls are unchanged.
+-- After one poll is started, the rows of all other polls are unchanged.
 others : (p : Poll) (facts : List Fact) (n : ℕ) → (p.number == n) ≡ false → poll_row_of (fact.Poll p ∷ facts) n ≡ poll_row_of facts n
 others p facts n apart = ap (option_map (poll_row facts)) (cond-false _ _ _ apart)
 
@@ -106,7 +106,7 @@ poll_comes p facts old new h changes are = record {
       omega (arith, was, more);
 }
 
--- If another poll ends, then a pending poll is still pending.
+-- A pending poll is still pending after another poll ends.
 still_waits : (e : EndedPoll) (facts : List Fact) (n : ℕ) (found : Option Poll) → (e.poll == n) ≡ false
     → ((poll : Poll) → found ≡ Some poll → poll.number ≡ n)
     → option_map (poll_row (fact.Outcome e ∷ facts)) found ≡ option_map (poll_row facts) found
@@ -171,7 +171,8 @@ poll_in (Ok was) old new p ok err n =
     ]
 poll_in (Err e) old new p ok err n = inl (ap (λ (es : List (ℕ × Poll)). lookup (is_at (nat_cmp n)) es) err)
 
--- After a lookup's number of polls is cached, the cached polls still agree with the records.
+-- After the number of polls that a lookup returned is cached, the cached polls still agree with the
+-- records.
 pub count_kept : (old new : Polls) (facts : List Fact) (count : ℕ) → new.waiting ≡ old.waiting → new.started ≡ Some count
     → count ≡ length (polls_in facts) → PollsAreTrue old facts → PollsAreTrue new facts
 count_kept old new facts count waiting started is are = record {

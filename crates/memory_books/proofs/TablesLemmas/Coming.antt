@@ -1,4 +1,4 @@
--- Lemmas about a table to which records are added one by one.
+-- Lemmas about a lookup table to which records are added one by one.
 use Rattle.std.proofs.Common.{◌≡◌, ℕ, ◌+◌, ◌<◌, ◌≤◌, List, [], ◌∷◌, ◌++◌, reverse, take, drop, length, get_or, sym, ap, subst, ◌∙◌, arith}
 use Rattle.std.proofs.lemmas.List.{reverse-append, length-reverse, length-take-le, take-append-drop, take-append-le, take_all, length-append}
 use Rattle.office_events.specs.declared.facts.Fact.{Fact}
@@ -18,8 +18,8 @@ first_lawful facts k h =
     lawful_before (reverse (drop k facts)) (reverse (take k facts))
     (subst AreLawful (ap reverse (sym (take-append-drop k facts)) ∙ reverse-append (take k facts) (drop k facts)) h)
 
--- After the next record of the list is added to a table, the table agrees with all records up to
--- this record.
+-- After the next record of a list is added to a lookup table, the table agrees with the records up
+-- to this record.
 pub come_on : {T : Type 0} (says : T → List Fact → Type 0) (old new : Kept T) (facts : List Fact) (f : Fact) → AreLawful (latest_first facts)
     → HasCome says old facts → old.count < length facts → f ≡ get_or facts old.count f → new.count ≡ old.count + 1
     → ((known : List Fact) → AreLawful (f ∷ known) → length known ≡ old.count → says old.table known → says new.table (f ∷ known))
@@ -34,15 +34,15 @@ come_on says old new facts f lawful come less is counted put =
       said = subst (says new.table) (sym (ap (λ (k : ℕ). reverse (take k facts)) counted ∙ more)) (put before may long come.said);
     }
 
--- If as many records were added to a table as the list has, then the table agrees with all records
--- of the list.
+-- If all records of a list were added to a lookup table, then the table agrees with all records of
+-- the list.
 pub come_whole : {T : Type 0} (says : T → List Fact → Type 0) (kept : Kept T) (facts : List Fact) → HasCome says kept facts
     → length facts ≤ kept.count → says kept.table (latest_first facts)
 come_whole says kept facts come all =
     subst (λ (xs : List Fact). says kept.table (reverse xs)) (take_all kept.count facts all) come.said
 
--- After the store gets more records, a table still agrees with the records that were added to the
--- table.
+-- After the store gets more records, a lookup table still agrees with the records that were added
+-- to the table.
 pub come_with : {T : Type 0} (says : T → List Fact → Type 0) (kept : Kept T) (facts more : List Fact) → HasCome says kept facts → HasCome says kept (facts ++ more)
 come_with says kept facts more come = record {
   few = omega (arith, come.few, length-append facts more);

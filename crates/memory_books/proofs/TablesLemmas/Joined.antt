@@ -1,5 +1,5 @@
--- Lemmas about the interval rows of an accounting register, which are the interval rows of its
--- meters one after another.
+-- Lemmas about the interval rows of an accounting register (a named energy counter), which are the
+-- interval rows of its meters one after another.
 use Rattle.std.proofs.Common.{◌≡◌, ◌⊎◌, ◌+◌, ◌<◌, ℕ, zero, suc, List, [], ◌∷◌, ◌++◌, reverse, take, length, get_or, inl, inr, Option, Some, None, refl, sym, ap, subst, ◌∙◌, arith}
 use Rattle.std.specs.List.{Contains, filter_map, flat_map, cons_option}
 use Rattle.std.proofs.lemmas.Grind.{flat_map-append}
@@ -17,8 +17,7 @@ use Rattle.memory_books.specs.Tables.IntervalRows.{rows_at}
 use Rattle.memory_books.specs.Tables.Lookups.{opening_at}
 use Rattle.memory_books.proofs.TablesLemmas.Turned.{filter_map_reverse}
 
--- A list contains its first element. The lemma `of_turned` needs this to show that a list contains
--- each element of the reversed list.
+-- A list contains its first element.
 is_head : {X : Type 0} (y : X) (ys : List X) (x : X) → y ≡ x → Contains (y ∷ ys) x
 is_head y ys x is = (0, omega arith, is)
 
@@ -35,7 +34,8 @@ of_turned (y ∷ ys) x h =
     turned_over y x ys (reverse ys) (of_turned ys x)
     (Contains-push_cases (reverse ys) y x (subst (λ zs. Contains zs x) (reverse_cons y ys) h))
 
--- If a list contains an element, then the list with an optional element in front contains it too.
+-- If a list contains an element, then the list still contains the element after an optional further
+-- element is added in front.
 after_option : {X : Type 0} (o : Option X) (ys : List X) (x : X) → Contains ys x → Contains (cons_option o ys) x
 after_option None ys x h = h
 after_option (Some y) ys x h = in_tail y ys x h
@@ -52,8 +52,8 @@ recorded_at known facts place o is found =
     (subst (λ (os : List Opening). Contains os o) (filter_map_reverse as_opening known)
     (opening_there (reverse known) place o (ap (λ (fs : List Fact). opening_at fs place) (sym is) ∙ found)))
 
--- The interval rows of the first `i + 1` meters are those of the first `i` meters, followed by
--- those of meter `i`.
+-- The interval rows (energy by quarter hour) of the first `i + 1` meters are those of the first `i`
+-- meters, followed by those of meter `i`.
 pub next_place : (known facts : List Fact) (places : List ℕ) (i d : ℕ) → i < length places
     → rows_at known facts (take (i + 1) places) ≡ rows_at known facts (take i places) ++ rows_at known facts (get_or places i d ∷ [])
 next_place known facts places i d less =
@@ -63,8 +63,8 @@ next_place known facts places i d less =
     ∙ ap rows (filter_map-append (opening_at facts) (take i places) (get_or places i d ∷ []))
     ∙ flat_map-append (rows_of_opening known) (opened (take i places)) (opened (get_or places i d ∷ []))
 
--- The interval rows of a meter equal the interval rows that are found through the index of the
--- record that installed the meter.
+-- The interval rows of a meter equal those that a lookup by the index of the meter's installation
+-- record returns.
 pub rows_there : (known facts : List Fact) (place : ℕ) (o : Opening) → AreLawful known → facts ≡ reverse known → opening_at facts place ≡ Some o
     → rows_of_meter known o.meter ≡ rows_at known facts (place ∷ [])
 rows_there known facts place o lawful is there =

@@ -1,4 +1,4 @@
--- Lemmas about the table of meters, which agrees with the records after one more record.
+-- Lemmas that the table of meters agrees with the records after one more record.
 use Rattle.std.proofs.Common.{◌≡◌, ℕ, ◌+◌, ◌≤◌, ◌<◌, Bool, true, false, cond, ◌&&◌, List, [], ◌∷◌, reverse, length, Option, Some, None, Result, Ok, refl, sym, ap, subst, ◌∙◌}
 use Rattle.std.specs.Option.{option_map}
 use Rattle.std.specs.Ordering.{is_eq}
@@ -42,7 +42,7 @@ use Rattle.memory_books.proofs.TablesLemmas.Known.{known, found_is_there}
 use Rattle.memory_books.proofs.TablesLemmas.Passing.{rows_numbered, row_inside}
 use Rattle.memory_books.proofs.TablesLemmas.SameKeys.{is_eq-key_cmp}
 
--- If a key is that of one meter, it differs from the keys of all meters with other names.
+-- If a key is the key of one meter, then it differs from the keys of all meters with other names.
 other_key : (meter name : List ℕ) (key : Key) → key ≡ named meter → same meter name ≡ false → is_eq (key_cmp key (named name)) ≡ false
 other_key meter name key is apart =
     ap (λ (k : Key). is_eq (key_cmp k (named name))) is ∙ is_eq-key_cmp (named meter) (named name) ∙ ap (λ (b : Bool). b && true) apart
@@ -85,8 +85,8 @@ begun old new opening key n is updates so = record {
   others = λ name apart. updates.2 (named name) (other_key opening.meter name key is apart);
 }
 
--- If a record changes neither the state nor the entries of a meter, then the unchanged meter in the
--- table agrees with the new records.
+-- If a record changes neither the state nor the entries of a meter, then the meter's unchanged row
+-- in the table agrees with the new records.
 stays_so : (f : Fact) (facts : List Fact) (meter : Option Meter) (found : Option Opening) → ((o : Opening) → found ≡ Some o → Stays f facts o)
     → IsMeter facts meter found → IsMeter (f ∷ facts) meter found
 stays_so f facts None found law is = is
@@ -94,13 +94,14 @@ stays_so f facts (Some m) found law is =
     let s = law is.opening is.there in
     record { opening = is.opening; there = is.there; row = is.row ∙ sym s.installation; rows = is.rows ∙ sym s.rows }
 
--- After a rejected reading is recorded, the unchanged table of meters agrees with the new records.
+-- After a rejected reading is recorded, the unchanged table of meters still agrees with the
+-- records.
 pub hold_comes : HoldsChangeNothing → (b : HeldReading) (facts : List Fact) (meters : Meters) → AreMeters meters facts → AreMeters meters (fact.Hold b ∷ facts)
 hold_comes law b facts meters are name =
     stays_so (fact.Hold b) facts (meter_at meters name) (opening_of facts name) (λ o there. law b facts o) (are name)
 
--- If a meter in the table agrees with the records and keeps its state and entries, then the meter
--- still agrees with them.
+-- If a meter's row in the table agrees with the records, and its state and entries are unchanged,
+-- then the row still agrees with the records.
 same_one : (facts : List Fact) (found : Option Opening) (before after : Option Meter) → IfThere IsSame before after → IsMeter facts before found → IsMeter facts after found
 same_one facts found None after gone is = subst (λ (m : Option Meter). IsMeter facts m found) (sym gone) is
 same_one facts found (Some m) after (n, there, so) is =
@@ -130,8 +131,8 @@ line_comes law f facts old new meter became openings none changes own are name =
 no_line : (line : journal.Line) (b : Bool) → b ≡ false → let o : Option journal.Line = cond b (Some line) None in o ≡ None
 no_line line b is = cond-false _ _ _ is
 
--- Helpers for `entered_one`: after an entry of a meter is recorded and added to the table, the
--- meter in the table agrees with the records.
+-- Helper lemmas: after an entry of a meter is recorded and added to the table of meters, the
+-- meter's row agrees with the records.
 pub sound_so : (row : Installation) → IsSound row → IsSound row
 sound_so row h = record { range = h.range; ceiling = h.ceiling; raw = h.raw; scale = h.scale; total = h.total }
 
@@ -170,8 +171,8 @@ entry_comes law others ranges facts b old new lawful changes are =
     (λ name apart. no_line (journal.Entered b.kind b.entry) (same b.meter name) apart) changes
     (entered_one law ranges facts b lawful (meter_at old b.meter) (meter_at new b.meter) changes.own (are b.meter)) are
 
--- After an entry of a meter is voided in the records and in the table, the meter in the table
--- agrees with the records.
+-- After an entry of a meter is voided (cancelled) in the records and in the table of meters, the
+-- meter's row agrees with the records.
 struck_one : JournalsFit → JournalsAreKept → InstallationsAreInRange → (facts : List Fact) (v : VoidedEntry) → AreLawful (fact.Void v ∷ facts) → (before after : Option Meter)
     → IfThere (HasStruck v.place) before after → IsMeter facts before (opening_of facts v.meter) → IsMeter (fact.Void v ∷ facts) after (opening_of facts v.meter)
 struck_one fit kept ranges facts v lawful None after gone is =
@@ -218,7 +219,7 @@ void_comes others fit kept ranges facts v old new lawful changes are =
     (λ name apart. no_line (journal.Voided v.place) (same v.meter name) apart) changes
     (struck_one fit kept ranges facts v lawful (meter_at old v.meter) (meter_at new v.meter) changes.own (are v.meter)) are
 
--- After the installation of a meter is recorded and added to the table, the meter in the table
+-- After the installation of a meter is recorded and added to the table of meters, the meter's row
 -- agrees with the records.
 pub opening_comes : OpeningsBegin → OtherMetersStay → (facts : List Fact) (o : Opening) (old new : Meters) → AreLawful (fact.Opening o ∷ facts)
     → Changes o.meter (Begins o) old new → AreMeters old facts → AreMeters new (fact.Opening o ∷ facts)
@@ -238,8 +239,8 @@ opening_comes law others facts o old new lawful changes are name =
     (subst (λ (x : Option Meter). IsMeter later x (opening_of facts name)) (sym (changes.others name apart))
     (stays_so (fact.Opening o) facts (meter_at old name) (opening_of facts name) (λ p there. others (fact.Opening o) facts p refl) (are name))))
 
--- If a search by name finds a meter in the table, then its state and its entries equal those of the
--- records.
+-- If a search by name finds a meter in the table of meters, then its state and its entries equal
+-- those of the records.
 pub stands_at : (facts : List Fact) (meters : Meters) (name : List ℕ) (key : Key) (m : Meter) → key ≡ named name → Some m ≡ get_by (key_cmp key) meters.meters
     → AreMeters meters facts → Stands facts m (opening_of facts name)
 stands_at facts meters name key m is there are =

@@ -1,4 +1,4 @@
--- Lemmas about the rows of a meter's journal, entry by entry.
+-- Lemmas about the rows of a meter's journal (history), entry by entry.
 use Rattle.std.proofs.Common.{◌≡◌, ℕ, suc, ◌+◌, ◌<◌, ◌≤◌, ◌==◌, ◌&&◌, List, [], ◌∷◌, length, refl, sym, ap, subst, ◌∙◌, inl, inr, Option, Some, None, arith}
 use Rattle.std.specs.Option.{option_map}
 use Rattle.std.proofs.lemmas.Bool.{cases_Bool, cond-true, cond-false, eqb-true}
@@ -23,7 +23,7 @@ void_length o place (row ∷ rows) =
       | inr e ↦ ap length (cond-false _ _ _ e) ∙ ap suc (void_length o place rows)
     ]
 
--- After a void, the sequence numbers of all rows are unchanged.
+-- After a void (cancellation) of an entry, the sequence numbers of all entry rows are unchanged.
 pub void_numbered : (o : Last) (place : ℕ) (rows : List EntryRow) → AreNumbered rows → AreNumbered (journal.with_void o place rows)
 void_numbered o place [] h = tt
 void_numbered o place (row ∷ rows) h =
@@ -40,8 +40,8 @@ some_before : (row : EntryRow) (o : Option journal.Around) (x : journal.Around) 
 some_before row None x h = absurd (cc)
 some_before row (Some y) x h = (y, refl)
 
--- If a row with a sequence number exists, then the number is at least 2 and at most the number of
--- rows plus 1.
+-- If an entry row with a sequence number exists, then the number is at least 2 and at most the
+-- number of rows plus 1.
 pub row_inside : (place : ℕ) (rows : List EntryRow) (x : journal.Around) → AreNumbered rows → journal.row_at place rows ≡ Some x
     → (2 ≤ place) × (place < length rows + 2)
 row_inside place [] x h is = absurd (cc)
@@ -54,7 +54,7 @@ row_inside place (row ∷ rows) x h is =
           (there.0, omega (arith, there.1))
     ]
 
--- The rows of a journal are numbered consecutively from 2.
+-- The entry rows of a meter's journal (history) have consecutive sequence numbers from 2.
 pub rows_numbered : (o : Last) (lines : journal.Journal) → AreNumbered (journal.rows_of o lines)
 rows_numbered o [] = tt
 rows_numbered o (journal.Entered k e ∷ lines) = (refl, rows_numbered o lines)

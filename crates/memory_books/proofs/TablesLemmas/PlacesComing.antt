@@ -1,4 +1,4 @@
--- Lemmas about a table of indices after one more record.
+-- Lemmas that a table of record indices by key agrees with the records after one more record.
 use Rattle.std.proofs.Common.{◌≡◌, ℕ, cond, List, [], ◌∷◌, ◌++◌, reverse, length, Some, sym, ap, ◌∙◌, inl, inr, Result, Ok, Err, OnOk, OnErr}
 use Rattle.std.specs.BTreeMap.{BTreeMap, get, get_by}
 use Rattle.std.specs.declared.vec.Vec.{Vec}
@@ -12,8 +12,8 @@ use Rattle.memory_books.specs.Tables.Keys.{key_cmp, is_same_key}
 use Rattle.memory_books.specs.Tables.Places.{key_in, is_key, has_key, places_of, under}
 use Rattle.memory_books.proofs.TablesLemmas.SameKeys.{is_eq-key_cmp, one_key}
 
--- After a record's index is added to a table under the record's key only, the table agrees with the
--- records.
+-- After a record's index is added to a table under the record's key only, the table's indices agree
+-- with the records.
 pub place_comes : (kind : Kind) (known : List Fact) (f : Fact) (key : Key) (place : ℕ) (before after : Key → List ℕ) → length known ≡ place → key_in kind f ≡ Some key
     → ((other : Key) → before other ≡ reverse (places_of (has_key kind other) known))
     → ((other : Key) → after other ≡ cond (is_eq (key_cmp key other)) (before key ++ place ∷ []) (before other))
@@ -33,7 +33,7 @@ place_comes kind known f key place before after long own says adds other =
           ∙ sym (ap reverse (cond-false _ _ _ (has ∙ e)))
     ]
 
--- If an equal list of indices replaces a list in the map, then the indices under each key are
+-- If a list of indices in a table is replaced by an equal list, then the indices under each key are
 -- unchanged.
 pub kept_under : {Z : Type 0} (old new : BTreeMap Key (Vec ℕ Z)) (key : Key) (w v : Vec ℕ Z) → get_by (key_cmp key) old ≡ Some v → w.items ≡ v.items
     → ((q : Key) → get key_cmp new q ≡ cond (is_eq (key_cmp key q)) (Some w) (get key_cmp old q))
@@ -46,8 +46,8 @@ kept_under old new key w v there same updates other =
       | inr e ↦ ap under (updates other ∙ cond-false _ _ _ (is_eq-key_cmp key other ∙ e))
     ]
 
--- If a call guarantees a property of its `Ok` result, then it guarantees every property that
--- follows from this property.
+-- If a property of a call's `Ok` result holds, then every property that follows from it also holds
+-- for the result.
 pub on_ok_then : {T E P Q : Type 0} (r : Result T E) → (P → Q) → OnOk r P → OnOk r Q
 on_ok_then (Ok x) f h = f h
 on_ok_then (Err e) f h = tt

@@ -1,4 +1,4 @@
--- Lemmas about the tables of polls after one more record.
+-- Lemmas that the tables of polls agree with the records after one more record.
 use Rattle.std.proofs.Common.{◌≡◌, ◌⊎◌, ℕ, ◌-◌, ◌<◌, ◌≤◌, ◌==◌, Bool, true, false, cond, ◌&&◌, not, List, [], ◌∷◌, ◌++◌, map, reverse, length, get_or, Option, None, refl, sym, ap, ◌∙◌, inl, inr, arith}
 use Rattle.std.specs.Prelude.{is_some, slice_set}
 use Rattle.std.specs.List.{find, filter, slice_get}
@@ -103,7 +103,7 @@ rows_past known e (p ∷ polls) h beyond =
     ∙ ap (λ (row : PollRow). map (poll_row known) (reverse polls) ++ row ∷ []) one
     ∙ sym (ap (map (poll_row known)) (reverse_cons p polls) ∙ map-append (poll_row known) (reverse polls) (p ∷ []))
 
--- The rows of polls after the poll at index `i` gets the outcome `e`.
+-- The rows of all polls after the poll at index `i` gets the outcome `e`.
 abbrev ended_in_place : EndedPoll → PollRow → List PollRow → ℕ → List PollRow
 ended_in_place e d rows i = slice_set rows i (row_with_end e (get_or rows i d))
 
@@ -191,8 +191,7 @@ no_row_at_zero known h = zero_at (polls_in known) (numbered known h)
     zero_at (p ∷ polls) so =
         ap (option_map (poll_row known)) (cond-false _ _ _ (ne_eqb p.number 0 (λ is. omega (arith, so.0)))) ∙ zero_at polls so.1
 
--- A conjunction with `false` is false. The lemma `ends_pending` needs this to show that an outcome
--- removes its poll from the pending polls.
+-- A conjunction with `false` is false.
 and_false : (b : Bool) → (b && false) ≡ false
 and_false true = refl
 and_false false = refl

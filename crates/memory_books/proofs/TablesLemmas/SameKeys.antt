@@ -1,4 +1,4 @@
--- Lemmas about equal keys.
+-- Lemmas about equal keys of lookups. A key is a name, or a name and a number.
 use Rattle.std.proofs.Common.{◌≡◌, ℕ, ◌==◌, ◌&&◌, Bool, true, false, List, refl, ap, ◌∙◌, arith}
 use Rattle.std.specs.Ordering.{is_eq, nat_cmp, ordering_then}
 use Rattle.std.specs.Cmp.Lexicographic.{slice_cmp}
@@ -20,7 +20,7 @@ is_eq-then Greater b = refl
 is_eq-nat : (a b : ℕ) → is_eq (nat_cmp a b) ≡ (a == b)
 is_eq-nat a b = grind (arith, nat_tests)
 
--- Two keys compare as equal if and only if their names and their numbers are equal.
+-- Two keys of lookups compare as equal if and only if their names and their numbers are equal.
 pub is_eq-key_cmp : (a b : Key) → is_eq (key_cmp a b) ≡ is_same_key a b
 is_eq-key_cmp a b =
     is_eq-then (slice_cmp nat_cmp a.name b.name) (nat_cmp a.number b.number)

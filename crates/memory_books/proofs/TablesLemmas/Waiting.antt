@@ -1,5 +1,5 @@
--- Lemmas about the query that adds up energy by quarter hour, and passes each finished interval row
--- to a sink.
+-- Lemmas about the query that adds up energy by quarter hour. It passes each interval row to a sink
+-- when no more energy of the quarter hour can follow.
 use Rattle.std.proofs.Common.{◌≡◌, ◌+◌, ◌*◌, ◌^◌, ◌<◌, ◌≤◌, List, [], ◌∷◌, ◌++◌, Option, Some, None, refl, sym, ap, subst, ◌∙◌, arith, append_assoc}
 use Rattle.std.specs.Option.{ForSome, option_to_list}
 use Rattle.std.proofs.lemmas.List.{append-nil}
@@ -33,7 +33,7 @@ no_done [] rows waits is none w = refl
 no_done (first ∷ done) rows waits is none w = absurd (let e : first ∷ (done ++ option_to_list waits) ≡ [] = sym is ∙ none w in cc)
 
 -- After more quarter-hour energies are added, the sink has received all interval rows except the
--- last row.
+-- last, which may still grow.
 pub took_more : {S : Type 0} (takes : S → Share → S → Type 0) (before now after : S) (waited waits : Option Share) (rows shares : List Share)
     → TookBut takes before now waited rows → Passes takes now after waited waits shares → TookBut takes before after waits (with_shares rows shares)
 took_more takes before now after waited waits rows shares took passes = record {
@@ -60,8 +60,8 @@ took_none takes before now rows took =
     let P : List Share → Type 0 = λ rs. TakesAll takes before rs now in
     subst P (sym (took.rows_are ∙ append-nil took.done)) took.took
 
--- The state of a query in progress. The sink has received all interval rows of the processed
--- energies except the last row, and the energies `left` are not processed yet.
+-- The state of a query for interval rows in progress. The sink has received the interval rows of
+-- all processed energies except the last row, and the energies `left` are not processed yet.
 pub record GoesBy {S : Type 0} (takes : S → Share → S → Type 0) (before after : S) (waited waits : Option Share) (shares left : List Share) : Type 0 where
   pub done : List Share
   pub took : TakesAll takes before done after
@@ -94,7 +94,8 @@ goes_by_whole law takes before after waited waits step left none forward goes = 
       (was.1, sym was.2 ∙ none);
 }
 
--- The energy of the last interval row and of the next quarter-hour energy, in mWh, fits in 64 bits.
+-- The sum of the last interval row's energy and the next quarter-hour energy, in mWh, fits in 64
+-- bits.
 pub room : (waits : Option Share) (share : Share) (left rest : List Share) → left ≡ share ∷ rest
     → energy_of (option_to_list waits) + energy_of left ≤ 4 * 10 ^ 18 → ForSome waits (λ row. row.mwh + share.mwh < 2 ^ 64)
 room waits share left rest is within = λ row at.

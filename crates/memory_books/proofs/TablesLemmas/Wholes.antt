@@ -1,4 +1,4 @@
--- Lemmas about all tables of a store in memory.
+-- Lemmas about all lookup tables of a store in memory.
 use Rattle.std.proofs.Common.{◌≡◌, List, ◌++◌, Some, reverse, subst, ◌∙◌}
 use Rattle.std.proofs.lemmas.Option.{same_Some}
 use Rattle.office_events.specs.declared.facts.Fact.{Fact}
@@ -16,8 +16,8 @@ use Rattle.memory_books.proofs.TablesLemmas.Coming.{come_with}
 places_come_with : (kind : Kind) (kept : Kept Places) (facts more : List Fact) → HasPlaces kind kept facts → HasPlaces kind kept (facts ++ more)
 places_come_with kind kept facts more has = record { come = come_with ArePlaces kept facts more has.come; kind_is = has.kind_is }
 
--- After the store gets more records, each table still agrees with the records that were added to
--- the table.
+-- After the store gets more records, each lookup table still agrees with the records that were
+-- added to the table.
 pub have_come_with : (tables : Tables) (facts more : List Fact) → HaveCome tables facts → HaveCome tables (facts ++ more)
 have_come_with tables facts more come = record {
   polls = come_with ArePolls tables.polls facts more come.polls;
@@ -30,8 +30,8 @@ have_come_with tables facts more come = record {
   meters = come_with AreMeters tables.meters facts more come.meters;
 }
 
--- After an update, a table of indices still has the same kind, and agrees with the records that
--- were added to the table.
+-- After an update, a table of record indices still has the same kind, and agrees with the records
+-- that were added to it.
 pub further : (kind : Kind) (old new : Kept Places) (facts : List Fact) → HasPlaces kind old facts → (HasCome ArePlaces old facts → HasCome ArePlaces new facts)
     → Some new.table.kind ≡ Some old.table.kind → HasPlaces kind new facts
 further kind old new facts has come same_kind =

@@ -12,8 +12,8 @@ use Rattle.memory_books.specs.declared.kept.answers.Answers.{Answers}
 use Rattle.memory_books.specs.declared.kept.known.Known.{Known}
 use Rattle.memory_books.specs.Kept.Answers.{answer_to, Forgets}
 
--- The effect of an entry on the cached states of meters. The state of the entry's meter is advanced
--- by the entry, or removed from the cache. All other states are unchanged.
+-- The effect of a meter entry on the cached states of meters. The state of the entry's meter is
+-- advanced by the entry, or removed from the cache. All other states are unchanged.
 pub record EntryKeepsAnswers (booked : BookedEntry) (old new : Answers Installation) : Type 0 where
   pub own : (row : Installation) → answer_to new booked.meter ≡ Some row
       → (before : Installation) × (answer_to old booked.meter ≡ Some before)
@@ -22,11 +22,11 @@ pub record EntryKeepsAnswers (booked : BookedEntry) (old new : Answers Installat
   pub others : (other : List ℕ) → same booked.meter other ≡ false
       → answer_to new other ≡ answer_to old other
 
--- True if the cached point lists are unchanged.
+-- True if the cached point lists (the Modbus registers to read) of all devices are unchanged.
 abbrev pub SameLists : (old new : Known) → Type 0
 SameLists old new = new.lists ≡ old.lists
 
--- True if the cached accounting registers are unchanged.
+-- True if the cached lists of accounting registers (named energy counters) are unchanged.
 abbrev pub SameRegisters : (old new : Known) → Type 0
 SameRegisters old new = new.registers ≡ old.registers
 
@@ -34,7 +34,8 @@ SameRegisters old new = new.registers ≡ old.registers
 abbrev pub SameStanding : (old new : Known) → Type 0
 SameStanding old new = new.standing ≡ old.standing
 
--- True if the cached point lists, accounting registers and states of meters are unchanged.
+-- True if the cached point lists, accounting registers (named energy counters) and states of meters
+-- are unchanged.
 pub record StaysKept (old new : Known) : Type 0 where
   pub lists : SameLists old new
   pub registers : SameRegisters old new
@@ -43,8 +44,8 @@ pub record StaysKept (old new : Known) : Type 0 where
 -- The effect of a new record on the cache. A new point list removes the old point list of its
 -- device, and a new accounting register removes the register list of its device.
 --
--- An installation of a meter removes the states of all meters from the cache, and a void removes
--- the state of its meter. An entry advances the state of its meter.
+-- An installation of a meter removes the states of all meters from the cache, and a void (a
+-- cancelled entry) removes the state of its meter. An entry advances the state of its meter.
 abbrev pub Changes : Fact → (old new : Known) → Type 0
 Changes (fact.List put) old new =
     Forgets put.device old.lists new.lists × SameRegisters old new × SameStanding old new

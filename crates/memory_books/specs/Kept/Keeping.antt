@@ -1,5 +1,5 @@
--- The model of a store with a cache over another store, which is called the store below. A model is
--- the abstract state that contracts refer to.
+-- The model (the abstract state that contracts refer to) of a store that caches the lookup results
+-- of another store.
 use Rattle.std.specs.Prelude.{◌≡◌, ◌↔◌, List}
 use Rattle.office_events.specs.declared.facts.Fact.{Fact}
 use Rattle.office_books.specs.Ledgers.{Ledger}
@@ -7,8 +7,9 @@ use Rattle.memory_books.specs.declared.kept.known.Known.{Known}
 use Rattle.memory_books.specs.declared.kept.kept.CachedBooks.{CachedBooks}
 use Rattle.memory_books.specs.Kept.Known.{AreTrue}
 
--- The model of a store with a cache. It equals the model of the store below. In addition, the cache
--- agrees with the records, unless the store below may have returned a wrong result (`is_clean`).
+-- The model of a store with a cache. It equals the model of the store from which results are
+-- cached. In addition, the cache agrees with the records, unless that store may have returned a
+-- wrong result.
 abbrev pub keeping : Known → Ledger → Ledger
 keeping kept under = record {
   holds = λ facts. under.holds facts × (under.is_clean → AreTrue kept facts);
@@ -19,16 +20,17 @@ keeping kept under = record {
   zone = under.zone;
 }
 
--- The store below the cache.
+-- The store from which a store with a cache caches lookup results.
 abbrev pub beneath : {B : Type 0} → CachedBooks B → B
 beneath kept = kept.books
 
--- The model of a store with a cache, given the model of the store below.
+-- The model (abstract state) of a store with a cache, given the model of the store from which
+-- results are cached.
 abbrev pub ledger_over : {B : Type 0} → (B → Ledger) → CachedBooks B → Ledger
 ledger_over ledger kept = keeping kept.known (ledger kept.books)
 
--- True if two stores have the same state. They have the same records, a crash may leave the same
--- lists of records, and all other properties are equal.
+-- True if two stores have the same state. They have the same records, the same records may remain
+-- after a crash, and all other properties are equal.
 pub record StandsAs (before after : Ledger) : Type 0 where
   pub facts : (facts : List Fact) → before.holds facts → after.holds facts
   pub left : (left : List (List Fact)) → before.may_leave left → after.may_leave left

@@ -11,11 +11,11 @@ use Rattle.office_books.specs.Facts.{polls_in}
 use Rattle.office_books.specs.Readings.{poll_row_of}
 use Rattle.memory_books.specs.declared.kept.polls.Polls.{Polls}
 
--- The cached pending poll with this number, or `None` if no such poll is cached.
+-- The cached pending poll with this number, or `None` if the poll is not cached.
 abbrev pub waiting_at : Polls → ℕ → Option Poll
 waiting_at polls number = get nat_cmp polls.waiting number
 
--- The row of a poll that is pending.
+-- The row of a poll that has no outcome yet.
 abbrev pub waits : Poll → PollRow
 waits poll = record { poll = poll; ended = None }
 
@@ -32,7 +32,8 @@ MayWait poll before after = (number : ℕ)
     → (waiting_at after number ≡ waiting_at before number)
     ⊎ ((number ≡ poll.number) × (waiting_at after number ≡ Some poll))
 
--- True if the poll with this number is not cached as pending, and all other polls are unchanged.
+-- True if the poll with this number is not cached as pending, and all other cached polls are
+-- unchanged.
 pub record WaitsNoMore (number : ℕ) (before after : Polls) : Type 0 where
   pub gone : waiting_at after number ≡ None
   pub others : (other : ℕ) → (number == other) ≡ false

@@ -1,4 +1,4 @@
--- The keys of lookups in the tables: a name, or a name and a number.
+-- The keys of lookups in a store in memory: a name, or a name and a number.
 use Rattle.std.specs.Prelude.{ℕ, ◌==◌, ◌&&◌, Bool, List}
 use Rattle.std.specs.Cmp.Lexicographic.{slice_cmp}
 use Rattle.std.specs.Ordering.{nat_cmp, on, then_cmp}
@@ -6,7 +6,7 @@ use Rattle.std.specs.declared.cmp.Ordering.{Ordering}
 use Rattle.office_books.specs.Facts.{same}
 use Rattle.memory_books.specs.declared.tables.keys.Key.{Key}
 
--- The order of keys: by the bytes of their names, then by their numbers.
+-- The order of lookup keys: by the bytes of their names, then by their numbers.
 abbrev pub key_cmp : Key → Key → Ordering
 key_cmp = then_cmp (on (λ k. k.name) (slice_cmp nat_cmp)) (on (λ k. k.number) nat_cmp)
 

@@ -11,7 +11,8 @@ use Rattle.memory_books.specs.declared.tables.meters.Meters.{Meters}
 use Rattle.memory_books.specs.Tables.Keys.{key_cmp, named}
 use Rattle.memory_books.specs.Tables.Moving.{HasBegun}
 
--- The table's meter with this name, or `None` if the table has no such meter.
+-- The row of the meter with this name in the table of meters, or `None` if the table has no such
+-- meter.
 abbrev pub meter_at : Meters → List ℕ → Option Meter
 meter_at meters name = get key_cmp meters.meters (named name)
 
@@ -35,8 +36,8 @@ abbrev pub AreMeters : Meters → List Fact → Type 0
 AreMeters meters known =
     (name : List ℕ) → IsMeter known (meter_at meters name) (opening_of known name)
 
--- True if the meter with this name changed as `became` describes, and all other meters are
--- unchanged.
+-- True if the meter with this name changed in the table as `became` describes, and all other meters
+-- are unchanged.
 pub record Changes (meter : List ℕ) (became : Option Meter → Option Meter → Type 0)
     (old new : Meters) : Type 0 where
   pub own : became (meter_at old meter) (meter_at new meter)
@@ -47,8 +48,8 @@ pub record Changes (meter : List ℕ) (became : Option Meter → Option Meter �
 abbrev pub Begins : Opening → Option Meter → Option Meter → Type 0
 Begins opening old new = (meter : Meter) × (new ≡ Some meter) × HasBegun opening meter
 
--- The effect of a record about a meter. If the meter is in the table, then it changes as `became`
--- describes. Otherwise it is still not in the table.
+-- The effect of a record about a meter on the table of meters. If the meter is in the table, then
+-- it changes as `became` describes. Otherwise it is still not in the table.
 abbrev pub IfThere : (Meter → Meter → Type 0) → Option Meter → Option Meter → Type 0
 IfThere became None new = new ≡ None
 IfThere became (Some old) new = (meter : Meter) × (new ≡ Some meter) × became old meter

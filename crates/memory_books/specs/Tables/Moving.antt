@@ -16,7 +16,8 @@ use Rattle.office_books.specs.Meters.{opened, installed, standing, rows_of, inst
 use Rattle.office_books.specs.Sound.{as_begun, HasNumbers, MayEnter}
 use Rattle.memory_books.specs.declared.tables.meter.Meter.{Meter}
 
--- True if the meter is in the state directly after its installation, without further entries.
+-- True if the meter's state in the table is that directly after its installation, without further
+-- entries.
 pub record HasBegun (opening : Opening) (meter : Meter) : Type 0 where
   pub row : meter.row ≡ as_begun opening
   pub rows : meter.rows.items ≡ []
@@ -35,15 +36,15 @@ pub record IsSame (old new : Meter) : Type 0 where
   pub row : new.row ≡ old.row
   pub rows : new.rows.items ≡ old.rows.items
 
--- The effect of the void of the entry with sequence number `place` on the meter's entry rows, the
--- latest row first. Nothing is required if the meter has no such entry.
+-- The effect of the void (cancellation) of the entry with sequence number `place` on the meter's
+-- entry rows, the latest row first. Nothing is required if the meter has no such entry.
 abbrev pub VoidsAt : Last → (place : ℕ) → (before after : List EntryRow) → Type 0
 VoidsAt last place before after =
     lists.AreNumbered before → 2 ≤ place → place < length before + 2
     → after ≡ journal.with_void last place before
 
--- The effect of a void on its meter in the table. The entry rows change, and the meter's state is
--- computed again from the changed rows.
+-- The effect of a void (cancellation of an entry) on its meter in the table. The entry rows change,
+-- and the meter's state is computed again from the changed rows.
 pub record HasStruck (place : ℕ) (old new : Meter) : Type 0 where
   pub rows : VoidsAt (opened old.row.opening) place (lists.latest_first old.rows.items)
       (lists.latest_first new.rows.items)
@@ -53,14 +54,14 @@ pub record HasStruck (place : ℕ) (old new : Meter) : Type 0 where
       → new.row ≡ standing old.row.opening (journal.entries_in (lists.latest_first new.rows.items))
       old.row.ended
 
--- True if the meter's state and entry rows in the table equal those that the records have for this
--- opening, which is the record that installed the meter.
+-- True if the meter's state and entry rows in the table are those that follow from the records. `o`
+-- is the record that installed the meter.
 pub record IsAsSaid (known : List Fact) (opening : Opening) (meter : Meter) : Type 0 where
   pub row : meter.row ≡ installation_of known opening
   pub rows : lists.latest_first meter.rows.items ≡ rows_of known opening
 
--- True if the property `so` holds for all records that the rules accept, and for each recorded
--- opening (a meter's installation) that agree with this meter of the table.
+-- True if the property `so` holds for all valid records, and each recorded installation of a meter,
+-- with which this meter of the table agrees.
 abbrev pub WhereSaid : Meter → (List Fact → Opening → Type 0) → Type 0
 WhereSaid meter so =
     (known : List Fact) (opening : Opening) → AreLawful known → IsRecorded known opening

@@ -1,4 +1,4 @@
--- Tables of indices, in which a search by key finds the indices of records.
+-- Tables in which a search by key finds the indices of records in the list of all records.
 use Rattle.std.specs.Prelude.{◌≡◌, ℕ, Bool, false, List, [], ◌∷◌, ◌++◌, cond, reverse, length, Option, Some, None, if◌then◌else◌}
 use Rattle.std.specs.BTreeMap.{get}
 use Rattle.std.specs.Ordering.{is_eq}
@@ -16,8 +16,8 @@ use Rattle.memory_books.specs.declared.tables.places.Kind.TheVariants.{DeviceLis
 use Rattle.memory_books.specs.declared.tables.places.Places.{Places}
 use Rattle.memory_books.specs.Tables.Keys.{key_cmp, named, numbered, is_same_key}
 
--- The key of a point list in a table of this kind, or `None` if the table does not index point
--- lists.
+-- The key of a point list (the Modbus registers to read) in a table of this kind, or `None` if the
+-- table does not index point lists.
 abbrev pub list_key : Kind → DeviceList → Option Key
 list_key DeviceLists put = Some (named put.device)
 list_key Registers put = None
@@ -25,8 +25,8 @@ list_key DeviceRegisters put = None
 list_key RegisterOpenings put = None
 list_key Replies put = None
 
--- The key of an accounting register in a table of this kind, or `None` if the table does not index
--- registers.
+-- The key of an accounting register (a named energy counter) in a table of this kind, or `None` if
+-- the table does not index registers.
 abbrev pub register_key : Kind → Register → Option Key
 register_key DeviceLists register = None
 register_key Registers register = Some (named register.name)
@@ -43,8 +43,8 @@ opening_key DeviceRegisters opening = None
 opening_key RegisterOpenings opening = Some (named opening.register)
 opening_key Replies opening = None
 
--- The key of a stored response in a table of this kind, or `None` if the table does not index
--- responses.
+-- The key of a stored response (to a request with an idempotency key) in a table of this kind, or
+-- `None` if the table does not index responses.
 abbrev pub reply_key : Kind → Reply → Option Key
 reply_key DeviceLists reply = None
 reply_key Registers reply = None
@@ -80,35 +80,35 @@ abbrev pub places_of : (Fact → Bool) → List Fact → List ℕ
 places_of p [] = []
 places_of p (f ∷ facts) = if p f then length facts ∷ places_of p facts else places_of p facts
 
--- The indices that a table has under one key, or an empty list if the key is missing.
+-- The record indices that a table has under one key, or an empty list if the key is missing.
 abbrev pub under : {Z : Type 0} → Option (Vec ℕ Z) → List ℕ
 under None = []
 under (Some places) = places.items
 
--- The index of the latest record that passes the test, or `None` if no record passes.
+-- The index of the latest record that passes the test, or `None` if no record passes the test.
 abbrev pub latest_place : (Fact → Bool) → List Fact → Option ℕ
 latest_place p known = slice_get (places_of p known) 0
 
--- True if the index `place` was appended to the indices under `key`, and the indices under all
--- other keys are unchanged.
+-- True if the record index `place` was appended to the indices under `key`, and the indices under
+-- all other keys are unchanged.
 abbrev pub HaveOneMore : Key → (place : ℕ) → (before after : Places) → Type 0
 HaveOneMore key place before after =
     (other : Key) → under (get key_cmp after.places other)
     ≡ cond (is_eq (key_cmp key other)) (under (get key_cmp before.places key) ++ place ∷ [])
     (under (get key_cmp before.places other))
 
--- True if the indices under each key are unchanged.
+-- True if the record indices under each key of the table are unchanged.
 abbrev pub AreUnchanged : (before after : Places) → Type 0
 AreUnchanged before after =
     (other : Key) → under (get key_cmp after.places other) ≡ under (get key_cmp before.places other)
 
--- True if the indices under each key are the indices of the records with this key, in the order in
+-- True if the record indices under each key are those of the records with this key, in the order in
 -- which the records were added.
 abbrev pub ArePlacesOf : Kind → Places → List Fact → Type 0
 ArePlacesOf kind places known =
     (key : Key) → under (get key_cmp places.places key)
     ≡ reverse (places_of (has_key kind key) known)
 
--- True if the indices in the table are those of the records that the table's kind indexes.
+-- True if the indices in the table are those of the records of the kind that the table indexes.
 abbrev pub ArePlaces : Places → List Fact → Type 0
 ArePlaces places known = ArePlacesOf places.kind places known

@@ -33,6 +33,6 @@ EndsPoll ended before after =
     → after ≡ slice_set before (ended.poll - 1)
     (row_with_end ended (slice_index_or before (ended.poll - 1) d))
 
--- The polls whose number is not the given number.
+-- The polls of the list whose number is not the given number.
 abbrev pub polls_but : ℕ → List Poll → List Poll
 polls_but number polls = filter (λ poll. not (number == poll.number)) polls

@@ -1,4 +1,4 @@
--- Definitions of when all tables of a store in memory agree with its records.
+-- Definitions of when all lookup tables of a store in memory agree with its records.
 use Rattle.std.specs.Prelude.{◌≡◌, List, reverse}
 use Rattle.office_events.specs.declared.facts.Fact.{Fact}
 use Rattle.office_books.specs.Lawful.{AreLawful}
@@ -12,13 +12,14 @@ use Rattle.memory_books.specs.Tables.Meters.{AreMeters}
 use Rattle.memory_books.specs.Tables.Places.{ArePlaces, ArePlacesOf}
 use Rattle.memory_books.specs.Tables.Polls.{ArePolls, ArePending}
 
--- True if the table has this kind, and agrees with the records that were added to the table.
+-- True if the table of record indices has this kind, and agrees with the records that were added to
+-- the table.
 pub record HasPlaces (kind : Kind) (kept : Kept Places) (facts : List Fact) : Type 0 where
   pub come : HasCome ArePlaces kept facts
   pub kind_is : kept.table.kind ≡ kind
 
--- True if each table of the store agrees with the records that were added to this table, which are
--- the first records of the list.
+-- True if each lookup table of the store agrees with the records that were added to this table,
+-- which are the first records of the list.
 pub record HaveCome (tables : Tables) (facts : List Fact) : Type 0 where
   pub polls : HasCome ArePolls tables.polls facts
   pub pending : HasCome ArePending tables.pending facts
@@ -29,7 +30,8 @@ pub record HaveCome (tables : Tables) (facts : List Fact) : Type 0 where
   pub replies : HasPlaces Replies tables.replies facts
   pub meters : HasCome AreMeters tables.meters facts
 
--- True if each table of the store agrees with all of these records. The latest record comes first.
+-- True if each lookup table of the store agrees with all of these records. The latest record is the
+-- first in the list.
 pub record AreWhole (tables : Tables) (known : List Fact) : Type 0 where
   pub polls : ArePolls tables.polls.table known
   pub pending : ArePending tables.pending.table known
@@ -40,8 +42,8 @@ pub record AreWhole (tables : Tables) (known : List Fact) : Type 0 where
   pub replies : ArePlacesOf Replies tables.replies.table known
   pub meters : AreMeters tables.meters.table known
 
--- True if the property `so` holds for all records with which all tables agree, if the rules accept
--- these records. `facts` are these records in the order in which they were added.
+-- True if the property `so` holds for all valid records with which all lookup tables agree. `facts`
+-- are these records in the order in which they were added.
 abbrev pub WhereWhole : Tables → (facts : List Fact) → (List Fact → Type 0) → Type 0
 WhereWhole tables facts so =
     (known : List Fact) → facts ≡ reverse known → AreLawful known → AreWhole tables known → so known

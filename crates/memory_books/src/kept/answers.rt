@@ -1,4 +1,4 @@
-//! A cache of the results of one kind of lookup, by name.
+//! A cache of the results of one kind of lookup, by the name that the lookup asks for.
 ghost use Rattle.std.specs.Prelude.{◌≡◌, ℕ, None, List};
 ghost use Rattle.std.specs.Option.{option_copied};
 
@@ -7,7 +7,7 @@ use office_events::Name;
 use std::alloc::Global;
 use std::collections::BTreeMap;
 
-/// The cached results by name, at most `most` of them.
+/// The cached lookup results by name, at most `most` of them.
 #[derive(Drop)]
 pub(crate) struct Answers<T> {
     rows: BTreeMap<Key, T>,
@@ -17,7 +17,7 @@ pub(crate) struct Answers<T> {
 impl<T: Drop> Answers<T> {
     ghost use Rattle.memory_books.specs.Kept.Answers.{answer_to, Forgets, MayAnswer};
 
-    /// Creates an empty cache of at most `most` results.
+    /// Creates an empty cache of at most `most` lookup results.
     pub(crate) fn new(alloc: Global, most: usize) -> Answers<T>
         ensures { (name : List ℕ) → answer_to result name ≡ None }
     {
@@ -27,7 +27,7 @@ impl<T: Drop> Answers<T> {
         }
     }
 
-    /// Returns the cached result for a name.
+    /// Returns the cached lookup result for a name, or `None` if no result is cached.
     pub(crate) fn get(&self, name: &Name) -> Option<&T>
         ensures { option_copied result ≡ answer_to self.now name.now }
     {
@@ -35,7 +35,7 @@ impl<T: Drop> Answers<T> {
         self.rows.get(&key)
     }
 
-    /// Caches the result for a name, unless the cache is full or memory runs out.
+    /// Caches the lookup result for a name, unless the cache is full or memory runs out.
     pub(crate) fn insert(&mut self, name: &Name, answer: T)
         ensures { MayAnswer name.now answer self.old self.new }
     {
@@ -45,7 +45,7 @@ impl<T: Drop> Answers<T> {
         }
     }
 
-    /// Removes the cached result for a name, and returns it.
+    /// Removes the cached lookup result for a name, and returns it.
     pub(crate) fn remove(&mut self, name: &Name) -> Option<T>
         ensures taken { result ≡ answer_to self.old name.now }
         ensures forgets { Forgets name.now self.old self.new }
@@ -54,7 +54,7 @@ impl<T: Drop> Answers<T> {
         self.rows.remove(&key)
     }
 
-    /// Removes all cached results.
+    /// Removes all cached lookup results.
     pub(crate) fn clear(&mut self)
         ensures { (name : List ℕ) → answer_to self.new name ≡ None }
     {

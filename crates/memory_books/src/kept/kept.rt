@@ -1,4 +1,4 @@
-//! A store with a cache of lookup results over another store.
+//! A store that caches the lookup results of another store.
 ghost use Rattle.std.specs.Prelude.{◌≡◌};
 ghost use Rattle.memory_books.specs.Kept.Keeping.{StandsAs, beneath, ledger_over};
 
@@ -14,9 +14,9 @@ use office_events::{
 };
 use std::alloc::Global;
 
-/// A store over another store that caches the results of lookups. A repeated lookup does not query
-/// the store below. New records update the cache or remove results from it, and a failed write
-/// empties the cache.
+/// A store that caches the lookup results of another store. A repeated lookup does not query the
+/// other store. New records update the cache or remove results from it, and a failed write empties
+/// the cache.
 #[derive(Drop)]
 pub struct CachedBooks<B> {
     alloc: Global,
@@ -25,7 +25,7 @@ pub struct CachedBooks<B> {
 }
 
 impl<B: Books> CachedBooks<B> {
-    /// Creates a store with an empty cache over the store `books`.
+    /// Creates a store with an empty cache of the lookup results of the store `books`.
     pub fn new(alloc: Global, books: B) -> CachedBooks<B>
         ensures books { beneath result ≡ books }
         ensures stands { StandsAs (B.ledger books) (ledger_over B.ledger result) }
@@ -37,7 +37,7 @@ impl<B: Books> CachedBooks<B> {
         }
     }
 
-    /// Returns the store below the cache.
+    /// Returns the store whose lookup results are cached.
     pub fn into_books(self) -> B
         ensures books { result ≡ beneath self }
         ensures stands { StandsAs (ledger_over B.ledger self) (B.ledger result) }

@@ -1,4 +1,4 @@
-//! The cache of a store, and how records change it.
+//! The cache of a store's lookup results, and how new records change it.
 ghost use Rattle.std.specs.Prelude.{◌≡◌, ◌∷◌, List, length, IfSome, Some};
 ghost use Rattle.std.specs.List.{filter};
 ghost use Rattle.office_events.specs.declared.facts.Fact.{Fact};
@@ -28,16 +28,17 @@ use std::alloc::Global;
 #[derive(Drop)]
 pub(crate) struct Known {
     alloc: Global,
-    /// The point list of each device, by the device's name.
+    /// The point list (the Modbus registers to read) of each device, by the device's name.
     lists: Answers<PlannedList>,
-    /// The accounting registers of each device, by the device's name.
+    /// The accounting registers (named energy counters) of each device, by the device's name.
     registers: Answers<Vec<Register>>,
-    /// The state of the latest meter at each accounting register, by the name of the meter.
+    /// The state of the latest meter at each accounting register (a named energy counter), by the
+    /// name of the meter.
     standing: Answers<Installation>,
-    /// The name of the latest meter at each accounting register, by the register's name. The name
-    /// may be outdated if a later meter was installed.
+    /// The name of the latest meter at each accounting register (a named energy counter), by the
+    /// register's name. The name may be outdated if a later meter was installed.
     meters: Answers<Name>,
-    /// The pending polls, and the number of started polls.
+    /// The cached pending polls, and the cached number of started polls.
     polls: Polls,
 }
 
@@ -74,8 +75,8 @@ impl Known {
         }
     }
 
-    /// Returns the number of reads in the plan of a device, or `None` if the device's point list is
-    /// not cached.
+    /// Returns the number of Modbus reads in the plan of a device, or `None` if the device's point
+    /// list is not cached.
     pub(crate) fn read_count(&self, device: &Name) -> Option<usize>
         ensures { (known : List Fact) → AreTrue self.now known
             → IfSome result (λ n. read_count_of (list_of known device.now) ≡ Some n) }
@@ -86,8 +87,8 @@ impl Known {
         }
     }
 
-    /// Returns at most `most` reads of the device's plan from index `from` on, or `None` if the
-    /// point list is not cached or memory runs out.
+    /// Returns at most `most` Modbus reads of the device's plan from index `from` on, or `None` if
+    /// the point list is not cached or memory runs out.
     pub(crate) fn reads(&self, device: &Name, from: u64, most: usize) -> Option<Vec<ReadSpan>>
         ensures { (known : List Fact) → AreTrue self.now known
             → IfSome result (λ v. v.items ≡ reads_from from most (list_of known device.now)) }
@@ -114,8 +115,8 @@ impl Known {
         }
     }
 
-    /// Returns a copy of the cached accounting registers of a device, or `None` if they are not
-    /// cached or memory runs out.
+    /// Returns a copy of the cached accounting registers (named energy counters) of a device, or
+    /// `None` if they are not cached or memory runs out.
     pub(crate) fn registers(&self, device: &Name) -> Option<Vec<Register>>
         ensures { (known : List Fact) → AreTrue self.now known
             → IfSome result (λ v. v.items ≡ registers_of known device.now) }
@@ -129,8 +130,8 @@ impl Known {
         }
     }
 
-    /// Returns copies of only those cached accounting registers of a device that the Modbus read
-    /// covers.
+    /// Returns copies of only those cached accounting registers (named energy counters) of a device
+    /// that the Modbus read covers.
     ///
     /// Returns `None` if the registers are not cached or memory runs out.
     pub(crate) fn registers_read(&self, device: &Name, span: ReadSpan) -> Option<Vec<Register>>
@@ -147,8 +148,8 @@ impl Known {
         }
     }
 
-    /// Returns the number of accounting registers of a device, or `None` if the registers are not
-    /// cached.
+    /// Returns the number of accounting registers (named energy counters) of a device, or `None` if
+    /// the registers are not cached.
     pub(crate) fn register_count(&self, device: &Name) -> Option<usize>
         ensures { (known : List Fact) → AreTrue self.now known
             → IfSome result (λ n. n ≡ length (registers_of known device.now)) }
@@ -159,7 +160,8 @@ impl Known {
         }
     }
 
-    /// Caches the accounting registers of a device, unless the device has none or memory runs out.
+    /// Caches the accounting registers (named energy counters) of a device, unless the device has
+    /// none or memory runs out.
     pub(crate) fn keep_registers(&mut self, device: &Name, found: &[Register])
         ensures { (known : List Fact) → found.now ≡ registers_of known device.now
             → AreTrue self.old known → AreTrue self.new known }
@@ -172,8 +174,9 @@ impl Known {
         }
     }
 
-    /// Returns the cached state of the meter that was the latest at an accounting register when its
-    /// name was cached. The caller must check that the meter is at this register.
+    /// Returns a cached state of a meter at an accounting register (a named energy counter). The
+    /// meter was the latest at the register when its name was cached. The caller must check that
+    /// the meter is at this register.
     fn standing_at(&self, register: &Name) -> Option<&Installation>
         ensures { (known : List Fact) → AreTrue self.now known
             → IfSome result (λ row. installation_at known row.now.opening.register ≡ Some row.now) }
@@ -184,8 +187,8 @@ impl Known {
         }
     }
 
-    /// Returns the state of the latest meter at an accounting register, or `None` if the state is
-    /// not cached.
+    /// Returns the state of the latest meter at an accounting register (a named energy counter), or
+    /// `None` if the state is not cached.
     pub(crate) fn installation(&self, register: &Name) -> Option<Installation>
         ensures found { (known : List Fact) → AreTrue self.now known
             → IfSome result (λ row. installation_at known register.now ≡ Some row) }
@@ -280,7 +283,7 @@ impl Known {
         self.polls.apply_record(fact);
     }
 
-    /// Updates the cache after these records were added to the store.
+    /// Updates the cache of lookup results after these records were added to the store.
     pub(crate) fn add_all(&mut self, facts: &[Fact])
         ensures { (known : List Fact) → AreLawful (with_facts facts.now known)
             → AreTrue self.old known → AreTrue self.new (with_facts facts.now known) }

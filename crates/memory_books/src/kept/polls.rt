@@ -71,7 +71,7 @@ impl Polls {
         let _ = self.waiting.remove(&number);
     }
 
-    /// Updates the cached polls after one more record.
+    /// Updates the cached polls and their cached number after one more record.
     pub(crate) fn apply_record(&mut self, fact: &Fact)
         ensures { PollsChange fact.now self.old self.new }
     {

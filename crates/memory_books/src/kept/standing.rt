@@ -1,11 +1,11 @@
-//! Updates the cached states of meters when an entry is added.
+//! Updates the cached state of a meter when an entry of the meter is added.
 ghost use Rattle.memory_books.specs.Kept.Changes.{EntryKeepsAnswers};
 
 use crate::kept::answers::Answers;
 use office_books::moved;
 use office_events::{BookedEntry, Installation};
 
-/// Advances the cached state of the entry's meter by the entry. Does nothing if the state is not
+/// Advances the cached state of a meter by an entry of this meter. Does nothing if the state is not
 /// cached.
 pub(crate) fn advance_installation(rows: &mut Answers<Installation>, booked: &BookedEntry)
     ensures { EntryKeepsAnswers booked.now rows.old rows.new }

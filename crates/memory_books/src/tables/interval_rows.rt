@@ -27,7 +27,7 @@ fn write_within<K: RowSink<Share>>(span: Span, row: Share, sink: &mut K)
 }
 
 /// Adds a quarter-hour energy to the row of its quarter hour. When the next quarter hour begins,
-/// the finished row is passed to the sink if it is in the span.
+/// the finished row is passed to the sink if it is in the time span.
 fn pass_share<K: RowSink<Share>>(waits: &mut Option<Share>, share: Share, span: Span, sink: &mut K)
     requires { ForSome waits.old (λ row. row.mwh + share.mwh < 2 ^ 64) }
     ensures passes { Passes (TakesWithin K.takes span) sink.old sink.new waits.old waits.new
@@ -56,7 +56,7 @@ fn pass_step<K: RowSink<Share>>(waits: &mut Option<Share>, step: &Step, span: Sp
     }
 }
 
-/// Passes the quarter-hour rows of the valid entries in the span to the sink, in order. If the
+/// Passes the quarter-hour rows of the valid entries in the time span to the sink, in order. If the
 /// rules refuse one of the entries, the sink may get only some of the rows.
 fn pass_rows<K: RowSink<Share>>(meter: &Installed, rows: &[EntryRow], span: Span, sink: &mut K)
     requires range_low { MIN_RANGE ≤ meter.now.range }
@@ -96,8 +96,8 @@ fn pass_rows<K: RowSink<Share>>(meter: &Installed, rows: &[EntryRow], span: Span
     }
 }
 
-/// Passes the quarter-hour rows of a meter in the span to the sink, in order. If the rules refuse
-/// one of the meter's entries, the sink may get only some of the rows.
+/// Passes the quarter-hour rows of a meter in the time span to the sink, in order. If the rules
+/// refuse one of the meter's entries, the sink may get only some of the rows.
 pub(crate) fn hand_on<K: RowSink<Share>>(
     opening: &Opening,
     rows: &[EntryRow],

@@ -1,4 +1,4 @@
-//! The keys of lookups in the tables.
+//! The keys of lookups in the store's tables: a name, or a name and a number.
 ghost use Rattle.std.specs.Prelude.{nat_eq};
 ghost use Rattle.std.proofs.Common.{rules};
 ghost use Rattle.std.specs.Str.{bytes_eq};
@@ -10,7 +10,7 @@ ghost use Rattle.std.specs.Ordering.{nat_cmp, on, then_cmp, eq_of_both, as_parti
 use office_events::Name;
 use std::cmp::Ordering;
 
-/// A key: a name, and a number for lookups by name and number, otherwise 0.
+/// The key of a lookup: a name and a number. For lookups by name only, the number is 0.
 #[derive(Clone, Copy)]
 pub(crate) struct Key {
     pub(crate) name: Name,

@@ -1,4 +1,4 @@
-//! Reads the content of the record at an index of the list.
+//! Reads the content of the record at an index of the list of records.
 ghost use Rattle.std.specs.Prelude.{◌≡◌, IfOk};
 ghost use Rattle.std.specs.List.{filter_map};
 ghost use Rattle.std.specs.Option.{option_copied};
@@ -29,8 +29,8 @@ fn as_opening(fact: &Fact) -> Option<Opening>
     }
 }
 
-/// Returns the accounting register in the record at index `place`, or `None` if the record is of
-/// another kind.
+/// Returns the accounting register (a named energy counter) in the record at index `place`, or
+/// `None` if the record is of another kind.
 pub(crate) fn register_at(facts: &[Fact], place: usize) -> Option<Register>
     ensures { result ≡ spots.register_at facts.now place }
 {
@@ -38,14 +38,15 @@ pub(crate) fn register_at(facts: &[Fact], place: usize) -> Option<Register>
 }
 
 /// Returns the opening, which is the record that installs a meter, at index `place` of the records.
-/// Returns `None` if the record there is of another kind.
+/// Returns `None` if the record at the index is of another kind.
 pub(crate) fn opening_at(facts: &[Fact], place: usize) -> Option<Opening>
     ensures { result ≡ spots.opening_at facts.now place }
 {
     as_opening(facts.get(place)?)
 }
 
-/// Returns the accounting registers in the records at these indices, in order.
+/// Returns the accounting registers (named energy counters) in the records at these indices, in the
+/// order of the indices.
 pub(crate) fn registers_at(
     alloc: Global,
     facts: &[Fact],
@@ -84,7 +85,8 @@ fn register_read_at(facts: &[Fact], place: usize, span: ReadSpan) -> Option<Regi
     as_register_read(facts.get(place)?, span)
 }
 
-/// Returns copies of only those accounting registers at these indices that the Modbus read covers.
+/// Returns copies of only those accounting registers (named energy counters) at these indices that
+/// the Modbus read covers.
 pub(crate) fn registers_read_at(
     alloc: Global,
     facts: &[Fact],

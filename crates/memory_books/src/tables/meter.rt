@@ -1,4 +1,4 @@
-//! A meter in the table of meters, with its present state and its entry rows.
+//! A meter in the table of meters, with its current state and its entry rows.
 ghost use Rattle.std.specs.Prelude.{◌≡◌, List, Some, take, IfOk, OnOk, OnErr, IfSome};
 ghost use Rattle.std.specs.Option.{option_map};
 ghost use Rattle.meter_journal.specs.Journal.{row_at};
@@ -51,7 +51,7 @@ fn first(rows: &[EntryRow], count: usize) -> &[EntryRow]
     }
 }
 
-/// The present state of a meter, and its entry rows, the oldest first.
+/// The current state of a meter, and its entry rows, the oldest first.
 #[derive(Drop)]
 pub(crate) struct Meter {
     pub(crate) row: Installation,
@@ -82,7 +82,8 @@ impl Meter {
         Ok(())
     }
 
-    /// Voids the entry with sequence number `place`, and computes the meter's state again.
+    /// Voids (cancels) the entry with sequence number `place`, and computes the meter's state
+    /// again.
     pub(crate) fn strike(&mut self, place: u64)
         ensures { HasStruck place self.old self.new }
     {
@@ -95,8 +96,8 @@ impl Meter {
         }
     }
 
-    /// Returns the meter's entry with sequence number `place`, or `None` without such an entry. The
-    /// result includes the meter's state before the entry, and the next valid entry.
+    /// Returns the meter's entry with sequence number `place`, or `None` if no entry has the
+    /// number. The result includes the meter's state before the entry, and the next valid entry.
     pub(crate) fn placed(&self, place: u64) -> Option<EntryContext>
         ensures found { WhereSaid self.now (λ known opening.
             result ≡ option_map (place_in known opening) (row_at place (rows_of known opening))) }
@@ -126,8 +127,8 @@ impl Meter {
         })
     }
 
-    /// Returns at most `most` entries of the meter from sequence number `from` on, voided entries
-    /// included.
+    /// Returns at most `most` entries of the meter from sequence number `from` on, voided
+    /// (cancelled) entries included.
     pub(crate) fn entries(
         &self,
         alloc: Global,
@@ -140,7 +141,7 @@ impl Meter {
         list_entries(alloc, &self.row.opening, &self.rows, from, most)
     }
 
-    /// Passes the energy of the meter to the sink, one row for each quarter hour in the span.
+    /// Passes the energy of the meter to the sink, one row for each quarter hour in the time span.
     pub(crate) fn hand_on<K: RowSink<Share>>(&self, span: Span, sink: &mut K)
         ensures whole { WhereSaid self.now (λ known opening.
             TakesAll (TakesWithin K.takes span) sink.old (rows_of_opening known opening) sink.new) }

@@ -25,7 +25,7 @@ use office_events::{BookedEntry, EntryContext, Fact, Installation, Name, Opening
 use std::alloc::{AllocError, Global};
 use std::collections::BTreeMap;
 
-/// The table of meters: the present state and the entries of each meter, by name.
+/// The table of meters: the current state and the entries of each meter, by name.
 #[derive(Drop)]
 pub(crate) struct Meters {
     alloc: Global,
@@ -78,7 +78,7 @@ impl Meters {
         }
     }
 
-    /// Returns the present state of the meter with this name, or `None` if no meter has the name.
+    /// Returns the current state of the meter with this name, or `None` if no meter has the name.
     pub(crate) fn row(&self, name: &Name) -> Option<Installation>
         ensures found { (known : List Fact) → AreLawful known → AreMeters self.now known
             → result ≡ meter_of known name.now }
@@ -96,8 +96,8 @@ impl Meters {
         }
     }
 
-    /// Returns the entry of a meter with sequence number `place`, or `None` without such an entry.
-    /// The result includes the meter's state before the entry, and the next valid entry.
+    /// Returns the entry of a meter with sequence number `place`, or `None` if no entry has the
+    /// number. The result includes the meter's state before the entry, and the next valid entry.
     pub(crate) fn entry(&self, name: &Name, place: u64) -> Option<EntryContext>
         ensures found { (known : List Fact) → AreLawful known → AreMeters self.now known
             → result ≡ entry_at known name.now place }
@@ -110,9 +110,9 @@ impl Meters {
         meter.placed(place)
     }
 
-    /// Returns the entry of a meter with sequence number `place`, or `None` without such an entry.
-    /// The result has the meter's present total energy instead of the energy before the entry, as
-    /// the contract of this lookup allows.
+    /// Returns the entry of a meter with sequence number `place`, or `None` if no entry has the
+    /// number. The result has the meter's current total energy instead of the energy before the
+    /// entry, as the contract of this lookup allows.
     pub(crate) fn entry_near(&self, name: &Name, place: u64) -> Option<EntryContext>
         ensures found { (known : List Fact) → AreLawful known → AreMeters self.now known
             → ReportsNear known name.now place result }
@@ -129,8 +129,8 @@ impl Meters {
         Some(with_whole_energy(&found, &whole))
     }
 
-    /// Returns at most `most` entries of a meter from sequence number `from` on, voided entries
-    /// included.
+    /// Returns at most `most` entries of a meter from sequence number `from` on, voided (cancelled)
+    /// entries included.
     pub(crate) fn entries(
         &self,
         alloc: Global,
@@ -148,7 +148,7 @@ impl Meters {
         }
     }
 
-    /// Passes the energy of a meter to the sink, one row for each quarter hour in the span.
+    /// Passes the energy of a meter to the sink, one row for each quarter hour in the time span.
     pub(crate) fn hand_on<K: RowSink<Share>>(&self, name: &Name, span: Span, sink: &mut K)
         ensures whole { (known : List Fact) → AreLawful known → AreMeters self.now known
             → TakesAll (TakesWithin K.takes span) sink.old (rows_of_meter known name.now) sink.new }

@@ -1,4 +1,4 @@
-//! Tables of indices, in which a search by key finds the indices of records.
+//! Tables in which a search by key finds the indices of records in the list of all records.
 ghost use Rattle.std.specs.Prelude.{◌≡◌, List, [], reverse, OnOk, OnErr};
 ghost use Rattle.office_events.specs.declared.facts.Fact.{Fact};
 ghost use Rattle.memory_books.specs.Tables.Keys as keys;
@@ -10,18 +10,20 @@ use office_events::{DeviceList, Fact, Name, Opening, Register, Reply};
 use std::alloc::{AllocError, Global};
 use std::collections::BTreeMap;
 
-/// The kind of a table of indices. It determines the kind of the indexed records, and their key.
+/// The kind of a table of record indices. It determines which records the table indexes, and by
+/// which key.
 #[derive(Clone, Copy)]
 pub(crate) enum Kind {
-    /// Point lists by the name of their device.
+    /// The table has point lists (the Modbus registers to read), by the name of their device.
     DeviceLists,
-    /// Accounting registers by their own name.
+    /// The table has accounting registers (named energy counters), by their own name.
     Registers,
-    /// Accounting registers by the name of their device.
+    /// The table has accounting registers (named energy counters), by the name of their device.
     DeviceRegisters,
-    /// Openings (the installations of meters) by the name of their accounting register.
+    /// The table has openings (installations of meters), by the name of their accounting register
+    /// (a named energy counter).
     RegisterOpenings,
-    /// Stored responses by idempotency key.
+    /// The table has stored responses to requests, by idempotency key.
     Replies,
 }
 
@@ -94,7 +96,7 @@ fn key_in(kind: Kind, fact: &Fact) -> Option<Key>
     }
 }
 
-/// A table of indices, in which a search by key finds the indices of records of one kind.
+/// A table in which a search by key finds the indices of the records of one kind.
 #[derive(Drop)]
 pub(crate) struct Places {
     alloc: Global,
@@ -106,7 +108,7 @@ impl Places {
     ghost use Rattle.memory_books.specs.Tables.Places.{ArePlaces, ArePlacesOf, AreUnchanged, HaveOneMore, places_of, latest_place, has_key};
     ghost use Rattle.memory_books.specs.declared.tables.places.Kind.{Kind};
 
-    /// Creates an empty table of this kind.
+    /// Creates an empty table of record indices of this kind.
     pub(crate) fn new(alloc: Global, kind: Kind) -> Places
         ensures places { ArePlaces result [] }
         ensures kind { result.kind ≡ kind }
@@ -144,8 +146,8 @@ impl Places {
         }
     }
 
-    /// Returns the index of the latest record with this key, or `None` if the table has no such
-    /// record.
+    /// Returns the index of the latest record with this key, or `None` if the table indexes no
+    /// record with this key.
     pub(crate) fn latest(&self, key: Key) -> Option<usize>
         ensures { (kind : Kind) (known : List Fact) → ArePlacesOf kind self.now known
             → result ≡ latest_place (has_key kind key) known }

@@ -1,4 +1,4 @@
-//! The table of all polls by number, and the table of pending polls.
+//! The table of all polls by number, and the table of pending polls (without an outcome).
 ghost use Rattle.std.specs.Prelude.{◌≡◌, [], List, length, IfOk};
 ghost use Rattle.office_events.specs.declared.facts.Fact.{Fact};
 ghost use Rattle.office_books.specs.Facts.{polls_in, pending_in};
@@ -27,7 +27,7 @@ impl Polls {
         }
     }
 
-    /// Stores the outcome of a poll, and ignores an outcome of an unknown poll.
+    /// Stores the outcome of a poll in the poll's row, and ignores an outcome of an unknown poll.
     fn end_poll(&mut self, ended: &EndedPoll)
         ensures { EndsPoll ended.now self.old.rows.items self.new.rows.items }
     {
@@ -39,7 +39,8 @@ impl Polls {
         }
     }
 
-    /// Returns the poll with this number, or `None` if the table has no such poll.
+    /// Returns the row of the poll with this number, or `None` if the table has no poll with this
+    /// number.
     pub fn row(&self, number: u64) -> Option<PollRow>
         ensures { (known : List Fact) → AreLawful known → ArePolls self.now known
             → result ≡ poll_row_of known number }
@@ -89,7 +90,7 @@ impl Table for Polls {
     }
 }
 
-/// The table of pending polls.
+/// The table of the polls that have no outcome yet.
 #[derive(Drop)]
 pub(crate) struct Pending {
     polls: Vec<Poll>,

@@ -1,4 +1,5 @@
-//! Tables to which the missing records of the store's list are added before a lookup.
+//! Tables for lookups in a store in memory. Before a lookup, the records that a table still lacks
+//! are added to it.
 ghost use Rattle.std.specs.Prelude.{◌≡◌, List, [], length, OnOk};
 ghost use Rattle.office_events.specs.declared.facts.Fact.{Fact};
 ghost use Rattle.office_books.specs.Lawful.{AreLawful};
@@ -14,15 +15,14 @@ pub(crate) trait Table: Drop {
     ghost use Rattle.office_books.specs.Lawful.{AreLawful};
     ghost use Rattle.memory_books.specs.declared.tables.places.Kind.{Kind};
 
-    /// The kind of a table of indices, which never changes, or `None` for any other table.
+    /// The kind of a table of record indices, which never changes, or `None` for any other table.
     ghost kind: { Self → Option Kind };
 
-    /// The relation between a table and the records with which it agrees. The latest record comes
-    /// first.
+    /// The condition that a table agrees with a list of records, the latest record first.
     ghost says: { Self → List Fact → Type 0 };
 
     /// Adds the next record to the table, or leaves the table unchanged if memory runs out. `place`
-    /// is the record's index in the list, counted from 0.
+    /// is the record's index in the store's list, counted from 0.
     fn apply_record(&mut self, place: usize, fact: &Fact) -> Result<(), AllocError>
         ensures ok { (known : List Fact) → AreLawful (fact.now ∷ known) → length known ≡ place
             → says self.old known
@@ -32,7 +32,7 @@ pub(crate) trait Table: Drop {
         ensures kind { kind self.new ≡ kind self.old };
 }
 
-/// A table, with the number of records that were added to it.
+/// A lookup table, with the number of records that were added to it.
 #[derive(Drop)]
 pub(crate) struct Kept<T> {
     pub table: T,
@@ -40,7 +40,7 @@ pub(crate) struct Kept<T> {
 }
 
 impl<T: Table> Kept<T> {
-    /// Creates a table to which no record was added yet.
+    /// Creates a lookup table to which no record was added yet.
     pub fn new(table: T) -> Kept<T>
         ensures table { result.table ≡ table }
         ensures count { result.count ≡ 0 }
@@ -48,8 +48,8 @@ impl<T: Table> Kept<T> {
         Kept { table, count: 0 }
     }
 
-    /// Adds all missing records of the list to the table. If memory runs out, some records may
-    /// remain missing.
+    /// Adds all missing records of the store's list to the lookup table. If memory runs out, some
+    /// records may remain missing.
     pub fn catch_up(&mut self, facts: &[Fact]) -> Result<(), AllocError>
         ensures kept { AreLawful (latest_first facts.now) → HasCome T.says self.old facts.now
             → HasCome T.says self.new facts.now }

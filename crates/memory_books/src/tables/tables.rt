@@ -1,4 +1,4 @@
-//! All tables of a store in memory.
+//! All lookup tables of a store in memory.
 ghost use Rattle.std.specs.Prelude.{◌≡◌, ◌∷◌, List, [], map, reverse, length, IfOk, IfSome, OnOk};
 ghost use Rattle.std.specs.List.{filter, filter_map};
 ghost use Rattle.std.specs.Option.{option_copied, option_map};
@@ -34,8 +34,8 @@ use office_events::{
 };
 use std::alloc::{AllocError, Global};
 
-/// All tables of a store in memory. Each table agrees with the records that were added to it. A
-/// lookup requires that all records were added to all tables.
+/// All lookup tables of a store in memory. Each table agrees with the records that were added to
+/// it. A lookup requires that all records were added to all tables.
 #[derive(Drop)]
 pub struct Tables {
     polls: Kept<Polls>,
@@ -51,7 +51,7 @@ pub struct Tables {
 impl Tables {
     ghost use Rattle.memory_books.specs.Tables.Whole.{HaveCome, AreWhole, WhereWhole};
 
-    /// Creates all tables of a store without records.
+    /// Creates all lookup tables of a store without records.
     pub fn new(alloc: Global) -> Tables
         ensures { (facts : List Fact) → HaveCome result facts }
     {
@@ -67,7 +67,7 @@ impl Tables {
         }
     }
 
-    /// Adds all missing records to all tables. If memory runs out, some records may still be
+    /// Adds all missing records to all lookup tables. If memory runs out, some records may still be
     /// missing in a table.
     pub fn catch_up(&mut self, facts: &[Fact]) -> Result<(), AllocError>
         ensures kept { AreLawful (latest_first facts.now) → HaveCome self.old facts.now
@@ -109,7 +109,8 @@ impl Tables {
         self.pending.table.all(alloc)
     }
 
-    /// Borrows the point list of a device, so that counting its reads copies no points.
+    /// Borrows the point list (the Modbus registers to read) of a device, so that counting its
+    /// reads copies no points.
     fn list_among<'a>(&self, facts: &'a [Fact], device: &Name) -> Option<&'a PlannedList>
         ensures { (known : List Fact) → facts.now ≡ reverse known → AreWhole self.now known
             → option_copied result ≡ list_of known device.now }
@@ -120,7 +121,8 @@ impl Tables {
         }
     }
 
-    /// Returns a copy of the point list of a device, or `None` if the device has no point list.
+    /// Returns a copy of the point list (the Modbus registers to read) of a device, or `None` if
+    /// the device has no point list.
     pub fn list(&self, facts: &[Fact], device: &Name) -> Result<Option<PlannedList>, AllocError>
         ensures { (known : List Fact) → facts.now ≡ reverse known → AreWhole self.now known
             → IfOk result (λ list. list ≡ list_of known device.now) }
@@ -131,8 +133,8 @@ impl Tables {
         }
     }
 
-    /// Returns the number of reads in the plan of a device, or `None` if the device has no point
-    /// list.
+    /// Returns the number of Modbus reads in the plan of a device, or `None` if the device has no
+    /// point list.
     pub fn read_count(&self, facts: &[Fact], device: &Name) -> Option<usize>
         ensures { (known : List Fact) → facts.now ≡ reverse known → AreWhole self.now known
             → result ≡ read_count_of (list_of known device.now) }
@@ -143,7 +145,7 @@ impl Tables {
         }
     }
 
-    /// Returns at most `most` reads of a device's plan from index `from` on.
+    /// Returns at most `most` Modbus reads of a device's plan from index `from` on.
     pub fn reads(
         &self,
         alloc: Global,
@@ -161,7 +163,8 @@ impl Tables {
         }
     }
 
-    /// Returns the accounting register with this name, or `None` if no register has the name.
+    /// Returns the accounting register (a named energy counter) with this name, or `None` if no
+    /// register has the name.
     pub fn register(&self, facts: &[Fact], name: &Name) -> Option<Register>
         ensures { (known : List Fact) → facts.now ≡ reverse known → AreWhole self.now known
             → result ≡ register_of known name.now }
@@ -172,7 +175,8 @@ impl Tables {
         }
     }
 
-    /// Returns the accounting registers of a device, in the order in which they were added.
+    /// Returns the accounting registers (named energy counters) of a device, in the order in which
+    /// they were added.
     pub fn registers(
         &self,
         alloc: Global,
@@ -185,7 +189,8 @@ impl Tables {
         registers_at(alloc, facts, self.device_registers.table.all(named(device)))
     }
 
-    /// Returns the accounting registers of a device that the Modbus read covers.
+    /// Returns the accounting registers (named energy counters) of a device that the Modbus read
+    /// covers.
     pub fn registers_read(
         &self,
         alloc: Global,
@@ -201,7 +206,8 @@ impl Tables {
         registers_read_at(alloc, facts, places, span)
     }
 
-    /// Returns the number of accounting registers of a device, without allocating memory.
+    /// Returns the number of accounting registers (named energy counters) of a device, without
+    /// allocating memory.
     pub fn register_count(&self, device: &Name) -> usize
         ensures { (known : List Fact) → AreWhole self.now known
             → result ≡ length (registers_of known device.now) }
@@ -221,8 +227,8 @@ impl Tables {
         }
     }
 
-    /// Compares a request with the stored request of the same idempotency key, or returns `None` if
-    /// the store has no request with this key.
+    /// Compares a request with the stored request that has the same idempotency key. Returns `None`
+    /// if the store has no request with this key.
     pub fn repeat(
         &self,
         facts: &[Fact],
@@ -243,7 +249,7 @@ impl Tables {
         }
     }
 
-    /// Returns the present state of a meter, or `None` if no meter has the name.
+    /// Returns the state of a meter by all records, or `None` if no meter has the name.
     pub fn meter(&self, name: &Name) -> Option<Installation>
         ensures found { (known : List Fact) → AreLawful known → AreWhole self.now known
             → result ≡ meter_of known name.now }
@@ -252,8 +258,8 @@ impl Tables {
         self.meters.table.row(name)
     }
 
-    /// Returns the present state of the latest meter at an accounting register, open or closed, or
-    /// `None` if no meter was installed there.
+    /// Returns the state of the latest meter at an accounting register, open or closed, or `None`
+    /// if no meter was installed there.
     pub fn installation(&self, facts: &[Fact], register: &Name) -> Option<Installation>
         ensures found { WhereWhole self.now facts.now (λ known.
             result ≡ installation_at known register.now) }
@@ -265,8 +271,8 @@ impl Tables {
         }
     }
 
-    /// Returns the entry of a meter with sequence number `place`, or `None` without such an entry.
-    /// The result includes the meter's state before the entry, and the next valid entry.
+    /// Returns the entry of a meter with sequence number `place`, or `None` if no entry has the
+    /// number. The result includes the meter's state before the entry, and the next valid entry.
     pub fn entry(&self, meter: &Name, place: u64) -> Option<EntryContext>
         ensures found { (known : List Fact) → AreLawful known → AreWhole self.now known
             → result ≡ entry_at known meter.now place }
@@ -275,9 +281,9 @@ impl Tables {
         self.meters.table.entry(meter, place)
     }
 
-    /// Returns the entry of a meter with sequence number `place`, or `None` without such an entry.
-    /// The result has the meter's present total energy instead of the energy before the entry, as
-    /// the contract of this lookup allows.
+    /// Returns the entry of a meter with sequence number `place`, or `None` if no entry has the
+    /// number. The result has the meter's current total energy instead of the energy before the
+    /// entry, as the contract of this lookup allows.
     pub fn entry_near(&self, meter: &Name, place: u64) -> Option<EntryContext>
         ensures found { (known : List Fact) → AreLawful known → AreWhole self.now known
             → ReportsNear known meter.now place result }
@@ -286,8 +292,8 @@ impl Tables {
         self.meters.table.entry_near(meter, place)
     }
 
-    /// Returns at most `most` entries of a meter from sequence number `from` on, voided entries
-    /// included.
+    /// Returns at most `most` entries of a meter from sequence number `from` on, voided (cancelled)
+    /// entries included.
     pub fn entries(
         &self,
         alloc: Global,
@@ -327,8 +333,8 @@ impl Tables {
         Ok(rows)
     }
 
-    /// Returns the present states of all meters at an accounting register in order of installation,
-    /// closed meters included.
+    /// Returns the states of all meters at an accounting register (a named energy counter) in order
+    /// of installation, closed meters included.
     pub fn installations(
         &self,
         alloc: Global,
@@ -341,7 +347,7 @@ impl Tables {
         self.installations_there(alloc, facts, self.openings.table.all(named(register)))
     }
 
-    /// Passes the energy of a meter to the sink, one row for each quarter hour in the span, in
+    /// Passes the energy of a meter to the sink, one row for each quarter hour in the time span, in
     /// order of time, without allocating memory.
     pub fn intervals<K: RowSink<Share>>(&self, meter: &Name, span: Span, sink: &mut K)
         ensures whole { (known : List Fact) → AreLawful known → AreWhole self.now known
@@ -382,7 +388,7 @@ impl Tables {
     }
 
     /// Passes the energy of an accounting register to the sink, one row for each meter and quarter
-    /// hour in the span, without allocating memory.
+    /// hour in the time span, without allocating memory.
     pub fn register_intervals<K: RowSink<Share>>(
         &self,
         facts: &[Fact],

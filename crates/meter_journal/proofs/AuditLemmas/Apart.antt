@@ -1,4 +1,5 @@
--- Entry rows that the rules accept can be read back from their table rows.
+-- Lemmas that entry rows can be read back from their rows in the database table, if the rules
+-- accept the entry rows.
 use Rattle.std.proofs.Common.{◌≡◌, ℕ, ◌+◌, ◌<◌, Bool, true, false, not, List, [], ◌∷◌, ◌++◌, reverse, take, drop, length, get_or, Option, Some, None, Result, Ok, Err, IsOk, refl, sym, ap, subst, ◌∙◌}
 use Rattle.std.proofs.lemmas.Option.{slice_get-get_or}
 use Rattle.std.proofs.lemmas.List.{reverse-append, take_more, take-append-drop}
@@ -24,7 +25,7 @@ abbrev kind_or : Option EntryKind → EntryKind
 kind_or None = kind.Reading
 kind_or (Some k) = k
 
--- The entry row that a table row encodes.
+-- The entry row of a meter that a row of the database table encodes.
 abbrev decoded : TableRow → EntryRow
 decoded reported = record {
   place = reported.place;
@@ -79,7 +80,7 @@ rows_are_distinct meter (row ∷ rows) (row' ∷ rows') fit fit' h =
     let first : row ≡ row' = sym (is_back meter rows row fit.0) ∙ ap decoded head ∙ is_back meter rows' row' fit'.0 in
     ap (λ (r : EntryRow). r ∷ rows) first ∙ ap (λ (rs : List EntryRow). row' ∷ rs) rest
 
--- ---- a refused table row does not encode an entry row that the rules accept
+-- A table row that the check refuses does not encode an entry row that the rules accept.
 
 refused_next : (meter : Installed) (rows : List EntryRow) (reported : TableRow) (f : RowFault) (later : List EntryRow) → IsWellInstalled meter
     → AllFit meter rows → passed meter (check_after meter rows) reported ≡ Err f → AllFit meter later
@@ -97,8 +98,8 @@ refused_next meter rows reported f (row ∷ rows') well fit why all h =
     let ok : (let r : Result (Check × Option Step) RowFault = Err f in IsOk r) = subst IsOk same passes in
     absurd (cc)
 
--- Table rows that contain a refused row do not encode rows that the rules accept, whatever rows
--- follow.
+-- A list of table rows that contains a refused row does not encode entry rows that the rules
+-- accept, whatever rows follow the refused row.
 pub refused_below : (meter : Installed) (rows : List EntryRow) (reported : TableRow) (f : RowFault) (newer : List TableRow) (all : List EntryRow)
     → IsWellInstalled meter → AllFit meter rows → passed meter (check_after meter rows) reported ≡ Err f → AllFit meter all
     → newer ++ reported ∷ later_rows meter rows ≡ later_rows meter all → ⊥
@@ -108,8 +109,8 @@ refused_below meter rows reported f (x ∷ newer) (row ∷ rows') well fit why f
     refused_below meter rows reported f newer rows' well fit why fits.1
     (same_tail x (reported_after meter rows' row) (newer ++ reported ∷ later_rows meter rows) (later_rows meter rows') h)
 
--- If the check passes the first table rows and refuses the next, these table rows do not encode
--- rows that the rules accept.
+-- If the check of a meter's tables passes the first rows and refuses the next, the table rows do
+-- not encode entry rows that the rules accept.
 pub none_reported : (meter : Installed) (reported : List TableRow) (i : ℕ) (d : TableRow) (rows : List EntryRow) (f : RowFault) → IsWellInstalled meter
     → i < length reported → AllFit meter rows → reverse (take i reported) ≡ later_rows meter rows
     → passed meter (check_after meter rows) (get_or reported i d) ≡ Err f → AreReported meter (reverse reported) → ⊥
@@ -125,8 +126,6 @@ none_reported meter reported i d rows f well lt fit first why all =
 -- The first `i` + 1 table rows in reverse order begin with the row at the index `i`.
 pub reported_more : (reported : List TableRow) (i : ℕ) (d : TableRow) → i < length reported → reverse (take (i + 1) reported) ≡ get_or reported i d ∷ reverse (take i reported)
 reported_more reported i d lt = ap (λ (ts : List TableRow). reverse ts) (take_more reported i d lt) ∙ reverse-append (take i reported) (get_or reported i d ∷ [])
-
--- ---- continuing after a row that passes, and stopping at a refused row
 
 pub passed_more : PassedRowsFit → (meter : Installed) (reported : List TableRow) (i : ℕ) (d : TableRow) (check next : Check) (step : Option Step)
     → IsWellInstalled meter → i < length reported → HasPassed meter (reverse (take i reported)) check

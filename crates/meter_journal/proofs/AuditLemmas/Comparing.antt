@@ -1,4 +1,5 @@
--- Differences between computed and stored interval rows.
+-- Lemmas on the differences between the interval rows (energies of quarter hours) that were
+-- computed from a meter's entries and those in the database.
 use Rattle.std.proofs.Common.{◌≡◌, ℕ, zero, suc, ◌<◌, ◌≤◌, ◌==◌, nat_lt, Bool, true, false, if◌then◌else◌, List, [], ◌∷◌, ◌++◌, length, get_or, take, drop, Option, Some, None, refl, sym, ap, subst, ◌∙◌, arith, eq-eqb}
 use Rattle.std.proofs.Math.Seq.{drop-cons}
 use Rattle.std.proofs.Math.ListN.{drop_of_length-le}
@@ -10,7 +11,8 @@ use Rattle.meter_journal.specs.declared.audit.intervals.IntervalFault.{IntervalF
 use Rattle.meter_journal.specs.declared.audit.intervals.IntervalFault.TheVariants as fault
 use Rattle.meter_journal.specs.Audit.Comparing.{fault_between, next_fault, difference_after, IsFirst}
 
--- Two lists with equal rows before an index first differ at this index.
+-- If two lists are equal before an index and differ at this index, then the index is that of their
+-- first difference.
 first_at : (wanted found wanted_left found_left : List Share) (i : ℕ) (f : IntervalFault)
     → take i wanted ≡ take i found → i ≤ length wanted → drop i wanted ≡ wanted_left → drop i found ≡ found_left
     → next_fault wanted_left found_left ≡ Some f → IsFirst wanted found (difference_after i f)
@@ -50,8 +52,6 @@ pub between_at : (wanted found : List Share) (i : ℕ) (d e : Share) (f : Interv
 between_at wanted found i d e f same lt within h =
     first_at wanted found (get_or wanted i d ∷ drop (suc i) wanted) (get_or found i e ∷ drop (suc i) found) i f same (omega (arith, lt))
     (drop-cons wanted i d lt) (drop-cons found i e within) h
-
--- ---- lists of rows without a difference
 
 none_reported : (b : Bool) (f : IntervalFault) (o : Option IntervalFault) → (if b then Some f else o) ≡ None → (b ≡ false) × (o ≡ None)
 none_reported true f o h = absurd (cc)

@@ -1,4 +1,5 @@
--- Worked examples of checked table rows and compared interval rows, computed from the definitions.
+-- Worked examples of checked table rows and compared interval rows (energies by quarter hour),
+-- computed from the definitions.
 use Rattle.std.proofs.Common.{◌≡◌, ℕ, ℤ, pos, Bool, true, false, [], ◌∷◌, Some, None, Ok, Err, refl}
 use Rattle.energy_core.specs.declared.entries.Last.{Last}
 use Rattle.energy_core.specs.declared.entries.Entry.{Entry}
@@ -86,7 +87,7 @@ fine_tables = record {
   are = refl;
 }
 
--- The table rows of a voided first reading and of the reading after it.
+-- The table rows of a meter's voided (cancelled) first reading and of the reading after it.
 abbrev voided_first : TableRow
 voided_first = reported 2 row_kind.Reading 1900 5200 0 0 (pos 0) true
 
@@ -94,8 +95,8 @@ after_voided : passed house (begun house) voided_first ≡ Ok (check_as 2 (last 
 unfolding unit_of
 after_voided = refl
 
--- The check applies the rules of a valid reading to a voided reading only if the row before is
--- valid.
+-- The check applies the rules of a valid reading to a voided (cancelled) reading only if the row
+-- before the reading is valid.
 voided_too_fast : passed house (begun house) (reported 2 row_kind.Reading 1900 50000 0 0 (pos 0) true) ≡ Err (fault.Held cause.TooFast)
 unfolding unit_of
 voided_too_fast = refl
@@ -104,7 +105,7 @@ voided_after_a_voided : passed house (check_as 2 (last 1000 5000 (pos 0)) 0 fals
     ≡ Ok (check_as 3 (last 1000 5000 (pos 0)) 0 false false, None)
 voided_after_a_voided = refl
 
--- A closing passes the check, and no row may follow it.
+-- A closing (the last entry of a meter) passes the check, and no row may follow it.
 closed : passed house (begun house) (reported 2 row_kind.Closing 1900 5200 0 0 (pos 0) false)
     ≡ Ok (check 2 (last 1900 5200 (pos 0)) 200000 true, Some (record { from = 1000; till = 1900; mwh = 200000 }))
 unfolding unit_of
@@ -114,7 +115,7 @@ after_a_closing : passed house (check 2 (last 1900 5200 (pos 0)) 200000 true) (r
     ≡ Err fault.AfterClosing
 after_a_closing = refl
 
--- A rescale may change the scale factor, and a reset may not.
+-- A rescale entry may change the counter's scale factor, and a reset entry may not.
 rescaled : passed house (begun house) (reported 2 row_kind.Rescale 2000 5000 0 500 (pos 1) false)
     ≡ Ok (check 2 (last 2000 500 (pos 1)) 0 false, Some (record { from = 1000; till = 2000; mwh = 0 }))
 unfolding unit_of
@@ -123,7 +124,8 @@ rescaled = refl
 reset_to_a_scale : passed house (begun house) (reported 2 row_kind.Reset 2000 5000 0 500 (pos 1) false) ≡ Err (fault.Scale (pos 0))
 reset_to_a_scale = refl
 
--- Refused table rows, one for each fault that the examples before do not have.
+-- Table rows that the check of a meter's rows refuses, one for each fault that no earlier example
+-- has.
 a_gap : passed house (begun house) (reported 3 row_kind.Reading 1900 5200 0 0 (pos 0) false) ≡ Err (fault.Place 2)
 a_gap = refl
 
@@ -152,7 +154,7 @@ by_hand_it_may_be = refl
 it_went_back : passed house (begun house) (reported 2 row_kind.Manual 1900 4999 0 0 (pos 0) false) ≡ Err (fault.Refused term.NegativeStep)
 it_went_back = refl
 
--- Differences between lists of interval rows, and equal lists.
+-- Differences between lists of interval rows (energies by quarter hour), and equal lists.
 one_is_changed : next_fault (share 900 177777 ∷ share 1800 22223 ∷ []) (share 900 177778 ∷ share 1800 22223 ∷ [])
     ≡ Some (interval.Differs 900 177778 177777)
 one_is_changed = refl

@@ -1,4 +1,4 @@
--- The tables of a meter compared with the check after all rows passed.
+-- Lemmas that compare the tables of a meter with the state of the check after all rows passed it.
 use Rattle.std.proofs.Common.{◌≡◌, ℕ, Bool, List, [], ◌∷◌, ◌++◌, Err, refl, sym, ap, subst, ◌∙◌}
 use Rattle.energy_core.specs.declared.entries.Last.{Last}
 use Rattle.interval_core.specs.declared.shares.Share.{Share}

@@ -1,4 +1,5 @@
--- The check and the pending interval rows after one more table row.
+-- Lemmas on the state of the check after one more table row, and on the interval rows that are
+-- still to be compared.
 use Rattle.std.proofs.Common.{◌≡◌, ℕ, zero, suc, take, drop, length, ◌+◌, ◌≤◌, ◌==◌, true, false, if◌then◌else◌, List, [], ◌∷◌, ◌++◌, Option, Some, None, Result, Ok, refl, sym, ap, subst, ◌∙◌, inl, inr, arith, append_assoc, append-nil, length-drop}
 use Rattle.std.proofs.lemmas.Bool.{cases_Bool, cond-true, cond-false}
 use Rattle.std.proofs.lemmas.List.{take-append-drop}
@@ -57,8 +58,6 @@ still_some (row ∷ []) [] h = absurd (cc)
 still_some (row ∷ []) (share ∷ shares) h = absurd (joined_some row share shares h)
 still_some (row ∷ next ∷ rows) shares h = absurd (cc)
 
--- ---- the check after one more table row
-
 step_of : (range : ℕ) (last : Last) (row : EntryRow) (step : Step)
     → Some step ≡ (if row.stands then Some (step_to range last row.entry) else None) → (row.stands ≡ true) × (step ≡ step_to range last row.entry)
 step_of range last row step h =
@@ -115,8 +114,6 @@ goes_voided law meter old new reported next well passes check_is wanted_is befor
       begun = λ none. gone.begun (sym wanted_is ∙ none);
     }
 
--- ---- the energy of the pending interval rows stays at most the energy of the check
-
 pub within_more : SharesAddUp → (old new : List Share) (step : Step) (total next : ℕ) → IsShareable step → energy_of old ≤ total
     → next ≡ total + step.mwh → new ≡ with_shares old (shares_of step) → energy_of new ≤ next
 within_more law old new step total next shareable le next_is new_is =
@@ -127,7 +124,8 @@ pub passed_as : (r : Result (Check × Option Step) RowFault) (next : Check) (ste
 passed_as r next step step' h is =
     sym h ∙ ap (λ (o : Option Step). let q : Result (Check × Option Step) RowFault = Ok (next, o) in q) is
 
--- Removing interval rows never increases the energy of the remaining rows.
+-- Removing interval rows (energies of quarter hours) from a list never increases the energy of the
+-- remaining rows.
 less_left : (n : ℕ) (rows : List Share) → energy_of (drop n rows) ≤ energy_of rows
 less_left zero rows = omega (arith)
 less_left (suc n) [] = omega (arith)
@@ -136,7 +134,8 @@ less_left (suc n) (row ∷ rows) =
     let left : energy_of (drop (suc n) (row ∷ rows)) ≡ energy_of (drop n rows) = refl in
     omega (arith, whole, left, less_left n rows)
 
--- Removing pending interval rows preserves the invariant of the check.
+-- Removing the first of the pending interval rows (still to be compared with the database)
+-- preserves the invariant of the check.
 pub left_is_sound : (n : ℕ) (meter : Installed) (old new : Progress) → new.check ≡ old.check → new.wanted.items ≡ drop n old.wanted.items
     → IsSoundProgress meter old → IsSoundProgress meter new
 left_is_sound n meter old new same left sound = record {
@@ -144,7 +143,8 @@ left_is_sound n meter old new same left sound = record {
   within = omega (arith, sound.within, less_left n old.wanted.items, ap energy_of left, ap (λ (check : Check). check.total) same);
 }
 
--- If removing all interval rows except the last leaves no row, then the list was empty.
+-- If removing all interval rows (energies by quarter hour) except the last leaves no row, then the
+-- list was empty before.
 none_left : (rows : List Share) → drop (settled_in rows) rows ≡ [] → rows ≡ []
 none_left [] h = refl
 none_left (row ∷ rows) h =
@@ -154,7 +154,8 @@ none_left (row ∷ rows) h =
       ap (λ (rs : List Share). length rs) h,
     ))
 
--- `drop_done` moves interval rows from the rows that are still to be compared to the compared rows.
+-- `drop_done` moves the interval rows (energies by quarter hour) that can't change any more from
+-- the pending rows (still to be compared) to the compared rows.
 pub drops_done : (old new : Progress) → new.check ≡ old.check
     → new.wanted.items ≡ drop (settled_in old.wanted.items) old.wanted.items → DropsDone old new
 drops_done old new same left meter reported done gone =

@@ -1,4 +1,5 @@
--- The rules accept each row of a lawful journal after the rows before it.
+-- The rules accept each row of a meter's history after the rows before it, if they accept each line
+-- of the history.
 use Rattle.std.proofs.Common.{◌≡◌, ℕ, ◌<◌, ◌≤◌, ◌==◌, Bool, true, false, nat_lt, if◌then◌else◌, List, [], ◌∷◌, Option, Some, None, refl, sym, ap, subst, ◌∙◌, inl, inr, arith}
 use Rattle.std.specs.Option.{option_or}
 use Rattle.std.proofs.lemmas.Bool.{cases_Bool, cond-true, cond-false}
@@ -25,7 +26,7 @@ use Rattle.meter_journal.proofs.Voiding.{Lower}
 use Rattle.meter_journal.specs.Audit.Fitting.{is_ended, last_stands, WasReading, VoidedFits, MayCome, AllFit}
 use Rattle.meter_journal.specs.Audit.Laws.{RowsOfJournalsFit}
 
--- ---- a journal with a closing is ended, and so is its list of rows
+-- A journal (a meter's history) that closes its meter is ended, and its list of rows is ended too.
 
 ended_alike : (whole lines : Journal) (rows : List EntryRow) → AreRowsOf whole lines rows → is_ended rows ≡ journal_ended lines
 ended_alike whole [] [] h = refl
@@ -37,7 +38,7 @@ ended_alike whole (Entered k e ∷ lines) (row ∷ rows) h =
 ended_alike whole (Held reading cause ∷ lines) rows h = ended_alike whole lines rows h
 ended_alike whole (Voided place ∷ lines) rows h = ended_alike whole lines rows h
 
--- No row of the list follows a closing.
+-- No row of the list follows a closing, the last entry of a meter.
 abbrev AllUnended : List EntryRow → Type 0
 AllUnended [] = Unit {0}
 AllUnended (row ∷ rows) = (is_ended rows ≡ false) × AllUnended rows
@@ -51,9 +52,7 @@ all_unended meter whole (Entered k e ∷ lines) (row ∷ rows) fit h =
 all_unended meter whole (Held reading cause ∷ lines) rows fit h = all_unended meter whole lines rows fit.1 h
 all_unended meter whole (Voided place ∷ lines) rows fit h = all_unended meter whole lines rows fit.1 h
 
--- ---- voided rows
-
--- The rules accept each voided row of the list after the valid rows before it.
+-- The rules accept each voided (cancelled) row of the list after the valid rows before it.
 abbrev AllVoidedFit : Installed → List EntryRow → Type 0
 AllVoidedFit meter [] = Unit {0}
 AllVoidedFit meter (row ∷ rows) =
@@ -78,14 +77,15 @@ was_accepted meter es at raw rolls h =
       once = one_at_most (nat_lt raw l.raw) rolls (rolls_of meter es at raw rolls h);
     }
 
--- A reading that the rules accept as a valid row is also acceptable as a voided row.
+-- A reading that the rules accept as a valid row is also acceptable as a voided (cancelled) row.
 voided_now : (meter : Installed) (es : List Entry) (k : EntryKind) (e : Entry) → is_read k e ≡ true → EntryFits meter es k e
     → VoidedFits meter.range (last_after meter es) k e
 voided_now meter es =
     by_read (λ k e. EntryFits meter es k e → VoidedFits meter.range (last_after meter es) k e)
     (λ at raw rolls h. was_accepted meter es at raw rolls h)
 
--- A voided row that is acceptable after an entry is also acceptable after an earlier entry.
+-- A voided (cancelled) row that is acceptable after an entry is also acceptable after an earlier
+-- entry.
 voided_earlier : (range : ℕ) (l l' : Last) (k : EntryKind) (e : Entry) → l'.at ≤ l.at → VoidedFits range l k e → VoidedFits range l' k e
 voided_earlier range l l' kind.Reading (entry.Step at raw rolls) le h =
     record { accumulated = h.accumulated; below = h.below; later = omega (arith, h.later, le); once = h.once }
@@ -94,8 +94,6 @@ voided_earlier range l l' kind.Manual e le h = absurd h
 voided_earlier range l l' kind.Closing e le h = absurd h
 voided_earlier range l l' kind.Reset e le h = absurd h
 voided_earlier range l l' kind.Rescale e le h = absurd h
-
--- ---- voiding an entry
 
 moment_rolled : (k : EntryKind) (last : Last) (place : ℕ) (e : Entry) (stands : Bool)
     → moment_of (rolled last (record { place = place; kind = k; entry = e; stands = stands })).entry ≡ moment_of e
@@ -176,7 +174,7 @@ goes_back meter place (row ∷ rows) h =
           ]
     ]
 
--- ---- after a void, all voided rows are acceptable as voided rows
+-- After an entry is voided (cancelled), all voided rows are still acceptable as voided rows.
 
 follows_below : (meter : Installed) (row : EntryRow) (rows : List EntryRow) → AllFollow meter.range meter.opening (entries_in (row ∷ rows))
     → AllFollow meter.range meter.opening (entries_in rows)
@@ -226,9 +224,8 @@ all_voided_fit meter (Voided place ∷ lines) well h =
     let sound = rows_are_sound meter lines well.raw h.1 in
     voided_still meter place rows a fits.there may.0 may.1 sound.account.follow sound.still (all_voided_fit meter lines well h.1)
 
--- ---- voided rows that directly follow a valid row
-
--- The rules for valid readings accept each voided row that directly follows a valid row.
+-- The rules for valid readings accept each voided (cancelled) row that directly follows a valid
+-- row.
 abbrev AllAfterFit : Installed → List EntryRow → Type 0
 AllAfterFit meter [] = Unit {0}
 AllAfterFit meter (row ∷ rows) =
@@ -267,8 +264,8 @@ lower_with_next : (meter : Installed) (place : ℕ) (rows : List EntryRow) (a : 
 lower_with_next meter place rows a None next is h = absurd (cc)
 lower_with_next meter place rows a (Some n) next is h = h
 
--- If the last row is valid after a void, it was valid before the void, and the energy of the valid
--- entries has not grown.
+-- If the last row is valid after another row is voided (cancelled), it was valid before. The energy
+-- of the valid entries has not grown.
 last_still : (meter : Installed) (place : ℕ) (rows : List EntryRow) (a : Around) → row_at place rows ≡ Some a
     → Leaves meter place rows a a.next → last_stands (with_void meter.opening place rows) ≡ true
     → (last_stands rows ≡ true) × Lower meter (entries_in rows) (entries_in (with_void meter.opening place rows))
@@ -349,8 +346,6 @@ all_after_fit meter (Voided place ∷ lines) well h =
     let sound = rows_are_sound meter lines well.raw h.1 in
     after_still meter place rows a well.raw fits.there may.0 may.1 (next_where_free meter (entries_in a.before) a.next may.2 fits.next)
     sound.account.follow sound.still (all_voided_fit meter lines well h.1) (all_after_fit meter lines well h.1)
-
--- ---- all rows of a lawful journal
 
 may_come : (meter : Installed) (es : List Entry) (stands : Bool) (k : EntryKind) (e : Entry) → (stands ≡ true → EntryFits meter es k e)
     → (stands ≡ false → VoidedFits meter.range (last_after meter es) k e) → MayCome meter es stands k e

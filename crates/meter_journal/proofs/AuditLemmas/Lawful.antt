@@ -1,4 +1,4 @@
--- Consistent tables are the tables of a lawful journal.
+-- Consistent tables of a meter are the tables of a history that the rules accept.
 use Rattle.std.proofs.Common.{◌≡◌, ℕ, Bool, true, false, if◌then◌else◌, List, [], ◌∷◌, refl, sym, ap, ◌∙◌, inl, inr}
 use Rattle.std.proofs.lemmas.Bool.{cases_Bool, cond-false}
 use Rattle.energy_core.specs.declared.entries.Entry.{Entry}
@@ -19,7 +19,7 @@ use Rattle.meter_journal.specs.Audit.Laws.{FineTablesAreLawful, LawfulTablesAreF
 use Rattle.meter_journal.proofs.AuditLemmas.Alone.{matching_rows_are_independent}
 use Rattle.meter_journal.proofs.AuditLemmas.Journals.{rows_of_journals_fit}
 
--- A voided row is never a closing.
+-- A voided (cancelled) row is never a closing, the last entry of a meter.
 voided_goes_on : (range : ℕ) (last : Last) (k : EntryKind) (e : Entry) → VoidedFits range last k e → is_closing k ≡ false
 voided_goes_on range last kind.Reading e h = refl
 voided_goes_on range last kind.Manual e h = absurd h

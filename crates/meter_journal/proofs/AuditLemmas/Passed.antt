@@ -1,4 +1,4 @@
--- A table row that passes the check encodes an entry row that the rules accept.
+-- A table row that passes the check of a meter's tables encodes an entry row that the rules accept.
 use Rattle.std.proofs.Common.{◌≡◌, ◌≢◌, ℕ, ℤ, ◌+◌, ◌<◌, ◌≤◌, ◌==◌, nat_lt, nat_le, Bool, true, false, not, ◌&&◌, if◌then◌else◌, List, ◌∷◌, length, Option, Some, None, Result, Ok, Err, refl, sym, ap, subst, ◌∙◌, inl, inr, arith}
 use Rattle.std.specs.Ordering.{int_eq}
 use Rattle.std.proofs.lemmas.Bool.{cases_Bool, cond-true, cond-false, eqb-true}
@@ -33,8 +33,6 @@ use Rattle.meter_journal.specs.Audit.Passing.{kind_in, entry_in, has_unused, is_
 use Rattle.meter_journal.specs.Audit.Laws.{check_after, IsTaken, PassedRowsFit}
 use Rattle.meter_journal.proofs.AuditLemmas.Alone.{fitting_account}
 
--- ---- a row without a fault
-
 not_refused : {X : Type 0} (b : Bool) (f : RowFault) (r : Result X RowFault) (x : X) → (if b then Err f else r) ≡ Ok x
     → (b ≡ false) × (r ≡ Ok x)
 not_refused true f r x h = absurd (cc)
@@ -55,8 +53,6 @@ none_reported false f o h = (refl, h)
 
 same_Ok : {X E : Type 0} (x y : X) → (let r : Result X E = Ok x in r) ≡ Ok y → x ≡ y
 same_Ok x y h = cc
-
--- ---- the sequence number, kind and columns of a row that passes
 
 record IsShaped (check : Check) (row : TableRow) (k : EntryKind) : Type 0 where
   place : row.place ≡ check.place + 1
@@ -97,8 +93,6 @@ shaped check row k h =
     let placed = as_wanted (row.place == check.place + 1) _ _ k h in
     shaped_by check row k (kind_in row.kind) refl (eqb-true row.place (check.place + 1) placed.0) placed.1
 
--- ---- the table row of the encoded row
-
 abbrev reported_with : (place : ℕ) → RowKind → (moment raw rolls after : ℕ) → ℤ → Bool → TableRow
 reported_with place k moment raw rolls after sf v = record {
   place = place;
@@ -126,7 +120,8 @@ not_not false = refl
 unused : (n : ℕ) → not (n == 0) ≡ false → n ≡ 0
 unused n h = grind (arith, nat_tests)
 
--- The entry row that a table row of the kind `k` encodes.
+-- The entry row of a meter that a row of the entry table encodes, if the table row has the kind
+-- `k`.
 abbrev row_in : EntryKind → TableRow → EntryRow
 row_in k reported = record { place = reported.place; kind = k; entry = entry_in k reported; stands = not reported.is_voided }
 
@@ -138,12 +133,11 @@ reported_by kind.Closing reported sf hk used hs = same_reported reported.place r
 reported_by kind.Reset reported sf hk used hs = same_reported reported.place reported.moment reported.raw reported.kind row_kind.Reset reported.rolls 0 reported.after reported.after reported.sf sf reported.is_voided (not (not reported.is_voided)) hk (unused reported.rolls used) refl hs (not_not reported.is_voided)
 reported_by kind.Rescale reported sf hk used hs = same_reported reported.place reported.moment reported.raw reported.kind row_kind.Rescale reported.rolls 0 reported.after reported.after reported.sf sf reported.is_voided (not (not reported.is_voided)) hk (unused reported.rolls used) refl hs (not_not reported.is_voided)
 
--- ---- the scale factor after a row
-
 same_scale : (a b : ℤ) → not (int_eq a b) ≡ false → a ≡ b
 same_scale a b h = (Decides-int_eq a b).0 (grind arith)
 
--- The scale factor column of a row that passes is the counter's scale factor after the row's entry.
+-- If a table row passes the check, its scale factor column is the counter's scale factor after the
+-- row's entry.
 scale_following : (k : EntryKind) (reported : TableRow) (check : Check) → is_off_scale check k reported ≡ false
     → reported.sf ≡ (after check.last (entry_in k reported)).sf
 scale_following kind.Reading reported check h = same_scale reported.sf check.last.sf h
@@ -152,8 +146,6 @@ scale_following kind.Closing reported check h = same_scale reported.sf check.las
 scale_following kind.Reset reported check h = refl
 scale_following kind.Rescale reported check h = refl
 
--- ---- a voided reading that passes
-
 read_kind : (P : EntryKind → Type 0) → P kind.Reading → (k : EntryKind) → is_reading k ≡ true → P k
 read_kind P h kind.Reading is = h
 read_kind P h kind.Manual is = absurd (cc)
@@ -161,7 +153,7 @@ read_kind P h kind.Closing is = absurd (cc)
 read_kind P h kind.Reset is = absurd (cc)
 read_kind P h kind.Rescale is = absurd (cc)
 
--- A voided row that passes is a reading.
+-- A voided (cancelled) row that passes the check is a reading.
 voided_read : (v : Bool) (k : EntryKind) → v ≡ true → v && not (is_reading k) ≡ false → is_reading k ≡ true
 voided_read true k is h = not_not (is_reading k) ∙ ap not h
 voided_read false k is h = absurd (cc)
@@ -188,8 +180,6 @@ was_reading meter check reported h =
       later = above reported.moment check.last.at three.0;
       once = at_most 1 reported.rolls four.0;
     }
-
--- ---- a valid entry that passes
 
 accepted_by : (rolls : ℕ) (v : Verdict) → fault_by rolls v ≡ None → (step : ℕ) × (v ≡ verdict.Accepted rolls step)
 accepted_by rolls (verdict.Held why) h = absurd (cc)
@@ -229,7 +219,8 @@ booked_after check k reported (Ok (last, gone)) next step h =
       step_is = sym (ap (λ (p : Check × Option Step). p.1) pair);
     }
 
--- A valid table row without a fault encodes an entry that the rules accept.
+-- A table row that is not voided (cancelled) and has no fault encodes an entry that the rules
+-- accept.
 stood_fits : (meter : Installed) (rows : List EntryRow) (reported : TableRow) (k : EntryKind) (next : Last) (step : Step)
     → let check = check_after meter rows in
     is_off_scale check k reported ≡ false → reading_fault meter check k reported ≡ None
@@ -243,7 +234,8 @@ stood_fits meter rows reported kind.Reset next step scale none booked =
     (record { next = next; step = step; entered = booked }, same_scale reported.sf (last_after meter (entries_in rows)).sf scale)
 stood_fits meter rows reported kind.Rescale next step scale none booked = record { next = next; step = step; entered = booked }
 
--- A reading without a fault would be accepted after the rows before it.
+-- If the check finds no fault in a reading, the rules would accept the reading after the rows
+-- before it.
 was_accepted : (meter : Installed) (rows : List EntryRow) (reported : TableRow) (k : EntryKind) → is_reading k ≡ true
     → reading_fault meter (check_after meter rows) k reported ≡ None → EntryFits meter (entries_in rows) k (entry_in k reported)
 was_accepted meter rows reported kind.Reading is none =
@@ -252,8 +244,6 @@ was_accepted meter rows reported kind.Manual is none = absurd (cc)
 was_accepted meter rows reported kind.Closing is none = absurd (cc)
 was_accepted meter rows reported kind.Reset is none = absurd (cc)
 was_accepted meter rows reported kind.Rescale is none = absurd (cc)
-
--- ---- the state of the check after a row that passes
 
 abbrev check_with : (place : ℕ) → Last → (total : ℕ) → (ended stands : Bool) → Check
 check_with place last total ended stands =

@@ -1,4 +1,4 @@
--- The table row of an entry row that the rules accept passes the check.
+-- The table row of an entry row that the rules accept passes the check of a meter's tables.
 use Rattle.std.proofs.Common.{◌≡◌, ◌≢◌, ℕ, ℤ, ◌+◌, ◌<◌, ◌≤◌, ◌==◌, nat_lt, nat_le, Bool, true, false, not, ◌&&◌, List, ◌∷◌, length, Option, Some, None, Result, Ok, IsOk, refl, sym, ap, subst, ◌∙◌, inl, inr, arith, eq-eqb}
 use Rattle.std.specs.Ordering.{int_eq}
 use Rattle.std.proofs.lemmas.Bool.{cases_Bool, cond-true, cond-false}
@@ -27,8 +27,6 @@ use Rattle.meter_journal.specs.Audit.Passing.{kind_in, entry_in, has_unused, is_
 use Rattle.meter_journal.specs.Audit.Laws.{check_after, FittingRowsPass}
 use Rattle.meter_journal.proofs.AuditLemmas.Alone.{fitting_account}
 
--- ---- the sequence number, kind and columns of a row that the rules accept
-
 kind_there : (k : EntryKind) → kind_in (kind_as k) ≡ Some k
 kind_there kind.Reading = refl
 kind_there kind.Manual = refl
@@ -45,8 +43,6 @@ shape_is check reported k place kind unended voidable used scale =
 
 differs : (a b : ℤ) → a ≡ b → not (int_eq a b) ≡ false
 differs a b h = ap not ((Decides-int_eq a b).1 h)
-
--- ---- valid rows and voided rows that the rules accept
 
 pub passes_standing : (meter : Installed) (check : Check) (reported : TableRow) (k : EntryKind) (next : Last) (step : Step)
     → shape_of check reported ≡ Ok k → reported.is_voided ≡ false → reading_fault meter check k reported ≡ None
@@ -88,8 +84,8 @@ no_voided_fault meter check reported h =
 no_reading_fault : (rolls step : ℕ) → fault_by rolls (verdict.Accepted rolls step) ≡ None
 no_reading_fault rolls step = cond-true _ _ _ (eq-eqb rolls rolls refl)
 
--- A voided reading directly after a valid row has no fault, because the rules for valid readings
--- accept it.
+-- A voided (cancelled) reading directly after a valid row has no fault, because the rules for valid
+-- readings accept it.
 no_stood_fault : (meter : Installed) (rows : List EntryRow) (reported : TableRow)
     → (last_stands rows ≡ true → IsAcceptedAs meter (entries_in rows) reported.moment reported.raw reported.rolls)
     → stood_fault meter (check_after meter rows) kind.Reading reported ≡ None
@@ -101,12 +97,10 @@ no_stood_fault meter rows reported h =
       | inr off ↦ cond-false _ _ _ off
     ]
 
--- ---- each kind of a row that the rules accept
-
 abbrev row_with : (place : ℕ) → EntryKind → Entry → Bool → EntryRow
 row_with place k e stands = record { place = place; kind = k; entry = e; stands = stands }
 
--- The table row of an entry row that follows a list of rows.
+-- The row of the entry table for an entry row that follows a list of entry rows.
 abbrev reported_after : Installed → List EntryRow → EntryRow → TableRow
 reported_after meter rows row = table_row (scale_after meter (row ∷ rows)) row
 

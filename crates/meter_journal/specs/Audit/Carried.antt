@@ -16,33 +16,35 @@ use Rattle.meter_journal.specs.Intervals.{with_shares}
 use Rattle.meter_journal.specs.Journal.{Line, Entered, Held, Voided, Journal, is_ended, rows_of, entries_of}
 use Rattle.meter_journal.specs.Standing.{entered_count}
 
--- The meter as it is installed in the new file. Its opening entry has the time, count and scale
--- factor of the last valid entry in the old file.
+-- The meter as it is installed in the new database file. Its opening (first) entry has the time,
+-- count and scale factor of the last valid entry in the old file.
 abbrev pub carried : Installed → (lines : Journal) → Installed
 carried meter lines =
     record { range = meter.range; ceiling = meter.ceiling; opening = last_in meter lines }
 
--- A line of the new file, renumbered for the joined journal. The opening entry has sequence number
--- 1 in each file. A void's sequence number is therefore raised by `count`, the number of entries in
--- the old file.
+-- A line of a meter's history in the new database file, renumbered for the joined journal. The
+-- opening (first) entry has sequence number 1 in each file. The sequence number that a void
+-- (cancellation) names is therefore raised by `count`, the number of entries in the old file.
 abbrev pub moved_line : (count : ℕ) → Line → Line
 moved_line count (Entered k e) = Entered k e
 moved_line count (Held reading cause) = Held reading cause
 moved_line count (Voided place) = Voided (place + count)
 
--- The joined journal of both files: the lines of the old file, followed by the renumbered lines of
--- the new file. No void in the new file names an entry of the old file.
+-- The joined journal (history) of a meter over both database files: the lines of the old file,
+-- followed by the renumbered lines of the new file. No void (cancellation) in the new file names an
+-- entry of the old file.
 abbrev pub joined_journal : (lines more : Journal) → Journal
 joined_journal lines more = map (moved_line (entered_count lines)) more ++ lines
 
--- A row of the new file, with its sequence number raised by `count` for the joined journal.
+-- An entry row of a meter in the new database file, with its sequence number raised by `count` for
+-- the joined history of both files.
 abbrev pub moved_row : (count : ℕ) → EntryRow → EntryRow
 moved_row count row = record row { place = row.place + count }
 
--- The meter's opening in the new file is valid, and the joined journal has the rows, entries and
--- steps of both files in order. Therefore the energies of both files add up. A quarter hour in both
--- files has one row in the joined journal, with the energy of both. A meter that continues in a
--- third file continues from the joined journal.
+-- A meter that continues in a new database file: its opening (first entry) there is valid, and the
+-- joined history has the rows, entries and energies of both files. A quarter hour in both files has
+-- one row, with the energy of both. A meter that continues in a third file continues from the
+-- joined history.
 pub record GoesOn (meter : Installed) (lines more : Journal) : Type 0 where
   pub well : IsWellInstalled (carried meter lines)
   pub rows : rows_of meter.opening (joined_journal lines more)
@@ -59,21 +61,21 @@ pub record GoesOn (meter : Installed) (lines more : Journal) : Type 0 where
       ≡ with_shares (interval_rows meter lines) (interval_rows (carried meter lines) more)
   pub again : carried (carried meter lines) more ≡ carried meter (joined_journal lines more)
 
--- Theorem: a meter whose journals in the old and the new file are lawful (the rules accept them)
--- continues as `GoesOn` describes.
+-- Theorem: a meter whose journals in the old and the new database file are lawful (the rules accept
+-- them) continues as `GoesOn` describes.
 abbrev pub CarriesGoOn : Type 0
 CarriesGoOn = (meter : Installed) (lines more : Journal) → IsWellInstalled meter
     → AreFitting meter lines
     → AreFitting (carried meter lines) more
     → GoesOn meter lines more
 
--- The energy of the interval rows of the quarter hour from `start`.
+-- The sum of the energies of the interval rows for the quarter hour from `start`.
 abbrev pub energy_from : (start : ℕ) → List Share → ℕ
 energy_from start rows = energy_of (filter (λ row. row.start == start) rows)
 
--- The joined rows of both files count each quarter hour and each civil day once. A quarter hour has
--- the energy of both files, also the quarter hour in which the files changed. A day has the energy
--- of both files, and counts a quarter hour in both files once.
+-- The joined interval rows of both database files count each quarter hour and each civil day once.
+-- A quarter hour has the energy of both files, also the quarter hour in which the files changed. A
+-- day has the energy of both files, and counts a quarter hour in both files once.
 pub record AreCountedOnce (old new both : List Share) : Type 0 where
   pub ascending : IsAscending (starts_of both)
   pub quarters : (start : ℕ) → energy_from start both
@@ -83,8 +85,9 @@ pub record AreCountedOnce (old new both : List Share) : Type 0 where
       ≡ (account_on zone old day).mwh + (account_on zone new day).mwh
   pub whole : energy_of both ≡ energy_of old + energy_of new
 
--- The interval rows of the joined journal have the energy of all steps (energies between entries)
--- in both files. They count each quarter hour and each civil day once.
+-- The interval rows of a meter's joined history in both database files have the energy of all steps
+-- (energies between entries) of both files. The rows count each quarter hour and each civil day
+-- once.
 pub record CountsOnce (meter : Installed) (lines more : Journal) : Type 0 where
   pub account : IsAccount (steps_in (carried meter lines) more ++ steps_in meter lines)
       (interval_rows meter (joined_journal lines more))
@@ -99,17 +102,17 @@ CarriesCountOnce = (meter : Installed) (lines more : Journal) → IsWellInstalle
     → AreFitting (carried meter lines) more
     → CountsOnce meter lines more
 
--- After each line of the new file, the energy of the old and the new file together is within the
--- limit of one meter.
+-- After each line of the new database file, the energy of the meter in both files together is
+-- within the limit of one meter.
 abbrev pub StaysWithin : Installed → (lines more : Journal) → Type 0
 StaysWithin meter lines [] = Unit {0}
 StaysWithin meter lines (line ∷ more) =
     (total_in meter lines + total_in (carried meter lines) (line ∷ more) ≤ MAX_TOTAL)
     × StaysWithin meter lines more
 
--- Theorem: the joined journal of both files is lawful if the meter was open and the energy stays
--- within the limit. Readings are accepted or rejected with the same rollovers and causes as in the
--- separate files. The same entries may be recorded and voided.
+-- Theorem: the rules accept the joined journal of both database files, if the meter was open and
+-- the energy stays within the limit. Readings keep their rollovers or their causes of rejection.
+-- The same entries may be recorded and voided (cancelled).
 abbrev pub CarriedJournalsFit : Type 0
 CarriedJournalsFit = (meter : Installed) (lines more : Journal) → IsWellInstalled meter
     → AreFitting meter lines
@@ -118,27 +121,29 @@ CarriedJournalsFit = (meter : Installed) (lines more : Journal) → IsWellInstal
     → StaysWithin meter lines more
     → AreFitting meter (joined_journal lines more)
 
--- A journal line that may be recorded in the new file instead of the old file. The line voids no
--- entry of the old file, and rejects no reading because of the limit of the total energy.
+-- A line of a meter's journal that may be recorded in the new database file instead of the old
+-- file. The line voids (cancels) no entry of the old file, and rejects no reading because of the
+-- limit of the total energy.
 abbrev pub ComesLater : (count : ℕ) → Line → Type 0
 ComesLater count (Entered k e) = Unit {0}
 ComesLater count (Held reading cause) = cause ≢ TotalFull
 ComesLater count (Voided place) = count + 2 ≤ place
 
--- Each line of the journal may be recorded in the new file instead of the old file.
+-- Each line of the meter's journal may be recorded in the new database file instead of the old
+-- file.
 abbrev pub AllComeLater : (count : ℕ) → Journal → Type 0
 AllComeLater count [] = Unit {0}
 AllComeLater count (line ∷ lines) = ComesLater count line × AllComeLater count lines
 
--- The lines `later` can be recorded in a new file instead of after `lines`, and form a lawful
--- journal in the new file.
+-- The lines `later` can be recorded in a new database file instead of after `lines`, and the rules
+-- accept them in the new file.
 pub record IsSplit (meter : Installed) (lines later : Journal) : Type 0 where
   pub more : Journal
   pub joined : joined_journal lines more ≡ later ++ lines
   pub fit : AreFitting (carried meter lines) more
 
--- Theorem: journal lines that the rules accept in the old file may also be recorded in a new file,
--- if they void no entry of the old file.
+-- Theorem: lines that the rules accept in a meter's old database file may also be recorded in a new
+-- file. The lines must void (cancel) no entry of the old file.
 abbrev pub LaterLinesAreCarried : Type 0
 LaterLinesAreCarried = (meter : Installed) (lines later : Journal) → IsWellInstalled meter
     → AreFitting meter (later ++ lines)

@@ -11,9 +11,9 @@ use Rattle.meter_journal.specs.Audit.CarriedTables.{moved_reported, without_open
 use Rattle.meter_journal.specs.Audit.Fitting.{Tables, AreFine}
 use Rattle.meter_journal.specs.Audit.Laws.{AreLawful}
 
--- The meter `meter` of an old file continues as the meter `next` of a new file. The meter was open,
--- and its range and ceiling (maximum power) are unchanged. Its opening entry in the new file is its
--- last entry in the old file.
+-- The meter `meter` of an old database file continues as the meter `next` of a new file. The meter
+-- was open, and its range and ceiling (maximum power) are unchanged. Its opening (first) entry in
+-- the new file is its last entry in the old file.
 pub record GoesOnAs (meter : Installed) (last : Last) (ended : Bool) (next : Installed) : Type 0
   where
     pub unended : ended ≡ false
@@ -21,23 +21,23 @@ pub record GoesOnAs (meter : Installed) (last : Last) (ended : Bool) (next : Ins
     pub ceiling : next.ceiling ≡ meter.ceiling
     pub opening : next.opening ≡ last
 
--- A meter in one file: its opening entry in this file, and the rows that the file's tables have for
--- the meter.
+-- A meter in one database file: its opening (first) entry in this file, and the rows that the
+-- file's tables have for the meter.
 pub record InFile : Type 0 where
   pub meter : Installed
   pub tables : Tables
 
--- The tables of each later file are consistent, and the meter continues in each file from the file
--- before it.
+-- The tables that each later database file has for a meter are consistent, and the meter continues
+-- in each file from the file before it.
 abbrev pub GoOn : InFile → (later : List InFile) → Type 0
 GoOn old [] = Unit {0}
 GoOn old (new ∷ later) =
     GoesOnAs old.meter old.tables.last old.tables.ended new.meter
     × AreFine new.meter new.tables × GoOn new later
 
--- The joint report of an old and a new file. The entries of the new file, without its opening,
--- follow the entries of the old file. The energies add up, and a quarter hour in both files has the
--- energy of both.
+-- The joint report of an old and a new database file about a meter. The entries of the new file,
+-- without its opening (first entry), follow the entries of the old file. The energies add up, and a
+-- quarter hour in both files has the energy of both.
 abbrev pub reported_by_both : (old new : Tables) → Tables
 reported_by_both old new = record {
   entries = map (moved_reported (length old.entries - 1)) (without_opening new.entries)
@@ -48,13 +48,13 @@ reported_by_both old new = record {
   ended = new.ended;
 }
 
--- The joint report about a meter of a file and of all later files.
+-- The joint report of a database file and all later files about a meter.
 abbrev pub entry_from_all_rows : Tables → (later : List InFile) → Tables
 entry_from_all_rows old [] = old
 entry_from_all_rows old (new ∷ later) = entry_from_all_rows (reported_by_both old new.tables) later
 
--- Theorem: the joint report of several files is that of one lawful journal, a history that the
--- rules accept. The energy of all files must stay within the limit of one meter.
+-- Theorem: the joint report of several database files about a meter is that of one lawful journal,
+-- a history that the rules accept. The energy of all files must stay within the limit of one meter.
 abbrev pub FilesAreOneHistory : Type 0
 FilesAreOneHistory = (first : InFile) (later : List InFile) → IsWellInstalled first.meter
     → AreFine first.meter first.tables

@@ -12,7 +12,8 @@ use Rattle.meter_journal.specs.declared.audit.rows.TableRow.{TableRow}
 use Rattle.meter_journal.specs.Audit.Fitting.{AllFit, Tables, tables_of, AreFine, is_ended}
 use Rattle.meter_journal.specs.Audit.Carried.{moved_row, AreCountedOnce}
 
--- The meter as it is installed in the new file, computed from the meter's rows in the old file.
+-- The meter as it is installed in the new database file, computed from the meter's rows in the old
+-- file.
 abbrev pub carried_from : Installed → (old : List EntryRow) → Installed
 carried_from meter old = record {
   range = meter.range;
@@ -20,23 +21,25 @@ carried_from meter old = record {
   opening = last_after meter (entries_in old);
 }
 
--- The joined rows of both files. The rows of the new file are renumbered to follow the rows of the
--- old file.
+-- The joined entry rows of a meter in the old and the new database file. The rows of the new file
+-- are renumbered to follow the rows of the old file.
 abbrev pub joined_rows : (old new : List EntryRow) → List EntryRow
 joined_rows old new = map (moved_row (length old)) new ++ old
 
--- A table row of the new file, with its sequence number raised by `count` for the joined tables.
+-- A table row of the new database file, with its sequence number raised by `count` for the joined
+-- tables.
 abbrev pub moved_reported : (count : ℕ) → TableRow → TableRow
 moved_reported count reported = record reported { place = reported.place + count }
 
--- The table rows of a meter without the opening row, which is the last element of a list that
--- begins with the latest row.
+-- The table rows of a meter without the opening row (the first entry). The list begins with the
+-- latest row, so the opening row is its last element.
 abbrev pub without_opening : List TableRow → List TableRow
 without_opening entries = take (length entries - 1) entries
 
--- The joined tables of both files. The entries of the new file, without its opening, follow the
--- entries of the old file, and the energies add up. The last entry is the last entry of the new
--- file. A quarter hour in both files has one row in the joined tables, with the energy of both.
+-- The joined tables of a meter in an old and a new database file. The entries of the new file,
+-- without its opening (first) entry, follow the entries of the old file, and the energies add up.
+-- The last entry is the last entry of the new file. A quarter hour in both files has one row in the
+-- joined tables, with the energy of both.
 pub record AreOne (count : ℕ) (old new both : Tables) : Type 0 where
   pub entries : both.entries ≡ map (moved_reported count) (without_opening new.entries) ++ old.entries
   pub last : both.last ≡ new.last
@@ -45,8 +48,9 @@ pub record AreOne (count : ℕ) (old new both : Tables) : Type 0 where
   pub once : AreCountedOnce old.intervals new.intervals both.intervals
   pub ended : both.ended ≡ new.ended
 
--- Theorem: the joined tables of an old and a new file satisfy `AreOne`. The meter must be open at
--- the end of the old file, and the rules must accept its rows in both files.
+-- Theorem: the joined tables of an old and a new database file are those of one meter (`AreOne`).
+-- The meter must be open at the end of the old file, and the rules must accept its rows in both
+-- files.
 abbrev pub CarriedTablesAreOne : Type 0
 CarriedTablesAreOne = (meter : Installed) (old new : List EntryRow) → IsWellInstalled meter
     → AllFit meter old
@@ -55,8 +59,8 @@ CarriedTablesAreOne = (meter : Installed) (old new : List EntryRow) → IsWellIn
     → AreOne (length old) (tables_of meter old) (tables_of (carried_from meter old) new)
     (tables_of meter (joined_rows old new))
 
--- No entry of the new file, whether voided or not, raises the energy of both files above the limit
--- of one meter.
+-- No entry of the new database file, whether voided (cancelled) or not, raises the energy of both
+-- files above the limit of one meter.
 abbrev pub EntriesStayWithin : Installed → (old new : List EntryRow) → Type 0
 EntriesStayWithin meter old [] = Unit {0}
 EntriesStayWithin meter old (row ∷ rows) =
@@ -66,8 +70,8 @@ EntriesStayWithin meter old (row ∷ rows) =
     ≤ MAX_TOTAL)
     × EntriesStayWithin meter old rows
 
--- Theorem: the joined tables of the old and the new file are consistent, if the rules accept the
--- rows of each file and the energy stays within its limit.
+-- Theorem: the joined tables of a meter in the old and the new database file are consistent. The
+-- rules must accept the rows of each file, and the energy must stay within its limit.
 abbrev pub CarriedTablesAreFine : Type 0
 CarriedTablesAreFine = (meter : Installed) (old new : List EntryRow) → IsWellInstalled meter
     → AllFit meter old

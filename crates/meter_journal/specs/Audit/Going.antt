@@ -1,4 +1,4 @@
--- The progress of a check of a meter's tables.
+-- Definitions for the progress of a check of a meter's tables.
 use Rattle.std.specs.Prelude.{◌≡◌, ◌↔◌, ℕ, ◌-◌, ◌≤◌, List, [], ◌∷◌, ◌++◌, length, take, Option, Some, None, Err}
 use Rattle.interval_core.specs.declared.shares.Share.{Share}
 use Rattle.interval_core.specs.Account.{energy_of}
@@ -15,15 +15,16 @@ use Rattle.meter_journal.specs.Audit.Fitting.{AreReported, Tables, AreFine}
 use Rattle.meter_journal.specs.Audit.Passing.{IsSoundCheck, passed}
 use Rattle.meter_journal.specs.Audit.Laws.{HasTaken}
 
--- The invariant of a check in progress. The state of the check satisfies `IsSoundCheck`. The energy
--- of the interval rows that are still to be compared is at most the energy of the check.
+-- The invariant of a check in progress. The state of the check satisfies `IsSoundCheck`. The
+-- interval rows (energies by quarter hour) that are still to be compared have at most the energy
+-- that the check added up.
 pub record IsSoundProgress (meter : Installed) (progress : Progress) : Type 0 where
   pub check : IsSoundCheck meter progress.check
   pub within : energy_of progress.wanted.items ≤ progress.check.total
 
--- The check has passed the table rows `reported`, which begin with the latest. They encode entry
--- rows that the rules accept. The compared and the pending interval rows together are all interval
--- rows of the entries.
+-- The check of a meter has passed the table rows `reported`, the latest first. These rows encode
+-- entry rows that the rules accept. The compared interval rows (energies by quarter hour) and those
+-- still to be compared together are all interval rows of the entries.
 pub record HasGone (meter : Installed) (reported : List TableRow) (done : List Share)
     (progress : Progress) : Type 0 where
   pub rows : List EntryRow
@@ -31,30 +32,31 @@ pub record HasGone (meter : Installed) (reported : List TableRow) (done : List S
   pub reported_is : reported ≡ later_rows meter rows
   pub intervals : done ++ progress.wanted.items
       ≡ rows_of_steps (steps_after meter (entries_in rows))
-  -- As long as no interval row is pending, no interval row was removed.
+  -- If no interval row (the energy of a quarter hour) is pending (still to be compared), no
+  -- interval row was removed.
   pub begun : progress.wanted.items ≡ [] → done ≡ []
 
--- If no fault is reported, the check has passed the row. Otherwise the row is refused for the
--- reported fault.
+-- States that the check of a meter's tables has passed a row if no fault is reported. Otherwise the
+-- check refuses the row for the reported fault.
 abbrev pub GoesOver : Installed → Progress → TableRow → Progress → Option RowFault → Type 0
 GoesOver meter old row new None = (reported : List TableRow) (done : List Share)
     → HasGone meter reported done old → HasGone meter (row ∷ reported) done new
 GoesOver meter old row new (Some fault) = passed meter old.check row ≡ Err fault
 
--- The number of pending interval rows to which no later entry can add energy: all rows except the
--- last.
+-- The number of pending interval rows (still to be compared) to which no later entry can add
+-- energy: all rows except the last.
 abbrev pub settled_in : List Share → ℕ
 settled_in rows = length rows - 1
 
--- `drop_done` removes the pending interval rows to which no later entry can add energy. These rows
--- count as compared. The passed table rows are unchanged.
+-- `drop_done` counts the pending interval rows (still to be compared) as compared if no later entry
+-- can add energy to them. The passed table rows are unchanged.
 abbrev pub DropsDone : (old new : Progress) → Type 0
 DropsDone old new = (meter : Installed) (reported : List TableRow) (done : List Share)
     → HasGone meter reported done old
     → HasGone meter reported (done ++ take (settled_in old.wanted.items) old.wanted.items) new
 
--- The tables agree with the check: the compared and pending interval rows, the last valid entry,
--- the energy, and whether the meter was closed.
+-- The tables of a meter agree with the check of its entries: the interval rows (energies by quarter
+-- hour), the last valid entry, the energy, and whether the meter was closed.
 pub record Agrees (tables : Tables) (done : List Share) (progress : Progress) : Type 0 where
   pub intervals : tables.intervals ≡ done ++ progress.wanted.items
   pub last : tables.last ≡ progress.check.last
@@ -69,8 +71,8 @@ FinishedIsFine = (meter : Installed) (reported : List TableRow) (done : List Sha
     → tables.entries ≡ reported ++ opening_row meter.opening ∷ []
     → AreFine meter tables ↔ Agrees tables done progress
 
--- Theorem: after the check refuses a row, the rules accept no list of rows whose table rows include
--- this row and the rows before it.
+-- Theorem: if the check of a meter's tables refuses a row, the rules accept no list whose table
+-- rows include this row and the rows before it.
 abbrev pub RefusedIsNotFine : Type 0
 RefusedIsNotFine = (meter : Installed) (reported newer : List TableRow) (done : List Share)
     (progress : Progress) (row : TableRow) (fault : RowFault) → IsWellInstalled meter

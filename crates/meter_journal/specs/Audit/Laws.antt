@@ -1,4 +1,5 @@
--- Theorems about lists and tables of rows in which each row may follow the rows before it.
+-- Theorems about lists and tables of a meter's entry rows in which each row may follow the rows
+-- before it.
 use Rattle.std.specs.Prelude.{◌≡◌, ◌+◌, List, ◌∷◌, length, reverse, take, slice_get, Option, Some, Ok, Err, IsOk}
 use Rattle.energy_core.specs.declared.entries.Step.{Step}
 use Rattle.interval_core.specs.Account.{energy_of}
@@ -17,14 +18,14 @@ use Rattle.meter_journal.specs.Audit.Fitting.{RowFits, AllFit, Tables, tables_of
 use Rattle.meter_journal.specs.Audit.Passing.{passed}
 
 -- Theorem: the rules accept each row of a lawful journal after the rows before it, also voided
--- rows. A journal is a meter's history.
+-- (cancelled) rows. A journal is a meter's history.
 abbrev pub RowsOfJournalsFit : Type 0
 RowsOfJournalsFit = (meter : Installed) (lines : Journal) → IsWellInstalled meter
     → AreFitting meter lines
     → AllFit meter (rows_of meter.opening lines)
 
--- The valid (not voided) rows of a list form a lawful journal, a history that the rules accept.
--- This journal has the same valid entries as the list.
+-- The valid (not voided) rows of a list alone are a lawful journal, a history that the rules
+-- accept. This journal has the same valid entries as the list.
 pub record StandsAlone (meter : Installed) (rows : List EntryRow) : Type 0 where
   pub fit : AreFitting meter (entering (standing rows))
   pub entries : entries_of meter.opening (entering (standing rows)) ≡ entries_in rows
@@ -36,8 +37,8 @@ FittingRowsStandAlone = (meter : Installed) (rows : List EntryRow) → AllFit me
     → StandsAlone meter rows
 
 -- The tables report the state of a lawful journal (a history that the rules accept): its last
--- entry, energy, interval rows, and whether the meter was closed. The interval rows add up to the
--- energy.
+-- entry, energy, interval rows (energies by quarter hour), and whether the meter was closed. The
+-- interval rows add up to the energy.
 pub record AreLawful (meter : Installed) (tables : Tables) : Type 0 where
   pub lines : Journal
   pub fit : AreFitting meter lines
@@ -58,7 +59,7 @@ LawfulTablesAreFine = (meter : Installed) (lines : Journal) → IsWellInstalled 
     → AreFitting meter lines
     → AreFine meter (tables_of meter (rows_of meter.opening lines))
 
--- The state of a check that has passed a given list of rows.
+-- The state of the check of a meter's entry rows after a given list of rows passed.
 abbrev pub check_after : Installed → List EntryRow → Check
 check_after meter rows = record {
   place = length rows + 1;
@@ -84,14 +85,16 @@ pub record IsTaken (meter : Installed) (rows : List EntryRow) (reported : TableR
   pub taken : HasTaken meter (row ∷ rows) after
   pub step_is : step ≡ step_past meter.range (last_after meter (entries_in rows)) row
 
--- Theorem: a table row that passes the check encodes an entry row that the rules accept.
+-- Theorem: a table row that passes the check of a meter's tables encodes an entry row that the
+-- rules accept.
 abbrev pub PassedRowsFit : Type 0
 PassedRowsFit = (meter : Installed) (rows : List EntryRow) (check : Check) (reported : TableRow)
     (after : Check) (step : Option Step) → IsWellInstalled meter → HasTaken meter rows check
     → passed meter check reported ≡ Ok (after, step)
     → IsTaken meter rows reported after step
 
--- Theorem: the table row of an entry row that the rules accept passes the check.
+-- Theorem: the table row of an entry row that the rules accept passes the check of a meter's
+-- tables.
 abbrev pub FittingRowsPass : Type 0
 FittingRowsPass = (meter : Installed) (rows : List EntryRow) (check : Check) (row : EntryRow)
     → IsWellInstalled meter → HasTaken meter rows check → RowFits meter rows row

@@ -1,5 +1,5 @@
--- The rules by which a table row passes the check after the rows before it, or is refused for its
--- first fault.
+-- The rules by which a row of a meter's table passes the check after the rows before it, or is
+-- refused for its first fault.
 use Rattle.std.specs.Prelude.{ℕ, ◌+◌, ◌^◌, ◌<◌, ◌≤◌, ◌==◌, nat_lt, nat_le, Bool, true, false, not, ◌&&◌, Option, Some, None, Result, Ok, Err, if◌then◌else◌}
 use Rattle.std.specs.Ordering.{int_eq}
 use Rattle.energy_core.specs.declared.limits.TheConstants.{MAX_CEILING, MAX_TOTAL}
@@ -29,14 +29,14 @@ use Rattle.meter_journal.specs.declared.audit.rows.RowKind.{RowKind}
 use Rattle.meter_journal.specs.declared.audit.rows.RowKind.TheVariants as row_kind
 use Rattle.meter_journal.specs.declared.audit.rows.TableRow.{TableRow}
 
--- The meter may be checked: its range, its ceiling (maximum power) and its opening entry are within
--- their limits.
+-- The meter may be checked: its range, its ceiling (maximum power) and its opening (first) entry
+-- are within their limits.
 pub record MayBeChecked (meter : Installed) : Type 0 where
   pub range : IsRange meter.range
   pub ceiling : (1 ≤ meter.ceiling) × (meter.ceiling ≤ MAX_CEILING)
   pub installed : IsWellInstalled meter
 
--- The invariant of the state of a check after any rows of a meter.
+-- The limits that the state of a check keeps after any rows of a meter.
 pub record IsSoundCheck (meter : Installed) (check : Check) : Type 0 where
   pub place : check.place < 2 ^ 63
   pub total : check.total ≤ MAX_TOTAL
@@ -63,7 +63,7 @@ kind_in row_kind.Closing = Some kind.Closing
 kind_in row_kind.Reset = Some kind.Reset
 kind_in row_kind.Rescale = Some kind.Rescale
 
--- Whether entries of this kind (resets and rescales) set the counter to another count.
+-- True if entries of this kind (resets and rescales) set the counter to another count.
 abbrev pub is_change : EntryKind → Bool
 is_change kind.Reset = true
 is_change kind.Rescale = true
@@ -75,21 +75,21 @@ entry_in k row =
     if is_change k then entry.Change row.moment row.raw row.after row.sf
     else entry.Step row.moment row.raw row.rolls
 
--- Whether a column is not 0 although entries of the kind `k` do not use it.
+-- True if a column is not 0 although entries of the kind `k` do not use it.
 abbrev pub has_unused : EntryKind → TableRow → Bool
 has_unused k row = if is_change k then not (row.rolls == 0) else not (row.after == 0)
 
--- The kind of an entry is a rescale.
+-- True if the kind of an entry is a rescale.
 abbrev pub is_rescale : EntryKind → Bool
 is_rescale kind.Rescale = true
 is_rescale _ = false
 
--- The row changes the scale factor although it is not a rescale.
+-- True if the row changes the counter's scale factor although it is not a rescale.
 abbrev pub is_off_scale : Check → EntryKind → TableRow → Bool
 is_off_scale check k row = not (is_rescale k) && not (int_eq row.sf check.last.sf)
 
--- The kind of a row whose sequence number is correct, if the row may follow and its columns suit
--- its kind. Otherwise, the first fault.
+-- The kind of a row whose sequence number is correct, if the row may follow the rows before it and
+-- its columns suit its kind. Otherwise, the first fault.
 abbrev pub shape_by : Check → TableRow → Option EntryKind → Result EntryKind RowFault
 shape_by check row None = Err fault.OpenedAgain
 shape_by check row (Some k) =
@@ -113,12 +113,12 @@ fault_by rolls (verdict.Accepted wanted step) =
     if rolls == wanted then None else Some (fault.Rolls wanted)
 
 -- The values by which a check judges a reading: the meter's ceiling (maximum power) and the total
--- energy so far.
+-- energy of the rows before the reading.
 abbrev pub terms_of : Installed → Check → Terms
 terms_of meter check = record { ceiling = meter.ceiling; total = check.total }
 
--- Why the rules reject a row as a valid (not voided) reading. `None` if the rules accept the
--- reading, or if the row's kind is not a reading.
+-- The reason why the rules reject a row as a valid (not voided) reading. `None` if the rules accept
+-- the reading, or if the row's kind is not a reading.
 abbrev pub reading_fault : Installed → Check → EntryKind → TableRow → Option RowFault
 reading_fault meter check k row =
     if is_reading k
@@ -126,13 +126,14 @@ reading_fault meter check k row =
     (reading_at check.last row.moment row.raw))
     else None
 
--- Why the rules reject a voided reading that directly follows a valid row. `None` if the rules
--- accept the reading, or if the row before is voided.
+-- The reason why the rules reject a voided (cancelled) reading directly after a valid row. `None`
+-- if the rules accept the reading, or if the row before it is voided.
 abbrev pub stood_fault : Installed → Check → EntryKind → TableRow → Option RowFault
 stood_fault meter check k row = if check.stands then reading_fault meter check k row else None
 
--- Why a voided reading can't have been accepted when it was recorded. It shows 0 or a count not
--- below the range, is not later than the last valid entry, or has more than one rollover.
+-- The reason why a voided (cancelled) reading can't have been accepted when it was recorded. The
+-- reading shows 0 or a count not below the range, is not later than the last valid entry, or has
+-- more than one rollover.
 abbrev pub voided_fault : Installed → Check → TableRow → Option RowFault
 voided_fault meter check row =
     if row.raw == 0 then Some (fault.Held cause.NotAccumulated) else
@@ -140,18 +141,18 @@ voided_fault meter check row =
     if nat_le row.moment check.last.at then Some (fault.Held cause.NotLater) else
     if nat_lt 1 row.rolls then Some (fault.Rolls 1) else None
 
--- A fault as an error, or the given result if there is no fault.
+-- The fault as an error, or the given result if no fault was found.
 abbrev pub unless : {X : Type 0} → Option RowFault → Result X RowFault → Result X RowFault
 unless (Some f) answer = Err f
 unless None answer = answer
 
--- The energy of the step (between two entries) in mWh, or 0 without a step.
+-- The energy of a step (between two consecutive entries) in mWh, or 0 without a step.
 abbrev pub energy_in : Option Step → ℕ
 energy_in None = 0
 energy_in (Some step) = step.mwh
 
--- The state of the check after an entry was recorded, with the step to the entry. If the entry was
--- refused, the fault as an error.
+-- The state of the check after an entry was recorded, with the energy since the last valid entry.
+-- If the entry was refused, the fault.
 abbrev pub following : Check → EntryKind → TableRow → Result (Last × Step) TermFault
     → Result (Check × Option Step) RowFault
 following check k row (Err f) = Err (fault.Refused f)
@@ -173,7 +174,8 @@ stood meter check k row =
     unless (reading_fault meter check k row)
     (following check k row (entered meter.range check.total check.last (entry_in k row)))
 
--- The state of the check after a voided row, which has no step, or the first fault of the row.
+-- The state of the check after a voided (cancelled) row, which adds no energy, or the first fault
+-- of the row.
 abbrev pub voided : Installed → Check → EntryKind → TableRow
     → Result (Check × Option Step) RowFault
 voided meter check k row =
@@ -181,8 +183,8 @@ voided meter check k row =
     (unless (stood_fault meter check k row)
     (Ok (record check { place = row.place; stands = false }, None)))
 
--- The state of the check after a valid or voided row of the given kind, or the first fault of the
--- row.
+-- The state of the check after a valid or voided (cancelled) row of the given kind, or the first
+-- fault of the row.
 abbrev pub passed_by : Installed → Check → TableRow → Result EntryKind RowFault
     → Result (Check × Option Step) RowFault
 passed_by meter check row (Err f) = Err f
@@ -190,6 +192,6 @@ passed_by meter check row (Ok k) =
     if row.is_voided then voided meter check k row else stood meter check k row
 
 -- The state of the check after a table row, with the step to the row's entry (the energy since the
--- last valid entry), or the first fault. A voided row has no step.
+-- last valid entry), or the first fault. A voided (cancelled) row has no step.
 abbrev pub passed : Installed → Check → TableRow → Result (Check × Option Step) RowFault
 passed meter check row = passed_by meter check row (shape_of check row)

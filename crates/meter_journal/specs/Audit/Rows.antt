@@ -1,4 +1,4 @@
--- The rows of a meter in the table of entries.
+-- The rows that the database table of entries has for a meter.
 use Rattle.std.specs.Prelude.{ℕ, ℤ, false, not, List, [], ◌∷◌, ◌++◌}
 use Rattle.energy_core.specs.declared.entries.Last.{Last}
 use Rattle.energy_core.specs.declared.entries.Entry.{Entry}

@@ -32,31 +32,31 @@ pub fn carried_journals_fit()
     ensures { CarriedJournalsFit }
 {}
 
-/// Theorem: lines that the rules accept in a meter's journal in the old file may also be recorded
-/// in a new file, if they void no entry of the old file. The journals of both files together then
-/// equal the journal of a single file.
+/// Theorem: lines that the rules accept in a meter's old database file may also be recorded in a
+/// new file. The lines must void (cancel) no entry of the old file. The journals of both files
+/// together then equal the journal of a single file.
 pub fn later_lines_are_carried()
     ensures { LaterLinesAreCarried }
 {}
 
-/// Theorem: the tables of the old and the new file together have the rows, the energy and the
-/// interval rows of one file. Each quarter hour and each civil day counts once.
+/// Theorem: the tables that an old and a new file have for a meter together have the rows, the
+/// energy and the interval rows of one file. Each quarter hour and each civil day counts once.
 pub fn carried_tables_are_one()
     ensures { CarriedTablesAreOne }
 {
     shares_add_up();
 }
 
-/// Theorem: the tables of the old and the new file together are consistent, if the rules accept the
-/// rows of each file and the energy stays within its limit.
+/// Theorem: a meter's tables in the old and the new file together are consistent. The rules must
+/// accept the rows of each file, and the energy must stay within its limit.
 pub fn carried_tables_are_fine()
     ensures { CarriedTablesAreFine }
 {}
 
 /// Theorem: if a meter continues in each file from the file before it, the tables of all files
-/// together report the state of one lawful journal. The tables of each file must be consistent. The
-/// state consists of the last entry, the energy, the interval rows, and whether the meter was
-/// closed.
+/// report the state of one history that the rules accept. The tables of each file must be
+/// consistent. The state consists of the last entry, the energy, the interval rows, and whether the
+/// meter was closed.
 pub fn files_are_one_history()
     ensures { FilesAreOneHistory }
 {

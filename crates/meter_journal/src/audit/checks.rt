@@ -58,8 +58,8 @@ fn is_off_scale(check: &Check, kind: EntryKind, row: &TableRow) -> bool
     }
 }
 
-/// Returns the kind of a row, or the first fault. The row needs the next sequence number, and
-/// columns that its kind allows.
+/// Returns the kind of an entry row, or the row's first fault. The row needs the next sequence
+/// number, and columns that its kind allows.
 fn shape(check: &Check, row: &TableRow) -> Result<EntryKind, RowFault>
     requires { check.now.place < 2 ^ 63 }
     ensures { result ≡ passing.shape_of check.now row.now }
@@ -127,8 +127,8 @@ fn reading_fault(
     }
 }
 
-/// Returns why the rules reject a voided reading that directly follows a valid row. Returns `None`
-/// if the rules accept the reading, or if the row before is voided.
+/// Returns why the rules reject a voided (cancelled) reading that directly follows a valid row.
+/// Returns `None` if the rules accept the reading, or if the row before is voided.
 fn stood_fault(
     meter: &Installed,
     check: &Check,
@@ -146,8 +146,8 @@ fn stood_fault(
     }
 }
 
-/// Returns why a voided reading can't have been accepted when it was recorded, whether or not the
-/// row before it is valid. Returns `None` if there is no such reason.
+/// Returns why a voided (cancelled) reading can't have been accepted when it was recorded, whether
+/// or not the row before it is valid. Returns `None` if there is no such reason.
 fn voided_fault(meter: &Installed, check: &Check, row: &TableRow) -> Option<RowFault>
     ensures { result ≡ passing.voided_fault meter.now check.now row.now }
 {
@@ -208,8 +208,8 @@ fn check_valid_row(
 }
 
 /// Checks the next row. Returns the state of the check after the row, and the step to the row's
-/// entry (the energy since the last valid entry). A voided row has no step. On error, returns the
-/// first fault of the row.
+/// entry (the energy since the last valid entry). A voided (cancelled) row has no step. On error,
+/// returns the first fault of the row.
 ///
 /// To continue after a refused row, set `place` of the check to the row's sequence number, and
 /// change nothing else.

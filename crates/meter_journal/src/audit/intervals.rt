@@ -15,13 +15,14 @@ pub enum IntervalFault {
     /// The table has an interval row (the energy of a quarter hour) that was not computed from the
     /// entries.
     Unwanted { start: u64, has: u64 },
-    /// The interval row in the table has an energy other than the computed energy.
+    /// The table has the interval row of a quarter hour, but with an energy other than the computed
+    /// energy.
     Differs { start: u64, has: u64, wanted: u64 },
 }
 
-/// The first difference between computed and stored interval rows, after `same` equal rows.
-/// `wanted_done` and `found_done` count the computed and the stored rows up to and including the
-/// difference.
+/// The first difference between computed and stored interval rows (energies by quarter hour), after
+/// `same` equal rows. `wanted_done` and `found_done` count the computed and the stored rows up to
+/// and including the difference.
 #[derive(Clone, Copy, PartialEq, Eq)]
 pub struct IntervalDifference {
     pub same: usize,
@@ -30,8 +31,8 @@ pub struct IntervalDifference {
     pub found_done: usize,
 }
 
-/// Returns how a computed and a stored interval row differ, or `None` if they are equal. If the
-/// starts of both rows differ, only the earlier row is reported.
+/// Returns how a computed and a stored interval row (the energy of a quarter hour) differ, or
+/// `None` if they are equal. If the starts of both rows differ, only the earlier row is reported.
 fn between(wanted: &Share, found: &Share) -> Option<IntervalFault>
     ensures { result ≡ fault_between wanted.now found.now }
 {

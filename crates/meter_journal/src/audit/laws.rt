@@ -9,7 +9,7 @@ ghost use Rattle.meter_journal.specs.Audit.Going.{FinishedIsFine, RefusedIsNotFi
 use crate::interval_rows_add_up;
 
 /// Theorem: the rules accept each row of a lawful journal after the rows before it, also voided
-/// rows. A journal is a meter's history.
+/// (cancelled) rows. A journal is a meter's history.
 pub fn rows_of_journals_fit()
     ensures { RowsOfJournalsFit }
 {}
@@ -34,17 +34,20 @@ pub fn lawful_tables_are_fine()
     ensures { LawfulTablesAreFine }
 {}
 
-/// Theorem: a table row that passes the check encodes an entry row that the rules accept.
+/// Theorem: a table row that passes the check of a meter's tables encodes an entry row that the
+/// rules accept.
 pub fn passed_rows_fit()
     ensures { PassedRowsFit }
 {}
 
-/// Theorem: the table row of an entry row that the rules accept passes the check.
+/// Theorem: the table row of an entry row that the rules accept passes the check of a meter's
+/// tables.
 pub fn fitting_rows_pass()
     ensures { FittingRowsPass }
 {}
 
-/// Theorem: two different lists of entry rows that the rules accept never have the same table rows.
+/// Theorem: two different lists of a meter's entry rows, both accepted by the rules, never have the
+/// same rows in the database table.
 pub fn rows_are_distinct()
     ensures { RowsAreReportedApart }
 {}
@@ -55,8 +58,8 @@ pub fn finished_is_fine()
     ensures { FinishedIsFine }
 {}
 
-/// Theorem: after the check refuses a row, no table that contains this row and the rows before it
-/// is consistent.
+/// Theorem: after the check of a meter's tables refuses a row, no table that contains this row and
+/// the rows before it is consistent.
 pub fn refused_is_not_fine()
     ensures { RefusedIsNotFine }
 {}

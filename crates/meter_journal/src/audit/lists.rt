@@ -10,7 +10,8 @@ use crate::audit::faults::RowFault;
 use crate::audit::laws::passed_rows_fit;
 use crate::audit::rows::TableRow;
 
-/// The index of the first row that may not follow the rows before it, and the reason.
+/// The index of the first entry row that the rules do not accept after the rows before it, and the
+/// reason.
 #[derive(Clone, Copy, PartialEq, Eq)]
 pub struct RefusedRow {
     pub index: usize,

@@ -14,17 +14,17 @@ use crate::{Installed, append_shares};
 use interval_core::{Share, shares_add_up};
 use std::alloc::{AllocError, Global};
 
-/// The state of the check after an entry row, and the pending interval rows. These rows were
-/// computed from the entries and have not been compared with the table yet. The next entry may add
-/// energy only to the last pending row.
+/// The state of a meter's check after an entry row, and the pending interval rows (energies by
+/// quarter hour). The pending rows were computed from the entries and have not been compared with
+/// the table yet. The next entry may add energy only to the last pending row.
 #[derive(Drop)]
 pub struct Progress {
     pub check: Check,
     pub wanted: Vec<Share>,
 }
 
-/// Begins a check after the opening row (the meter's first entry). Stores the allocator for later,
-/// and allocates nothing.
+/// Begins a check of a meter after the opening row (the meter's first entry). Stores the allocator
+/// for later, and allocates nothing.
 pub fn start(alloc: Global, meter: &Installed) -> Progress
     requires { MayBeChecked meter.now }
     ensures sound { IsSoundProgress meter.now result }
@@ -39,7 +39,8 @@ pub fn start(alloc: Global, meter: &Installed) -> Progress
 /// Checks the next entry row. Returns the row's fault if the row is refused. In this case, only the
 /// check's sequence number advances.
 ///
-/// The only error is out of memory. The pending interval rows are unspecified after an error.
+/// The only error is out of memory. The interval rows (energies by quarter hour) still to be
+/// compared are unspecified after an error.
 pub fn take_row(
     meter: &Installed,
     progress: &mut Progress,
@@ -68,7 +69,7 @@ pub fn take_row(
     }
 }
 
-// Removes all pending interval rows except the last row.
+// Removes all pending interval rows (still to be compared) except the last row.
 fn leave_last(wanted: &mut Vec<Share>)
     ensures { let done = settled_in wanted.old.items in
         wanted.new.items ≡ drop done wanted.old.items }
@@ -81,8 +82,8 @@ fn leave_last(wanted: &mut Vec<Share>)
     }
 }
 
-/// Removes the pending interval rows to which no later entry can add energy: all rows except the
-/// last.
+/// Removes the pending interval rows (still to be compared) to which no later entry can add energy:
+/// all rows except the last.
 pub fn drop_done(progress: &mut Progress)
     ensures sound { (meter : TheMeter) → IsSoundProgress meter progress.old
         → IsSoundProgress meter progress.new }

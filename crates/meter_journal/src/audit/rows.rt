@@ -1,4 +1,4 @@
-//! The rows of the table of entries, as they were read from the store.
+//! The rows of the database table of entries, as a query returned them.
 ghost use Rattle.std.specs.Prelude.{◌≡◌};
 ghost use Rattle.meter_journal.specs.Audit.Passing as passing;
 
@@ -33,7 +33,7 @@ pub struct TableRow {
     pub rolls: u8,
     pub after: u32,
     pub sf: i16,
-    /// Whether the table of voids has a row that names this entry.
+    /// Whether the table of voids (cancellations) has a row that names this entry.
     pub is_voided: bool,
 }
 

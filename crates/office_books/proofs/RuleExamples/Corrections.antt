@@ -1,4 +1,5 @@
--- Worked examples of entries by hand, resets, rescales, closings and exchanges.
+-- Worked examples of entries by hand, counter resets, changes of the scale factor, and closings and
+-- exchanges of meters.
 use Rattle.std.proofs.Common.{◌≡◌, pos, true, false, [], ◌∷◌, Some, None, Ok, Err, refl}
 use Rattle.energy_core.specs.Value.{unit_of}
 use Rattle.energy_core.specs.declared.verdicts.Cause.TheVariants as cause
@@ -92,7 +93,7 @@ intervals_of_the_new : rows_of_meter (facts_of (Fed 3700 (manual 45 0 None) ∷ 
 unfolding unit_of frames frames_in rest rest_in is_garbled is_over is_closed stream next_id frames_at ending_at settled_by pending outcomes_at
 intervals_of_the_new = refl
 
--- A rescale of a counter, then a start of a poll.
+-- A change of a counter's scale factor, then a start of a poll.
 abbrev rescaled : History
 rescaled = Fed 2800 (start three_words) ∷ Fed 2000 (rescale 5200 520 (pos 1)) ∷ answered
 

@@ -14,7 +14,7 @@ use Rattle.office_books.specs.Refusals.{asks_bad_field, asks_bad_scale, is_crowd
 use Rattle.office_books.specs.Sessions.{Slot}
 use Rattle.office_books.proofs.RuleExamples.Samples.{inv, main, m1, m2, full_range}
 
--- The limits of a device.
+-- Examples of the limits of a new device's Modbus unit, timeout and number of concurrent polls.
 
 abbrev adds : (unit timeout window : ℕ) → Bool
 adds unit timeout window =
@@ -29,7 +29,8 @@ timeouts = (refl, refl, refl, refl)
 windows : (adds 1 5 0 ≡ true) × (adds 1 5 1 ≡ false) × (adds 1 5 16 ≡ false) × (adds 1 5 17 ≡ true)
 windows = (refl, refl, refl, refl)
 
--- The limits of an accounting register.
+-- Examples of the limits of a new accounting register's function code, Modbus address and scale
+-- factor.
 
 abbrev registers : (function address : ℕ) → GivenScale → Bool
 registers function address scale =
@@ -59,7 +60,7 @@ scales sf =
 scale_factors : (scales (negsuc 3) ≡ true) × (scales (negsuc 2) ≡ false) × (scales (pos 3) ≡ false) × (scales (pos 4) ≡ true)
 scale_factors = (refl, refl, refl, refl)
 
--- The limits of a meter.
+-- Examples of the limits of a new meter's range, count and greatest power.
 
 abbrev installs : (range raw ceiling : ℕ) → Bool
 installs range raw ceiling =
@@ -112,7 +113,7 @@ installs_after count =
 installations : (installs_after 4095 ≡ false) × (installs_after 4096 ≡ true)
 installations = (refl, refl)
 
--- The limits of timestamps, poll numbers and request numbers.
+-- Examples of the limits of timestamps, poll numbers and request numbers.
 
 -- The greatest timestamp is the first second of 2100.
 last_moment : moment_limit ≡ 4102444800

@@ -1,5 +1,5 @@
--- Worked examples of requests: new requests, retries, requests whose key is stored with other
--- bytes, and the order of refusals.
+-- Worked examples of requests: new requests, retries, requests that reuse an idempotency key with
+-- other bytes, and the order of the checks that refuse requests.
 use Rattle.std.proofs.Common.{◌≡◌, [], ◌∷◌, Some, None, Ok, Err, refl}
 use Rattle.energy_core.specs.Value.{unit_of}
 use Rattle.mb_wire.specs.Frames.{frames, frames_in, rest, rest_in, is_garbled}

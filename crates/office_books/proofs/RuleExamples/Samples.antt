@@ -17,7 +17,7 @@ use Rattle.office_books.specs.History.{History, Opened, Fed, facts_of}
 use Rattle.office_books.specs.Refusals.{decision_of}
 use Rattle.office_books.specs.Notes.{notes_after, outgoing_after}
 
--- Names of a device, an accounting register, a meter and a caller.
+-- Example names of a device, an accounting register, a meter and a caller.
 
 abbrev pub inv : List ℕ
 inv = 105 ∷ 110 ∷ 118 ∷ []
@@ -34,7 +34,8 @@ m2 = 109 ∷ 50 ∷ []
 abbrev pub desk : List ℕ
 desk = 100 ∷ 101 ∷ 115 ∷ 107 ∷ []
 
--- Events of a device, and commands.
+-- Example events that add a device, an accounting register and a meter, and that connect and poll
+-- the device.
 
 abbrev pub device : (name : List ℕ) → (window : ℕ) → Event
 device name window = event.Command (command.AddDevice (record { name = Some name; unit = 1; timeout = 5; window = window }))
@@ -112,7 +113,7 @@ exchange last = event.Command (exchange_of last)
 abbrev pub asked : (request : List ℕ) → (last : ℕ) → Event
 asked request last = event.Asked (record { caller = Some desk; number = 7; request = request; command = exchange_of last })
 
--- Histories of accepted events.
+-- Example histories of accepted events.
 
 -- The events that add a device, an accounting register and a meter, and that start a poll.
 abbrev pub started : History
@@ -140,7 +141,8 @@ shows id counter = bytes ((0 ∷ id ∷ 0 ∷ 0 ∷ 0 ∷ 7 ∷ 1 ∷ 3 ∷ 4 �
 abbrev pub read : (at id : ℕ) → (counter : List ℕ) → History → History
 read at id counter past = Fed at (shows id counter) ∷ Fed at (start two_words) ∷ past
 
--- The notifications and sent bytes after an event, and the state of a meter after a history.
+-- The notifications and sent bytes after an event, and the state of a meter after a list of
+-- accepted events.
 
 abbrev pub reported : History → (at : ℕ) → Event → List Note
 reported past at e = notes_after past at e (decision_of past at e)

@@ -1,4 +1,4 @@
--- Worked examples of voids (cancelled readings), and of the entries that may be voided.
+-- Worked examples of voided (cancelled) readings, and of the entries that may be voided.
 use Rattle.std.proofs.Common.{◌≡◌, ℕ, pos, true, false, [], ◌∷◌, Some, None, Ok, Err, refl}
 use Rattle.std.specs.Option.{option_map}
 use Rattle.energy_core.specs.Value.{unit_of}
@@ -79,8 +79,8 @@ with_its_neighbours : entry_at (facts_of two) m1 2 ≡ Some (record {
 unfolding unit_of frames frames_in rest rest_in is_garbled is_over is_closed stream next_id frames_at ending_at settled_by pending outcomes_at
 with_its_neighbours = refl
 
--- A meter with a ceiling of 4 W. It shows 10 counts at 0 s, 12 counts at 900 s and 14 counts at
--- 1800 s.
+-- A meter with a greatest power of 4 W. It shows 10 counts at 0 s, 12 counts at 900 s and 14 counts
+-- at 1800 s.
 abbrev slow : History
 slow = read 1800 1 (0 ∷ 0 ∷ 0 ∷ 14 ∷ []) (read 900 0 (0 ∷ 0 ∷ 0 ∷ 12 ∷ []) (house 0 10 (pos 0) 4 full_range))
 
@@ -96,7 +96,7 @@ the_last_may_go : decision_of slow 4000 (void 3) ≡ Ok (answer.Done done.Void)
 unfolding unit_of frames frames_in rest rest_in is_garbled is_over is_closed stream next_id frames_at ending_at settled_by pending outcomes_at
 the_last_may_go = refl
 
--- The readings 4294967290 at 1900 s and 104 at 2800 s, and the void of the first reading.
+-- The readings 4294967290 at 1900 s and 104 at 2800 s, and the cancellation of the first reading.
 abbrev turned : History
 turned = Fed 4000 (void 2)
     ∷ read 2800 1 (0 ∷ 0 ∷ 0 ∷ 104 ∷ []) (read 1900 0 (255 ∷ 255 ∷ 255 ∷ 250 ∷ []) (house 1000 4294967200 (pos 0) 100000 full_range))

@@ -112,8 +112,8 @@ before_at at [] i slot all there = absurd (cc)
 before_at at (l ∷ slots) zero slot all there = let e : l ≡ slot = cc in subst (λ (x : sessions.Slot). none_later at x.present) e all.0
 before_at at (l ∷ slots) (suc i) slot all there = before_at at slots i slot all.1 there
 
--- If a command starts polls, then the records that it adds are the poll records defined for the
--- slot of its device. The same holds for its frames and its answer.
+-- If a command starts polls, then the poll records, the request frames and the answer of the
+-- command are those that are defined for its device's connection.
 pub added_there : (number at : ℕ) (slots : List sessions.Slot) (known : List Fact) (c : Command) (slot : sessions.Slot) → is_start c ≡ true
     → slot_of slots (sessions.started_on c) ≡ Some slot → added_by number at slots known c ≡ polls_of number at (spans_by known c) slot
 added_there number at slots known (command.AddDevice c) slot h found = absurd (cc)
@@ -140,8 +140,8 @@ answered_there at slots known c slot h found =
     sym (cond-true (is_start c) _ _ h
     ∙ ap (λ (o : Option sessions.Slot). answers.Started (next_poll known) (length (sends_from (next_poll known) at (spans_by known c) o)) (reads_in_all known c)) found)
 
--- If a command starts polls on the device of a slot, then the slot after the command has the
--- started reads.
+-- If a command starts polls on the device of a slot (a device with its connection), then the slot
+-- after the command includes these polls.
 named_slot : (number at : ℕ) (spans : List ReadSpan) (c : Command) (slot : sessions.Slot) (present : Option (List session.Event))
     → is_named (sessions.started_on c) slot.device.name ≡ true
     → started_on number at spans c slot present ≡ sent_from at slot (sends_at number at slot.device present spans) present
@@ -225,8 +225,8 @@ pub found_named : (slots : List sessions.Slot) (given : Option (List ℕ)) (slot
     → is_named given slot.device.name ≡ true
 found_named slots given slot found = find_passes (λ (l : sessions.Slot). is_named given l.device.name) slots slot found
 
--- If the rules accept the records after a command, then they accept the poll records that are
--- computed from the slot of the command's device.
+-- If the rules accept all records after a command that starts polls, then they also accept the poll
+-- records computed from the device's connection.
 pub polls_lawful : (at : ℕ) (slots : List sessions.Slot) (known : List Fact) (c : Command) (replies : List Fact) (slot : sessions.Slot) → is_start c ≡ true
     → slot_of slots (sessions.started_on c) ≡ Some slot → AreLawful (facts_obeyed at slots known c replies)
     → AreLawful (with_facts (polls_of (next_poll known) at (spans_by known c) slot ++ replies) known)

@@ -49,8 +49,8 @@ fed_is past at (event.Asked asked) c replies is kept =
     ap (λ (fs : List Fact). reverse (added asked.command ++ fs) ++ facts_of past) kept
     ∙ ap (λ (x : Command). reverse (added x ++ replies) ++ facts_of past) same
 
--- If an event requests a command, then the device slots after the event equal the slots after the
--- command.
+-- If an event requests a command, then the device slots (devices with their connections) after the
+-- event equal the slots after the command.
 map_same : (f g : sessions.Slot → sessions.Slot) → ((slot : sessions.Slot) → f slot ≡ g slot) → (slots : List sessions.Slot) → map f slots ≡ map g slots
 map_same f g h [] = refl
 map_same f g h (slot ∷ slots) = ap (λ l. l ∷ map f slots) (h slot) ∙ ap (λ ls. g slot ∷ ls) (map_same f g h slots)
@@ -123,8 +123,8 @@ lawful_fed law past at e c replies is_past accepted is kept planned =
     subst AreLawful (fed_is past at e c replies is kept)
     (law (Fed at e ∷ past) (accepted, is_past.accepted) (subst PutsPlanned (sym is) planned, is_past.planned))
 
--- If a command starts no polls, then it names no device to poll. Therefore the existing slots are
--- unchanged.
+-- If a command starts no polls, then the command names no device to poll, and the slots
+-- (connections) of the existing devices are unchanged.
 idle_events : (c : Command) → is_start c ≡ false → sessions.started_on c ≡ None
 idle_events (command.AddDevice c) h = refl
 idle_events (command.PutList c) h = refl
@@ -175,7 +175,8 @@ idle_sent slots facts number at c h =
     sym (ap (λ (g : Option (List ℕ)). frames_from number at (spans_by facts c) (slot_of slots g)) (idle_events c h)
     ∙ none_from number at (spans_by facts c) slots)
 
--- After a slot for a new device is added, the slots in memory still agree with the devices.
+-- After a slot (the state of a connection) is added for a new device, the slots in memory still
+-- agree with the list of devices.
 keeps_push : (now : List Slot) (kept : List sessions.Slot) (new : Slot) (slot : sessions.Slot) → KeepsSlots now kept → KeepsSlot new slot
     → KeepsSlots (now ++ new ∷ []) (kept ++ slot ∷ [])
 keeps_push [] [] new slot keeps this = (this, tt)
@@ -196,8 +197,8 @@ pub ok_any : {T : Type 0} (P : Type 0) (result : Result T BooksFault) → P → 
 ok_any P (Ok x) p = p
 ok_any P (Err why) p = tt
 
--- If a command starts no polls, its records are written and a new device gets a slot, then the
--- command is executed correctly.
+-- Suppose that a command starts no polls. If its records are written, and a new device gets a slot
+-- for its connection, then the command is executed correctly.
 pub obeys_idle : (old new : Ledger) (after : List Slot) (slots more : List sessions.Slot) (known : List Fact) (at : ℕ) (c : Command) (replies : List Fact)
     (result : Result Done BooksFault) → is_start c ≡ false → slots_added (Some c) ≡ more → OnOk result (KeepsSlots after (slots ++ more))
     → Moves old new known (facts_obeyed at slots known c replies) result → IfOk result (λ done. done.answer ≡ answers.Done (kind_of c))

@@ -7,7 +7,8 @@ use Rattle.office_books.specs.Ledgers.{Ledger, Books, Moves, with_facts}
 use Rattle.office_books.proofs.Moving.{passes, settles}
 use Rattle.office_core.specs.Commands.Effects.{Tries}
 
--- The guarantees of `book`, the store's write, include the guarantees of `Tries`.
+-- The guarantees of a write to the store imply the weaker guarantees of a write that follows
+-- lookups.
 pub asked : (old new : Ledger) (facts : List Fact) (result : Result (Unit {0}) BooksFault) → Books old new facts result → Tries old new facts result
 asked old new facts (Ok done) books = record {
   booked = books.booked;
@@ -24,8 +25,8 @@ asked old new facts (Err why) books = record {
   goes = passes old new (Err why) books.goes;
 }
 
--- If the store has the defined records after a write, then the write changes the store as `Moves`
--- defines.
+-- If a write gives the store exactly the defined records, then the write satisfies the guarantees
+-- of a change from the earlier to the later records.
 pub tried : (old new : Ledger) (known later facts : List Fact) (result : Result (Unit {0}) BooksFault) → Tries old new facts result
     → (old.holds known → old.is_clean → with_facts facts known ≡ later) → AreLawful later → Moves old new known later result
 tried old new known later facts (Ok done) tries right lawful =

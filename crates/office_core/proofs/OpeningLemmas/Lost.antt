@@ -1,4 +1,5 @@
--- Proof that opening the office changes the store only by recording the pending polls as lost.
+-- Proof that opening the program's store only adds one outcome for each pending poll: the poll is
+-- lost.
 use Rattle.std.proofs.Common.{◌≡◌, ◌⊎◌, ℕ, List, [], ◌∷◌, ◌++◌, map, sym, ap, subst, inr, ◌∙◌, Result, Ok, Err}
 use Rattle.std.specs.Prelude.{OnOk, OnErr}
 use Rattle.std.proofs.lemmas.Result.{on_err_weaker}
@@ -11,7 +12,8 @@ use Rattle.office_books.specs.declared.faults.BooksFault.{BooksFault}
 use Rattle.office_books.specs.Ledgers.{Ledger, Consults, Books, Moves, with_facts}
 use Rattle.office_books.proofs.Moving.{passes, passes_then, passes_well, settles}
 
--- The records that an opening of the office adds are one lost outcome for each pending poll.
+-- The records that an opening of the program adds: for each poll that was pending, the outcome that
+-- the poll is lost.
 lost_as : (at : ℕ) (facts : List Fact) (polls : List Poll) (known : List Fact) → facts ≡ map (lost at) polls → polls ≡ pending_in known
     → with_facts facts known ≡ with_lost at known
 lost_as at facts polls known is found = ap (λ fs. with_facts fs known) (is ∙ ap (map (lost at)) found)
@@ -22,8 +24,8 @@ lost_settles : (old new : Ledger) (known : List Fact) (left : List (List Fact)) 
 lost_settles old new known left facts (Ok done) books h lawful may = settles old new known left facts done books h lawful may
 lost_settles old new known left facts (Err why) books h lawful may = tt
 
--- If polls are pending when the office is opened, then the opening writes a lost outcome for each
--- pending poll, and no other record.
+-- If polls are pending when the program opens its store, then the opening writes a lost outcome for
+-- each of these polls, and no other record.
 pub books_lost : (old between new : Ledger) (at : ℕ) (known : List Fact) (polls : List Poll) (facts : List Fact) {T : Type 0} (x : T) (result : Result (Unit {0}) BooksFault)
     → Consults old between (Ok x) → (old.holds known → between.is_clean → polls ≡ pending_in known) → facts ≡ map (lost at) polls
     → AreLawful (with_lost at known) → Books between new facts result → Moves old new known (with_lost at known) result
@@ -41,7 +43,7 @@ books_lost old between new at known polls facts x result reads found is lawful b
       goes = passes_then old between new x result reads.goes (passes between new result books.goes);
     }
 
--- If no poll is pending when the office is opened, then the store is unchanged.
+-- If no poll is pending when the program opens its store, then the store is unchanged.
 pub nothing_lost : (old new : Ledger) (at : ℕ) (known : List Fact) (polls : List Poll) {T : Type 0} (x : T) → Consults old new (Ok x)
     → (old.holds known → new.is_clean → polls ≡ pending_in known) → polls ≡ [] → Moves {T = Unit {0}} old new known (with_lost at known) (Ok tt)
 nothing_lost old new at known polls x reads found none =

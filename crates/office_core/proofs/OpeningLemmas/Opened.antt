@@ -1,4 +1,5 @@
--- Properties of the slots (devices with their connections) of a newly opened office.
+-- Properties of the device slots (devices with their connections) directly after the program opened
+-- its store.
 use Rattle.std.proofs.Common.{◌≡◌, ℕ, List, [], ◌∷◌, map, refl, ap, sym, subst, ◌∙◌, Result, Ok, Err}
 use Rattle.std.specs.Result.{IsErrAnd}
 use Rattle.std.specs.declared.alloc.Global.{Global}
@@ -18,14 +19,15 @@ unfolding opened
 opened_each [] = tt
 opened_each (slot ∷ slots) = (record { device = refl; session = tt }, opened_each slots)
 
--- After the office is opened, one slot without a session for each device agrees with the office's
--- devices, of which none is connected.
+-- After the program opens its store, the slots in memory (one for each device, without a
+-- connection) agree with the recorded devices.
 pub opened_keep : (made : List Slot) (devices : List Device) (slots : List Kept) → made ≡ map opened devices
     → map (λ slot. slot.device) slots ≡ devices → KeepsSlots made (map slot_restarted slots)
 opened_keep made devices slots is same =
     subst (λ (ls : List Slot). KeepsSlots ls (map slot_restarted slots)) (sym (is ∙ ap (map opened) (sym same))) (opened_each slots)
 
--- If an opening of the office cannot record the lost polls, then the records are unchanged.
+-- If an opening of the program cannot record the pending polls as lost, then the store's records
+-- are unchanged.
 pub not_opened : {T : Type 0} (past : History) (at : ℕ) (old between new : Ledger) (x : T) (fault : BooksFault) (result : Result (Vec Slot Global) BooksFault)
     → Consults old between (Ok x) → Moves {T = Unit {0}} between new (facts_of past) (facts_of (Opened at ∷ past)) (Err fault)
     → IsErrAnd result (λ f. f ≡ fault) → Opens past at old new result

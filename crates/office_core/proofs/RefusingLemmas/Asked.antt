@@ -1,4 +1,4 @@
--- Lemmas about the reasons for which the office refuses a command.
+-- Lemmas about the reasons for which the program refuses a command.
 use Rattle.std.proofs.Common.{◌≡◌, ℕ, Bool, true, false, ◌||◌, nat_lt, List, Option, Some, None, Result, Ok, Err, IfOk, is_some, refl, sym, ap, subst, ◌∙◌}
 use Rattle.std.specs.Option.{is_none}
 use Rattle.std.proofs.lemmas.Bool.{ltb-false, or_parts}
@@ -20,8 +20,8 @@ use Rattle.office_core.specs.Sessions.Ranges.{IsInRange}
 use Rattle.office_core.specs.Refusing.Reasons.{arrival_of, request_arrival, speaks_against, refusal_under, IsWhy, IsWhyAmong, Befits}
 use Rattle.office_core.proofs.RefusingLemmas.AtMeters.{same_find, or_false}
 
--- If a refusal is correct for every list of devices, then it is correct for the devices of the
--- office.
+-- If the reason to refuse a command is correct for every list of devices, then it is correct for
+-- the actual devices.
 pub among : (kept : List Slot) (arrival : Arrival) (c asked : Command) (facts : List Fact) (r : Result (Option Refusal) BooksFault) → asked ≡ c
     → IfOk r (IsWhy arrival c facts) → IfOk r (IsWhyAmong kept arrival asked facts)
 among kept arrival c asked facts (Ok r) is h = λ slots keeps. h slots ∙ ap (refusal_under slots facts arrival) (sym is)

@@ -1,6 +1,6 @@
 -- Lemmas about corrections: resets, changes of scale, and other entries that a person makes. A
 -- correction is refused if and only if its entry is refused at the latest meter of the accounting
--- register.
+-- register (a named energy counter).
 use Rattle.std.proofs.Common.{◌≡◌, ℕ, Bool, true, false, cond, ◌||◌, List, [], ◌∷◌, Option, Some, None, is_some, nat_le, length, refl, sym, ap, ◌∙◌}
 use Rattle.std.specs.List.{find}
 use Rattle.std.specs.Option.{is_none, option_and_then}
@@ -26,8 +26,8 @@ use Rattle.office_core.specs.declared.refusing.arrivals.Arrival.{Arrival}
 use Rattle.office_core.specs.Refusing.Entries.{entry_has_fault, is_faulty, speaks_of_entry, entry_refusal}
 use Rattle.office_core.specs.Refusing.Reasons.{speaks_against, refusal_under}
 
--- If two tests are equal for all elements, then searches with these tests find the same element of
--- a list.
+-- If two tests agree on all elements, then searches of a list with these tests find the same
+-- element.
 pub same_find : {X : Type 0} (p q : X → Bool) (xs : List X) → ((x : X) → p x ≡ q x) → find p xs ≡ find q xs
 same_find p q [] h = refl
 same_find p q (x ∷ xs) h =
@@ -57,9 +57,9 @@ faulty_at : (facts : List Fact) (at : ℕ) (c : Command) (row : Installation) (e
 faulty_at facts at c row e why is same =
     sym (ap (makes_fault at why c) (open_found facts (corrected_at c) ∙ ap (option_and_then if_open) (sym is)) ∙ faulty_if at c row e why row.ended same)
 
--- True if the command corrects the meter at its accounting register by the entry `e`. `off_scale`
--- states whether the command's scale is out of range. `off_limits` states whether another number is
--- out of range.
+-- True if the command corrects the meter at its accounting register (a named energy counter) by the
+-- entry `e`. `off_scale` states whether the command's scale is out of range. `off_limits` states
+-- whether another number is out of range.
 pub record Corrects (slots : List Slot) (facts : List Fact) (at : ℕ) (c : Command) (row : Installation) (e : Entry)
     (off_scale off_limits : Bool) : Type 0 where
   pub unknown : asks_unknown slots facts c ≡ has_no_meter facts (corrected_at c)
@@ -100,14 +100,15 @@ corrects_for slots facts arrival c row e off_scale off_limits is h (refusal.NotP
 corrects_for slots facts arrival c row e off_scale off_limits is h (refusal.Store store.Refused) = sym (rw h.start refl)
 corrects_for slots facts arrival c row e off_scale off_limits is h _ = refl
 
--- A correction is refused for the same reason as the entry that the correction adds.
+-- A command that corrects a meter is refused for the same reason as the meter entry that the
+-- command adds.
 pub refused_as : (slots : List Slot) (facts : List Fact) (arrival : Arrival) (c : Command) (row : Installation) (e : Entry) (off_scale off_limits : Bool)
     → Some row ≡ option_and_then (installation_at facts) (corrected_at c) → Corrects slots facts arrival.moment c row e off_scale off_limits
     → entry_refusal arrival off_scale off_limits row e ≡ refusal_under slots facts arrival c
 refused_as slots facts arrival c row e off_scale off_limits is h =
     same_find _ _ reasons (corrects_for slots facts arrival c row e off_scale off_limits is h)
 
--- The given refusal if any, otherwise the refusal `Limit` if `crowded` is true.
+-- The given refusal if there is one, otherwise the refusal `Limit` if `crowded` is true.
 abbrev pub or_limit : (crowded : Bool) → Option Refusal → Option Refusal
 or_limit crowded None = cond crowded (Some refusal.Limit) None
 or_limit crowded (Some why) = Some why
@@ -128,8 +129,8 @@ limited false true faulty = refl
 limited false false true = refl
 limited false false false = refl
 
--- The limit on the number of meters is the last reason to refuse a command's entry. The refusal is
--- the same if the office checks this limit only after all other reasons.
+-- The limit on the number of meters is the last reason to refuse a command's entry. Checking this
+-- limit after all other reasons gives the same refusal.
 pub room_last : (arrival : Arrival) (off_scale limits crowded : Bool) (row : Installation) (e : Entry)
     → or_limit crowded (entry_refusal arrival off_scale limits row e) ≡ entry_refusal arrival off_scale (limits || crowded) row e
 room_last arrival off_scale limits false row e =
@@ -145,8 +146,8 @@ room_last arrival off_scale limits true row e =
     (after (is_faulty (if_open row) e fault.TotalFull) refusal.TotalFull _ _
     (after row.ended refusal.Ended _ _ (limited arrival.is_beyond limits (is_faulty (if_open row) e fault.NotBelowRange))))))))
 
--- An exchange is refused for the same reason as its closing, or for the limit on the number of
--- meters.
+-- A command that exchanges a meter is refused for the same reason as the closing of the old meter,
+-- or for the limit on the number of meters.
 pub exchanged : (slots : List Slot) (facts : List Fact) (arrival : Arrival) (c : Exchange) (row : Installation) (off_scale limits crowded : Bool) (r : Option Refusal)
     → Some row ≡ option_and_then (installation_at facts) c.register → false ≡ is_some (option_and_then (opening_of facts) c.meter)
     → off_scale ≡ asks_bad_scale (command.Exchange c) → limits ≡ asks_bad_field arrival.moment (command.Exchange c)

@@ -1,5 +1,6 @@
--- Lemmas about the verdict on the entry after a voided entry. The verdict is the same with the
--- meter's total energy as with the energy before the entry, unless the total exceeds its limit.
+-- Lemmas about a voided (cancelled) entry, and the verdict on the entry after it. The verdict from
+-- the meter's present total energy equals the verdict from the energy before the voided entry. The
+-- exception is a total above its limit.
 use Rattle.std.proofs.Common.{◌≡◌, ◌⊎◌, ℕ, ◌+◌, ◌*◌, ◌≤◌, ◌<◌, Bool, true, false, List, [], ◌∷◌, refl, sym, ap, subst, ◌∙◌, inl, inr, Option, Some, None, is_some, arith, lt-ltb, ltb-true}
 use Rattle.std.specs.List.{find}
 use Rattle.std.specs.Option.{option_map, option_and_then}
@@ -25,8 +26,8 @@ use Rattle.office_books.specs.Refusals.{verdict_between, verdict_at, is_held_for
 use Rattle.office_books.specs.Near.{with_energy, ReportsNear}
 use Rattle.office_core.specs.Refusing.Spots.{is_full, IsJudgedAs}
 
--- If two tests differ only at the cause `TotalFull`, and the first search does not find
--- `TotalFull`, then both searches find the same cause.
+-- Suppose that two tests differ only at the cause `TotalFull` (total energy above its limit). If
+-- the first search does not find `TotalFull`, then both searches find the same cause.
 find_less : (p q : Cause → Bool) → ((c : Cause) → (p c ≡ q c) ⊎ ((c ≡ cause.TotalFull) × (q c ≡ true → p c ≡ true))) → (cs : List Cause) → (find p cs ≡ Some cause.TotalFull → ⊥) → find p cs ≡ find q cs
 find_less p q less [] none = refl
 find_less p q less (c ∷ cs) none = elim (cases_Bool (p c)) [
@@ -103,7 +104,7 @@ by_opening facts place None found is le less = judged_itself None found is
 by_opening facts place (Some o) found is le less =
     by_whole (option_map (place_in facts o) (row_at place (rows_of facts o))) found (installation_of facts o).total is (λ p at. le (installation_of facts o) p refl at) less
 
--- A void (cancellation) of an entry gets the same verdict with the lookup `entry_near`, which reads
--- only nearby rows, as with the lookup `entry`. The exception is a total energy above its limit.
+-- A void (cancellation) of an entry gets the same verdict from the rows near the entry as from all
+-- rows of the meter. The exception is a total energy above its limit.
 pub judged_near : (facts : List Fact) (meter : List ℕ) (place : ℕ) (found : Option EntryContext) → ReportsNear facts meter place found → is_full found ≡ false → IsJudgedAs (entry_at facts meter place) found
 judged_near facts meter place found reported less = by_opening facts place (opening_of facts meter) found reported.near reported.within less

@@ -1,5 +1,5 @@
--- The lemma that the reason to refuse a void (cancellation) depends only on the entry at the void's
--- sequence number.
+-- The lemma that the reason to refuse a void (cancellation of an entry) depends only on the entry
+-- at the given sequence number.
 use Rattle.std.proofs.Common.{◌≡◌, List, refl, sym, ap}
 use Rattle.office_events.specs.declared.commands.VoidEntry.{VoidEntry}
 use Rattle.office_events.specs.declared.commands.Command.TheVariants as command

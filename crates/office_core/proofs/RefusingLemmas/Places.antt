@@ -25,7 +25,7 @@ rolled_place last row = elim (cases_Bool (row.stands && is_reading row.kind)) [
   | inr h ↦ ap (λ (r : EntryRow). r.place) (cond-false _ _ _ h)
 ]
 
--- A void (cancellation) of an entry leaves the number of entry rows unchanged.
+-- A void (cancellation) of a meter's entry leaves the number of the meter's entry rows unchanged.
 void_length : (opening : Last) (place : ℕ) (rows : List EntryRow) → length (with_void opening place rows) ≡ length rows
 void_length opening place [] = refl
 void_length opening place (row ∷ rows) = elim (cases_Bool (row.place == place)) [
@@ -45,7 +45,7 @@ void_numbered opening place (row ∷ rows) h = elim (cases_Bool (row.place == pl
       subst AreNumbered (sym (cond-false _ _ _ off)) (is, void_numbered opening place rows h.1)
 ]
 
--- The entry rows of a journal are numbered consecutively from 2.
+-- The entry rows of a meter's journal (history) have consecutive sequence numbers from 2.
 numbered : (opening : Last) (lines : Journal) → AreNumbered (journal.rows_of opening lines)
 numbered opening [] = tt
 numbered opening (Entered k e ∷ lines) = (refl, numbered opening lines)
@@ -62,7 +62,8 @@ mapped : {X Y : Type 0} (f : X → Y) (o : Option X) → is_some (option_map f o
 mapped f None = refl
 mapped f (Some x) = refl
 
--- If a sequence number is from 2 to the number of rows plus 1, then an entry row has this number.
+-- If a sequence number is from 2 to the number of a meter's entry rows plus 1, then an entry row
+-- has this number.
 row_there : (place : ℕ) (rows : List EntryRow) → AreNumbered rows
     → is_some (row_at place rows) ≡ nat_le 2 place && nat_le place (length rows + 1)
 row_there place [] h = grind (arith, nat_tests)
@@ -82,7 +83,7 @@ none_of : {X : Type 0} (o : Option X) → is_some o ≡ false → None ≡ o
 none_of None h = refl
 none_of (Some x) h = absurd (cc)
 
--- If a sequence number is below 2, then no entry row has this number.
+-- If a sequence number is below 2, then no entry row of a meter has this number.
 no_row : (place : ℕ) (rows : List EntryRow) → AreNumbered rows → place < 2 → None ≡ row_at place rows
 no_row place rows h low = none_of (row_at place rows) (row_there place rows h ∙ ap (λ b. b && nat_le place (length rows + 1)) (lt-leb 2 place low))
 
@@ -104,8 +105,8 @@ entry_there_of facts place (Some o) high =
     ∙ row_there place (rows_of facts o) (numbered (opened o) (journal_of facts o.meter))
     ∙ ap (λ b. b && nat_le place (length (rows_of facts o) + 1)) (le-leb 2 place high ∙ sym (le-leb 1 place (omega (arith, high))))
 
--- A sequence number of at least 2 belongs to an entry if and only if `has_place` is true for the
--- meter and the number.
+-- A sequence number of at least 2 belongs to an entry of the meter if and only if the test
+-- `has_place` returns true.
 entry_there : (facts : List Fact) (given : Option (List ℕ)) (place : ℕ) → 2 ≤ place
     → is_some (option_and_then (λ m. entry_at facts m place) given) ≡ has_place facts place (option_and_then (opening_of facts) given)
 entry_there facts None place high = refl

@@ -31,8 +31,8 @@ starts_more (s ∷ starts) send at device h = (h.0, starts_more starts send at d
 abbrev IsReadyFor : Device → List session.Event → (id count : ℕ) → Type 0
 IsReadyFor device events id count = IsReady device.timeout device.window events id count
 
--- If a Modbus session can start `count` polls, then it can start another poll as long as fewer than
--- `count` polls were started.
+-- If a Modbus session can start `count` polls, and fewer than `count` polls were started, then it
+-- can start another poll.
 startable : (device : Device) (events starts : List session.Event) (id count : ℕ) → IsReadyFor device events id count → AreStarts starts
     → length starts ≤ count → is_startable device (Some (events ++ starts)) ≡ nat_lt (length starts) count
 startable device events starts id count ready are few =
@@ -46,7 +46,7 @@ startable device events starts id count ready are few =
           ∙ sym (le-ltb (length starts) count ge)
     ]
 
--- A Modbus session sends all of the given reads, or only the first reads if it cannot start the
+-- A Modbus session starts all of the given reads, or only the first reads if it cannot start the
 -- later reads.
 sends_count : (at number : ℕ) (device : Device) (events starts : List session.Event) (id count : ℕ) (spans : List ReadSpan)
     → IsReadyFor device events id count → AreStarts starts → length starts ≤ count
@@ -86,8 +86,8 @@ room_after device events id count ready = record {
       omega (arith, all, same);
 }
 
--- The Modbus session that the office keeps and its model, the list of session events, can start the
--- same number of polls in a row.
+-- The Modbus session in memory and the list of its events determine the same number of polls that
+-- can be started in a row.
 pub room_kept : (device : Device) (kept : standing.State) (present : Option (List session.Event)) (id count : ℕ) → KeepsPresent device (Some kept) present
     → ((events : List session.Event) → standing.Stands kept events → IsReady kept.timeout kept.window events id count) → HasRoomOn device present count
 room_kept device kept None id count keeps ready = absurd keeps
@@ -97,8 +97,8 @@ room_kept device kept (Some events) id count keeps ready =
     (subst (λ w. IsReady device.timeout w events id count) this.window
     (subst (λ t. IsReady t kept.window events id count) this.timeout (ready events this.stands)))
 
--- The number of polls that a device can start equals the number of polls that the Modbus session in
--- the device's slot can start.
+-- The number of polls that a device can start equals the number that its Modbus session in memory
+-- can start.
 pub room_found : (given : Option (List ℕ)) (kept : List Slot) (slots : List sessions.Slot) (i : ℕ) (d : Slot) (count : ℕ)
     → ((device : Device) (present : Option (List session.Event)) → KeepsPresent device (get_or kept i d).session present → HasRoomOn device present count)
     → i < length kept → slot_of slots given ≡ slice_get slots i → KeepsSlots kept slots → HasRoomFor slots given count

@@ -1,4 +1,4 @@
--- Properties of the slots in memory in relation to their model. A slot is a device with its
+-- Properties of the slots in memory in relation to their definition. A slot is a device with its
 -- session, the state of its connection.
 use Rattle.std.proofs.Common.{◌≡◌, ℕ, zero, suc, ◌+◌, ◌<◌, List, [], ◌∷◌, Bool, true, false, not, cond, Option, Some, None, IfSome, is_some, length, get_or, nat_lt, refl, ap, sym, ◌∙◌, arith}
 use Rattle.std.specs.List.{find, slice_get, position, position_or_len}
@@ -14,7 +14,7 @@ use Rattle.office_books.specs.Sessions as sessions
 use Rattle.office_core.specs.declared.sessions.slots.Slot.{Slot}
 use Rattle.office_core.specs.Sessions.Keeping.{KeepsPresent, KeepsSlot, KeepsSlots}
 
--- True if the device of the slot in memory has the given name.
+-- True if the device of this slot (a device with its connection in memory) has the given name.
 abbrev pub is_at : Option (List ℕ) → Slot → Bool
 is_at given kept = is_named given kept.device.name
 
@@ -50,13 +50,15 @@ got xs n false h = sym (slice_get_past xs n (ltb-false n (length xs) h))
 position_found : {X : Type 0} (p : X → Bool) (xs : List X) → find p xs ≡ option_and_then (slice_get xs) (position p xs)
 position_found p xs = find_at p xs ∙ sym (got xs (position_or_len p xs) (nat_lt (position_or_len p xs) (length xs)) refl)
 
--- The index of a device's slot in memory equals the index of the device.
+-- The index of a device's slot (connection) in memory equals the index of the device in the list of
+-- devices.
 pub slot_found : (given : Option (List ℕ)) (kept : List Slot) (slots : List sessions.Slot) (place : Option ℕ) → place ≡ position (is_at given) kept
     → KeepsSlots kept slots → sessions.slot_of slots given ≡ option_and_then (slice_get slots) place
 slot_found given kept slots place is keeps =
     position_found (is_of given) slots ∙ ap (option_and_then (slice_get slots)) (sym (is ∙ same_position given kept slots keeps))
 
--- The slot in memory at an index agrees with the device and the Modbus session at this index.
+-- The slot in memory at an index agrees with the device and the Modbus session that the events
+-- define for this index.
 pub keeps_at : (kept : List Slot) (slots : List sessions.Slot) (i : ℕ) (d : Slot) → KeepsSlots kept slots → i < length kept
     → (slot : sessions.Slot) × (slice_get slots i ≡ Some slot) × KeepsSlot (get_or kept i d) slot
 keeps_at [] slots i d keeps inside = absurd (omega arith)
@@ -75,7 +77,8 @@ some_got kept slots None keeps inside = refl
 some_got kept slots (Some i) keeps inside =
     let e = same_length kept slots keeps in some_at slots i (omega (arith, e, inside))
 
--- A device has the given name if and only if the device of a slot in memory has this name.
+-- A device has the given name if and only if the device of its slot (connection) in memory has this
+-- name.
 pub some_slot : (given : Option (List ℕ)) (kept : List Slot) (slots : List sessions.Slot) (place : Option ℕ) (b : Bool) → b ≡ is_some place
     → IfSome place (λ i. i < length kept) → sessions.slot_of slots given ≡ option_and_then (slice_get slots) place → KeepsSlots kept slots
     → b ≡ is_some (sessions.slot_of slots given)
@@ -88,7 +91,7 @@ some_present device None (Some events) keeps = absurd keeps
 some_present device (Some k) None keeps = absurd keeps
 some_present device (Some k) (Some events) keeps = refl
 
--- A device is connected if and only if its slot in memory has a session.
+-- A device is connected if and only if its slot in memory has a Modbus session.
 pub present_slot : (given : Option (List ℕ)) (kept : List Slot) (slots : List sessions.Slot) (i : ℕ) (d : Slot) (b : Bool)
     → b ≡ is_some (get_or kept i d).session → i < length kept → sessions.slot_of slots given ≡ slice_get slots i → KeepsSlots kept slots
     → b ≡ is_some (sessions.present_of slots given)

@@ -128,8 +128,8 @@ all_before (Fed at e ∷ past) accepted =
     (before_later (latest_of past) at (not_back past at e accepted.0.right) (slots_of past) (all_before past accepted.1))
     (added_before at (command_in e))
 
--- If an event is accepted next, then no earlier event of any Modbus session is later than this
--- event.
+-- If an event is accepted next, then the earlier events of all Modbus sessions are not later than
+-- this event.
 pub before_event : (past : History) (at : ℕ) (e : Event) → AreAccepted past → refusal_of past at e ≡ None → AllBefore at (slots_of past)
 before_event past at e accepted none =
     before_later (latest_of past) at (not_back past at e none) (slots_of past) (all_before past accepted)

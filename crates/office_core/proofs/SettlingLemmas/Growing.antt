@@ -35,7 +35,8 @@ use Rattle.office_core.specs.Settling.Drafts.{so_far, HasMore, IsReported, AreRe
 use Rattle.office_core.proofs.SettlingLemmas.Reported.{SkipsReported, reported_skipped, reported_last}
 use Rattle.office_core.proofs.SettlingLemmas.ReadRegisters.{with_read, reported_read}
 
--- True if the records still follow the rules after the records that `more` added are removed.
+-- True if the records before the addition `more` follow the rules whenever the records with this
+-- addition do.
 abbrev pub KeepsLawful : (List Fact → List Fact) → Type 0
 KeepsLawful more = (facts : List Fact) → AreLawful (more facts) → AreLawful facts
 
@@ -76,12 +77,13 @@ pub before_outcomes : (at : ℕ) (settled : List (ℕ × session.Settlement)) �
 before_outcomes at [] facts h = h
 before_outcomes at (settled ∷ later) facts h = before_outcome at settled facts (before_outcomes at later (with_outcome at settled facts) h)
 
--- An unchanged pending write has gained no records and no notifications.
+-- If a pending write (records not yet stored) is unchanged, then it has gained no records and no
+-- notifications.
 pub stays : (holds : List Fact → Type 0) (clean : Type 0) (draft : PendingWrite) → Grows holds clean draft draft (λ facts. facts) (λ facts. [])
 stays holds clean draft = λ recorded h c reported lawful. record { facts = refl; notes = sym (append-nil draft.notes.items); reported = reported }
 
--- If given records and notifications were added to a pending write, then the addition may also be
--- described by equal records and notifications.
+-- An addition of records and notifications to a pending write (records not yet stored) may be
+-- replaced by an equal addition.
 pub grows_like : (holds : List Fact → Type 0) (clean : Type 0) (old new : PendingWrite) (f g : List Fact → List Fact) (n m : List Fact → List Note)
     → ((facts : List Fact) → g facts ≡ f facts) → ((facts : List Fact) → m facts ≡ n facts) → Grows holds clean old new f n → Grows holds clean old new g m
 grows_like holds clean old new f g n m same_facts same_notes on = λ recorded h c reported lawful.
@@ -92,8 +94,8 @@ grows_like holds clean old new f g n m same_facts same_notes on = λ recorded h 
       reported = all.reported;
     }
 
--- If two calls add to a pending write, then the additions are those of the first call, followed by
--- those of the second call.
+-- If two calls add to a pending write (records not yet stored), then the additions are those of the
+-- first call, followed by those of the second.
 pub grows_then : (holds mid : List Fact → Type 0) (clean later : Type 0) (old between new : PendingWrite) (f g : List Fact → List Fact) (n m : List Fact → List Note)
     → ((recorded : List Fact) → holds recorded → mid recorded) → (later → clean) → KeepsLawful g → Grows holds clean old between f n → Grows mid later between new g m
     → Grows holds later old new (λ facts. g (f facts)) (λ facts. n facts ++ m (f facts))
@@ -109,8 +111,8 @@ grows_then holds mid clean later old between new f g n m kept cleaner before fir
       reported = two.reported;
     }
 
--- If one record and its notification are appended to a pending write, then the pending write has
--- gained exactly these two.
+-- If one record and its notification are appended to a pending write (records not yet stored), then
+-- it has gained exactly these two.
 pub one_added : (holds : List Fact → Type 0) (clean : Type 0) (old new : PendingWrite) (x : Fact) (y : Note) → IsReported x
     → HasMore old new x y → Grows holds clean old new (λ facts. x ∷ facts) (λ facts. y ∷ [])
 one_added holds clean old new x y is more = λ recorded h c reported lawful.
@@ -125,7 +127,7 @@ reported_reading meter poll reading (Accepted rolls step) = refl
 reported_reading meter poll reading (Held cause) = tt
 
 -- If a read covers an accounting register with an open meter, then the meter's reading adds one
--- record and one notification to the pending write.
+-- record and one notification. Both are added to the pending write (records not yet stored).
 pub read_at : (holds : List Fact → Type 0) (clean : Type 0) (at : ℕ) (poll : Poll) (words : List ℕ) (register : Register) (old new : PendingWrite) (row : Installation)
     → is_read_by poll.span register ≡ true
     → ((recorded : List Fact) → holds recorded → clean → AreReported old.facts.items → AreLawful (so_far old recorded) → Some row ≡ open_at (so_far old recorded) register.name)
@@ -191,7 +193,8 @@ one_register_more holds mid clean later old between new at poll words rs i r les
     (grows_then holds mid clean later old between new (with_registers at poll words (take i rs)) (with_register at poll words r)
     (registers_notes at poll words (take i rs)) (register_notes at poll words r) kept cleaner (before_register at poll words r) first second)
 
--- A record of an outcome or a reading is neither a record of a poll nor of an accounting register.
+-- A record of a poll's outcome or of a reading is neither the record of a started poll nor of an
+-- accounting register.
 no_poll : SkipsReported as_poll
 no_poll (fact.Device device) reported = absurd reported
 no_poll (fact.List put) reported = absurd reported
@@ -233,7 +236,7 @@ its_row : (recorded : List Fact) (row : PollRow) (o : Option Poll) → Some row 
 its_row recorded row None h = absurd (cc)
 its_row recorded row (Some poll) h = let e : row ≡ poll_row recorded poll = cc in ap Some (sym (ap (λ (r : PollRow). r.poll) e))
 
--- If a response belongs to a poll that is not recorded, then it adds no readings.
+-- If a Modbus response belongs to a poll that is not recorded, then the response adds no readings.
 pub reply_to_none : (holds : List Fact → Type 0) (clean : Type 0) (draft : PendingWrite) (at number : ℕ) (words : List ℕ)
     → ((recorded : List Fact) → holds recorded → clean → None ≡ poll_row_of recorded number)
     → Grows holds clean draft draft (λ facts. with_reply at (poll_of facts number) words facts) (λ facts. reply_notes at (poll_of facts number) words facts)

@@ -1,4 +1,5 @@
--- Properties of the office's records and slots after a device event.
+-- Properties of the records and of the device slots (connections) after a device event, such as a
+-- response or a timeout.
 use Rattle.std.proofs.Common.{◌≡◌, ℕ, List, [], ◌∷◌, ◌++◌, map, reverse, refl, sym, ap, subst, ◌∙◌, Option, Some, None}
 use Rattle.std.proofs.lemmas.List.{append-nil}
 use Rattle.poll_core.specs.Settling as session
@@ -20,7 +21,7 @@ use Rattle.office_core.specs.declared.sessions.slots.Slot.{Slot}
 use Rattle.office_core.specs.Settling.Settling.{IsSettling}
 use Rattle.office_core.specs.Settling.Events.{IsNext}
 
--- If an event is a device event, then it starts no polls and adds no devices.
+-- A device event, such as a response or a timeout, starts no polls and adds no devices.
 pub slots_happened : (past : History) (at : ℕ) (e : Event) → IsSettling e
     → map (slot_after (next_poll (facts_of past)) at [] e) (slots_of past) ≡ slots_of (Fed at e ∷ past)
 slots_happened past at (event.Connected given) s = sym (append-nil _)
@@ -68,7 +69,8 @@ notes_happened number at (event.Gone given closing) s slots facts = refl
 notes_happened number at (event.Command c) s slots facts = absurd s
 notes_happened number at (event.Asked asked) s slots facts = absurd s
 
--- If an event is a device event, then it has no idempotency key and is not a retry.
+-- A device event, such as a response or a timeout, has no idempotency key and is not a retry of a
+-- request.
 is_new : (facts : List Fact) (e : Event) → IsSettling e → kept_of facts e ≡ None
 is_new facts (event.Connected given) s = refl
 is_new facts (event.Bytes given piece) s = refl
@@ -92,8 +94,8 @@ lawful_next law past slots at e s next =
     law (Fed at e ∷ past) (record { new = is_new (facts_of past) e s; right = next.accepted }, next.is_past.accepted)
     (puts_nothing e s, next.is_past.planned)
 
--- True if a pending write has exactly the records and the notifications that are defined for the
--- device event.
+-- True if the pending write (records not yet stored) has exactly the records and notifications that
+-- are defined for the device event.
 pub record DraftStands (past : History) (at : ℕ) (e : Event) (draft : PendingWrite) : Type 0 where
   pub facts : so_far draft (facts_of past) ≡ facts_of (Fed at e ∷ past)
   pub notes : draft.notes.items ≡ notes_of (next_poll (facts_of past)) at e (slots_of past) (facts_of past)

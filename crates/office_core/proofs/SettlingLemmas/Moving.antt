@@ -27,12 +27,13 @@ moves_nothing old facts known none =
       goes = record { clean = λ clean. clean; faults = refl; zone = refl };
     }
 
--- True if the store's records, followed by the records `facts`, are the records `later`, and follow
--- the rules (`AreLawful`).
+-- True if the store's records, followed by the new records `facts`, equal the records `later` and
+-- follow the rules (`AreLawful`).
 abbrev pub Leads : Ledger → (clean : Type 0) → (facts known later : List Fact) → Type 0
 Leads old clean facts known later = old.holds known → clean → (with_facts facts known ≡ later) × AreLawful (with_facts facts known)
 
--- If records are written after lookups, then the write changes the store as `Moves` defines.
+-- If records are written after lookups in the store, then the write satisfies the guarantees of a
+-- change of the store's records.
 pub moves_after : {T U : Type 0} (old mid new : Ledger) (facts known later : List Fact) (x : T) (r : Result U BooksFault)
     → Consults old mid (Ok x) → Leads old mid.is_clean facts known later
     → (AreLawful (with_facts facts known) → Moves mid new known (with_facts facts known) r)

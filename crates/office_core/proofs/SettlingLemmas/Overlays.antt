@@ -1,5 +1,4 @@
--- Properties of a meter's state after the records of a pending write, which are not yet in the
--- store.
+-- Properties of a meter's state after the records of a pending write (records not yet stored).
 use Rattle.std.proofs.Common.{◌≡◌, ℕ, ◌+◌, ◌<◌, Bool, true, false, cond, List, [], ◌∷◌, ◌++◌, reverse, take, length, get_or, refl, sym, ap, subst, ◌∙◌, Option, Some, None, suc, arith}
 use Rattle.std.specs.List.{cons_option, find, Contains}
 use Rattle.std.specs.Option.{option_map, option_and_then}
@@ -32,7 +31,7 @@ use Rattle.office_core.specs.Settling.Drafts.{IsReported, AreReported}
 use Rattle.office_core.specs.Settling.Following.{with_result, with_entry, installation_with, IsIn, IsAfterFacts}
 use Rattle.office_core.proofs.SettlingLemmas.Reported.{reported_openings, reported_first, reported_at, lawful_first}
 
--- The theorems about meter entries on which the proofs below depend.
+-- The theorems about meter entries that the proofs below use.
 pub record Laws : Type 0 where
   pub names : NamesAreDistinct
   pub kept : MetersAreKept
@@ -40,11 +39,12 @@ pub record Laws : Type 0 where
   pub booked : energy.EnteredIsBooked
   pub go_on : energy.AccountsGoOn
 
--- The state of an installed meter after the entries of its journal.
+-- The state of an installed meter after the entries of its journal (history).
 abbrev at_journal : Opening → journal.Journal → Installation
 at_journal o lines = standing o (journal.entries_of (opened o) lines) (journal.is_ended lines)
 
--- If a reading is accepted, then the state of its installed meter advances to the reading.
+-- If a reading of a meter is accepted, then the state of the installed meter advances to the
+-- reading.
 reading_entered : Laws → (o : Opening) (lines : journal.Journal) (k : EntryKind) (e : Entry) → k ≡ kind.Reading
     → journals.EntryFits (installed o) (journal.entries_of (opened o) lines) k e → HasAccount (installed o) (journal.entries_of (opened o) lines)
     → (at_journal o lines).last.raw < o.range → with_entry (at_journal o lines) e ≡ at_journal o (journal.Entered k e ∷ lines)
@@ -64,8 +64,8 @@ reading_entered laws o lines kind.Closing e is fits account low = absurd (cc)
 reading_entered laws o lines kind.Reset e is fits account low = absurd (cc)
 reading_entered laws o lines kind.Rescale e is fits account low = absurd (cc)
 
--- If an accepted reading is added to a pending write, then only the state of the reading's meter
--- advances.
+-- If an accepted reading is added to a pending write (records not yet stored), then only the state
+-- of the reading's meter advances.
 booked_goes_on : Laws → (facts : List Fact) (o : Opening) (b : BookedEntry) (same_meter : Bool) → same b.meter o.meter ≡ same_meter
     → b.kind ≡ kind.Reading → LineFits facts b.meter (journal.Entered b.kind b.entry) → AreLawful facts → IsRecorded facts o
     → (installation_of facts o).last.raw < o.range
@@ -90,7 +90,7 @@ known_goes_on o lines line true rows ended =
     ap (λ rs. standing o (journal.entries_in rs) (journal.is_ended lines)) (sym rows)
     ∙ ap (λ e. standing o (journal.entries_of (opened o) (line ∷ lines)) e) (sym ended)
 
--- If an outcome or a reading is added, then the state of an installed meter changes as the
+-- If a poll's outcome or a reading is added, then the state of an installed meter changes as the
 -- accounting rules define.
 pub goes_on : Laws → (f : Fact) (facts : List Fact) (o : Opening) → IsReported f → AreLawful (f ∷ facts) → IsRecorded facts o
     → (installation_of facts o).last.raw < o.range → installation_with f (installation_of facts o) ≡ installation_of (f ∷ facts) o
@@ -107,7 +107,8 @@ goes_on laws (fact.Poll poll) facts o reported h recorded low = absurd reported
 goes_on laws (fact.Outcome ended) facts o reported h recorded low = refl
 goes_on laws (fact.Reply reply) facts o reported h recorded low = absurd reported
 
--- True if `following` is the state of the meter after the first `i` records of a pending write.
+-- True if `following` is the state of the meter after the first `i` records of a pending write
+-- (records not yet stored).
 abbrev pub StandsAfterFirst : Installation → List Fact → ℕ → Installation → Type 0
 StandsAfterFirst row facts i following = (known : List Fact) → AreReported facts → AreLawful (reverse facts ++ known)
     → IsIn known row → following ≡ installation_of (reverse (take i facts) ++ known) row.opening
@@ -145,13 +146,13 @@ found_contains : {X : Type 0} (p : X → Bool) (xs : List X) (x : X) → find p 
 found_contains p [] x h = absurd (cc)
 found_contains p (y ∷ ys) x h = found_step p (p y) y x ys (found_contains p ys x) h
 
--- Outcomes and readings install no meter.
+-- Records of poll outcomes and of readings install no meter.
 installed_after : (facts known : List Fact) (register : List ℕ) → AreReported facts → installed_at (reverse facts ++ known) register ≡ installed_at known register
 installed_after facts known register reported =
     ap (λ os. find (λ (o : Opening). same o.register register) os) (reported_openings facts known reported)
 
--- If an accounting register has no open meter, then it has no open meter after outcomes and
--- readings.
+-- If an accounting register (a named energy counter) has no open meter, then it still has none
+-- after polls end and readings are recorded.
 pub none_open : (facts known : List Fact) (register : List ℕ) → AreReported facts → None ≡ installation_at known register
     → None ≡ open_at (reverse facts ++ known) register
 none_open facts known register reported none =
@@ -163,8 +164,8 @@ none_open facts known register reported none =
     none_by None h = refl
     none_by (Some opening) h = absurd (cc)
 
--- After a pending write, the state of the open meter at an accounting register is its state in the
--- store, advanced by the pending records.
+-- The state of an accounting register's open meter after a pending write is its state in the store,
+-- advanced by the pending records.
 found_open : (facts known : List Fact) (register : List ℕ) (row new : Installation) (found : Option Opening) → AreReported facts → AreLawful (reverse facts ++ known)
     → IsAfterFacts row facts new → installed_at known register ≡ found → Some row ≡ option_map (installation_of known) found
     → if_open new ≡ open_at (reverse facts ++ known) register

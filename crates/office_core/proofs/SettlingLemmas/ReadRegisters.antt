@@ -1,4 +1,5 @@
--- Proof that a Modbus read adds no records for an accounting register that it does not cover.
+-- Proof that a Modbus read adds no records for an accounting register (a named energy counter) that
+-- it does not cover.
 use Rattle.std.proofs.Common.{◌≡◌, ℕ, List, [], ◌∷◌, ◌++◌, inl, inr, refl, sym, ap, ◌∙◌}
 use Rattle.std.specs.List.{filter}
 use Rattle.std.proofs.lemmas.Bool.{cases_Bool, cond-true, cond-false}

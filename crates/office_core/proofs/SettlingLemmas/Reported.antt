@@ -1,4 +1,4 @@
--- Properties of lookups in lists of records that have only outcomes and readings.
+-- Properties of lookups in lists of records that contain only outcomes of polls and readings.
 use Rattle.std.proofs.Common.{◌≡◌, ℕ, ◌<◌, length, get_or, arith, List, [], ◌∷◌, ◌++◌, reverse, take, drop, refl, ap, subst, sym, ◌∙◌, Option, None, append_assoc, zero, suc}
 use Rattle.std.specs.List.{cons_option, filter_map}
 use Rattle.std.proofs.lemmas.List.{reverse-append, take-append-drop}
@@ -8,7 +8,7 @@ use Rattle.office_books.specs.Facts.{as_opening, openings_in}
 use Rattle.office_books.specs.Lawful.{AreLawful}
 use Rattle.office_core.specs.Settling.Drafts.{IsReported, AreReported}
 
--- True if the lookup `f` finds nothing in any outcome or reading.
+-- True if the lookup `f` finds nothing in the record of any poll outcome or reading.
 abbrev pub SkipsReported : {X : Type 0} → (Fact → Option X) → Type 0
 SkipsReported f = (x : Fact) → IsReported x → f x ≡ None
 
@@ -21,7 +21,7 @@ reported_skipped f skips (x ∷ facts) known reported =
     ∙ reported_skipped f skips facts (x ∷ known) reported.1
     ∙ ap (λ o. cons_option o (filter_map f known)) (skips x reported.0)
 
--- A record of an outcome or a reading is not an opening of a meter.
+-- A record of a poll's outcome or of a reading does not install a meter.
 no_opening : SkipsReported as_opening
 no_opening (fact.Device device) reported = absurd reported
 no_opening (fact.List put) reported = absurd reported
@@ -57,8 +57,8 @@ pub lawful_before : (new facts : List Fact) → AreLawful (new ++ facts) → Are
 lawful_before [] facts h = h
 lawful_before (x ∷ new) facts h = lawful_before new facts h.1
 
--- If all records of a pending write follow the rules (`AreLawful`), then its first `i` records
--- follow the rules.
+-- If all records of a pending write (records not yet stored) follow the rules, then its first `i`
+-- records follow the rules.
 pub lawful_first : (facts known : List Fact) (i : ℕ) → AreLawful (reverse facts ++ known) → AreLawful (reverse (take i facts) ++ known)
 lawful_first facts known i lawful =
     lawful_before (reverse (drop i facts)) (reverse (take i facts) ++ known)

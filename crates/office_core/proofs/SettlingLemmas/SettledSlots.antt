@@ -15,7 +15,8 @@ use Rattle.office_core.specs.Sessions.Keeping.{KeepsSlot, KeepsSlots}
 use Rattle.office_core.proofs.SettlingLemmas.Growing.{grows_like, grows_then, before_outcomes}
 use Rattle.office_core.specs.Settling.Settling.{MayReach, MayReachAll, SettleNothing}
 
--- True if the event was applied to the first `i` device slots, and the other slots are unchanged.
+-- True if the event was applied to the first `i` device slots (devices with their connections), and
+-- the other slots are unchanged.
 abbrev pub FirstReached : (number at : ℕ) → Event → ℕ → List Slot → List sessions.Slot → Type 0
 FirstReached number at e zero now kept = MayReachAll at now kept
 FirstReached number at e (suc i) [] [] = Unit {0}
@@ -23,7 +24,8 @@ FirstReached number at e (suc i) (k ∷ ks) (l ∷ ls) = KeepsSlot k (slot_after
 FirstReached number at e (suc i) [] (l ∷ ls) = ⊥
 FirstReached number at e (suc i) (k ∷ ks) [] = ⊥
 
--- The device slot with index `i`, and the effect of the event on this slot.
+-- The device slot (a device with its connection) with index `i`, and the effect of the event on
+-- this slot.
 pub record NextSlot (number at : ℕ) (e : Event) (i : ℕ) (now : List Slot) (kept : List sessions.Slot) (x : Slot) : Type 0 where
   pub slot : sessions.Slot
   pub here : MayReach at x slot
@@ -61,7 +63,8 @@ next_slot number at e (suc i) (k ∷ ks) (l ∷ ls) x less is keeps =
       quiet = λ none. rest.quiet none.1;
     }
 
--- If a device event was applied to every slot up to the last, then it was applied to all slots.
+-- If a device event was applied to every device slot (device with its connection) up to the last,
+-- then it was applied to all slots.
 pub keeps_all : (number at : ℕ) (e : Event) (i : ℕ) (now : List Slot) (kept : List sessions.Slot) → length now ≤ i
     → FirstReached number at e i now kept → KeepsSlots now (map (slot_after number at [] e) kept) × (take i kept ≡ kept)
 keeps_all number at e zero [] [] less keeps = (tt, refl)
@@ -74,8 +77,8 @@ keeps_all number at e (suc i) (k ∷ ks) (l ∷ ls) less keeps =
     let rest = keeps_all number at e i ks ls (omega arith) keeps.1 in
     ((keeps.0, rest.0), ap (λ xs. l ∷ xs) rest.1)
 
--- If an event was applied to `i` device slots and to one more slot, then it was applied to the
--- first `i + 1` slots.
+-- If an event was applied to the first `i` device slots (connections) and to the next slot, then it
+-- was applied to the first `i + 1` slots.
 pub goes_further : (holds mid : List Fact → Type 0) (clean later same changed : Type 0) (number at : ℕ) (e : Event) (i : ℕ) (now : List Slot) (kept : List sessions.Slot)
     (first draft new : PendingWrite) (x y : Slot) → i < length now → x ≡ get_or now i x
     → FirstReached number at e i now kept

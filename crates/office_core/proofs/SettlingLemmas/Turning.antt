@@ -27,9 +27,9 @@ notes-append at (x ∷ xs) ys facts =
     ap (λ zs. outcome_notes at x facts ++ zs) (notes-append at xs ys (with_outcome at x facts))
     ∙ sym (append_assoc (outcome_notes at x facts) _ _)
 
--- The state of the loop over the outcomes of an event. The Modbus session is still processing the
--- event, and the pending write has the outcomes so far. If no outcome was found, nothing has
--- changed.
+-- The state of the loop over the poll outcomes of one event. The Modbus session has not finished
+-- the event, and the pending write (records not yet stored) has the outcomes so far. If no outcome
+-- was found, nothing has changed.
 pub record Turned (holds : List Fact → Type 0) (clean unchanged : Type 0) (old now : State) (happening : Event) (call : Call) (first draft : PendingWrite) : Type 0 where
   pub call_is : IsCall call now (moment_of happening)
   pub timeout : now.timeout ≡ old.timeout
@@ -51,8 +51,8 @@ begins holds clean unchanged old happening call draft rests before same = record
   quiet = λ none. same;
 }
 
--- The result of one call of the Modbus session for an event: an outcome of a poll, or the end of
--- the event.
+-- The result of one call of the Modbus session for an event: an outcome of a poll, or no further
+-- outcome.
 pub record Called (mid new : State) (before after : Event) (settled : Option (ℕ × Settlement)) : Type 0 where
   pub timeout : new.timeout ≡ mid.timeout
   pub window : new.window ≡ mid.window
@@ -62,7 +62,8 @@ longer_is_some : {X : Type 0} (xs : List X) (x : X) → xs ++ x ∷ [] ≡ [] �
 longer_is_some [] x h = cc
 longer_is_some (y ∷ xs) x h = cc
 
--- After the loop finds one more outcome, the pending write also has this outcome.
+-- After the loop finds one more outcome of a poll, the pending write (records not yet stored) also
+-- has this outcome.
 pub turns : (holds mid : List Fact → Type 0) (clean later unchanged changed : Type 0) (old between new : State) (before after : Event) (call : Call)
     (first draft next : PendingWrite) (o : ℕ × Settlement) → Turned holds clean unchanged old between before call first draft
     → moment_of after ≡ moment_of before → new.settling ≡ Some call → new.last ≡ moment_of after → Called between new before after (Some o)
@@ -86,7 +87,8 @@ turns holds mid clean later unchanged changed old between new before after call 
   quiet = λ none. absurd (longer_is_some t.reported o none);
 }
 
--- After the loop ends, the pending write has all outcomes of the event.
+-- After the loop ends, the pending write (records not yet stored) has all poll outcomes of the
+-- event.
 pub ends : (holds : List Fact → Type 0) (clean unchanged : Type 0) (old between new : State) (before after : Event) (call : Call) (first draft : PendingWrite)
     → Turned holds clean unchanged old between before call first draft → moment_of after ≡ moment_of before → Called between new before after None
     → ReportsSettled holds clean old new after first draft
@@ -110,8 +112,8 @@ ends_quietly holds clean unchanged old between new before after call first draft
     ((called.reported none.events t.reported (t.within none.events none.stands)).1
     ∙ ap (λ n. outcomes_at n none.events after) (called.timeout ∙ t.timeout) ∙ none.nothing)
 
--- If a call of the Modbus session returned an outcome, then the event cannot be one that ends no
--- poll.
+-- If a call of the Modbus session for an event returned a poll's outcome, then the event is of a
+-- kind that can end polls.
 pub is_loud : {P : Type 0} (holds : List Fact → Type 0) (clean unchanged : Type 0) (old between new : State) (before after : Event) (call : Call) (first draft : PendingWrite)
     (o : ℕ × Settlement) → Turned holds clean unchanged old between before call first draft → Called between new before after (Some o) → SettlesNothing old after → P
 is_loud holds clean unchanged old between new before after call first draft o t called none =
@@ -124,7 +126,7 @@ is_loud holds clean unchanged old between new before after call first draft o t 
     none_first [] ys h = refl
     none_first (x ∷ xs) ys h = absurd (cc)
 
--- The bytes of a chunk, beginning at index `at`.
+-- The rest of a chunk of received bytes, beginning at index `at`.
 abbrev pub slice_at : ℕ → List ℕ → List ℕ
 slice_at at piece = take (length piece - at) (drop at piece)
 

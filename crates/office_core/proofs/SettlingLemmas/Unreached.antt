@@ -1,5 +1,4 @@
--- Properties of a slot (a device with its connection), if a device event does not concern the
--- slot's device.
+-- Properties of a slot (a device with its connection) when a device event concerns another device.
 use Rattle.std.proofs.Common.{◌≡◌, ℕ, Bool, true, false, List, [], ◌∷◌, Option, Some, None, is_some, refl, sym, ap, subst, ◌∙◌}
 use Rattle.poll_core.specs.Settling as session
 use Rattle.office_events.specs.declared.facts.Device.{Device}
@@ -50,7 +49,8 @@ slot_stays : (number at : ℕ) (e : Event) (slot : sessions.Slot) → IsSettling
 slot_stays number at e slot settling apart none =
     rw (sym apart) (unreached number at e slot slot.present refl (λ before. nothing_on number at e slot.device before settling none))
 
--- If a device event does not concern a device, then the device's slot is unchanged.
+-- If a device event does not concern a device, then the device's slot (the state of its connection)
+-- is unchanged.
 pub still_kept : (number at : ℕ) (e : Event) (kept : Slot) (stood : sessions.Slot) → IsSettling e → false ≡ connects e kept.device
     → false ≡ is_some (happening_on at e kept.device) → MayReach at kept stood → KeepsSlot kept (slot_after number at [] e stood)
 still_kept number at e kept stood settling apart none reach =
@@ -59,7 +59,7 @@ still_kept number at e kept stood settling apart none reach =
     (sym (slot_stays number at e stood settling (subst (λ (d : Device). false ≡ connects e d) is apart) (subst (λ (d : Device). false ≡ is_some (happening_on at e d)) is none)))
     reach.keeps
 
--- If a device event does not concern a device, then it adds no records for the device.
+-- If a device event does not concern a device, then the event adds no records for this device.
 pub adds_none : (holds : List Fact → Type 0) (clean : Type 0) (draft : PendingWrite) (number at : ℕ) (e : Event) (kept : Slot) (stood : sessions.Slot) → IsSettling e
     → false ≡ is_some (happening_on at e kept.device) → MayReach at kept stood
     → Grows holds clean draft draft (with_outcomes at (settled_by number at e stood)) (outcomes_notes at (settled_by number at e stood))

@@ -27,8 +27,8 @@ use Rattle.office_core.specs.declared.sessions.slots.Slot.{Slot}
 use Rattle.office_core.specs.Starting.Starts.{IsBefore, sent_from, slot_sent}
 use Rattle.office_books.proofs.Rounds.{round_count}
 
--- The count of reads that can be started on a Modbus session equals the length of the list of
--- started reads.
+-- The number of reads that a Modbus session can start equals the length of the list of reads that
+-- it starts.
 pub sends_count : (number at : ℕ) (device : Device) (events : List session.Event) (spans : List ReadSpan) (id count window n : ℕ)
     → IsReady device.timeout device.window events id count → count ≤ window → window ≡ device.window
     → n ≡ min (min count device.window) (length spans) → n ≡ length (sends_on number at device events spans)
@@ -44,7 +44,7 @@ ready_on device kept events id count keeps ready =
     subst (λ t. IsReady t device.window events id count) keeps.timeout
     (subst (λ w. IsReady kept.timeout w events id count) keeps.window ready)
 
--- The state after the first `i` of the reads that the session can start. The list `made` has these
+-- The state after the first `i` of the reads that a session can start. The list `made` has these
 -- reads, and the other reads may follow.
 pub record SoFar (number at : ℕ) (device : Device) (events : List session.Event) (spans : List ReadSpan) (i : ℕ) : Type 0 where
   pub made : List Send
@@ -63,8 +63,8 @@ begin number at device events spans = record {
       ∙ ap (λ (es : List session.Event). sends_on (number + 0) at device es spans) (sym (append-nil events));
 }
 
--- The effect of starting one more read on the Modbus session. The read can be started, and its poll
--- is the next poll.
+-- If one more read can be started on the Modbus session, then starting it begins the poll with the
+-- next poll number.
 pub record Next (number at : ℕ) (device : Device) (here : List session.Event) (span : ReadSpan) (rest : List ReadSpan) : Type 0 where
   pub can : is_startable device (Some here) ≡ true
   pub first : sends_on number at device here (span ∷ rest)
@@ -90,8 +90,8 @@ starts_further at device events made send =
     append_assoc events (map (start_by at device) made) (start_by at device send ∷ [])
     ∙ ap (λ (es : List session.Event). events ++ es) (sym (map-append (start_by at device) made (send ∷ [])))
 
--- The condition for starting one more read. A read can be started if fewer reads were started than
--- the Modbus session allows.
+-- The condition and the result of starting one more read. The read can be started if fewer reads
+-- were started than the Modbus session allows.
 pub record Further (number at : ℕ) (device : Device) (events : List session.Event) (spans : List ReadSpan) (i : ℕ) (made : List Send) (span : ReadSpan) : Type 0 where
   pub can : is_startable device (Some (events ++ map (start_by at device) made)) ≡ true
   pub so_far : SoFar number at device events spans (i + 1)
@@ -214,8 +214,8 @@ keeps_after at device events made send kept new keeps terms stands = record {
   window = terms.1 ∙ keeps.window;
 }
 
--- If a buffer has at most `12 * i` bytes, then one more frame of 12 bytes leaves at most `12 * (i +
--- 1)` bytes.
+-- If a buffer has at most `12 * i` bytes, then one more request frame of 12 bytes gives it at most
+-- `12 * (i + 1)` bytes.
 pub room_after : (i len : ℕ) (out bytes more : List ℕ) → length out ≤ i * 12 → len ≡ 12 → length bytes ≡ 260 → more ≡ out ++ take len bytes → length more ≤ (i + 1) * 12
 room_after i len out bytes more room size long is =
     omega (arith, room, size, ap length is, length-append out (take len bytes), length-take-le len bytes (omega (arith, size, long)))

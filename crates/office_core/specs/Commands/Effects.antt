@@ -30,8 +30,8 @@ AsksCommand (event.Command c) = Unit {0}
 AsksCommand (event.Asked asked) = Unit {0}
 AsksCommand _ = ⊥
 
--- A list with the stored answer to the event's request, if the event has an idempotency key.
--- Otherwise an empty list.
+-- The stored answer to the event's request, as a list of one record. Empty if the event has no
+-- idempotency key.
 abbrev pub replies_by : (at : ℕ) → Event → List Fact
 replies_by at (event.Asked asked) = reply_by at asked
 replies_by at _ = []
@@ -63,12 +63,13 @@ started_on number at spans c slot None = slot
 started_on number at spans c slot (Some before) =
     with_happenings slot before (starts_by number at spans (Some c) slot.device before)
 
--- The device's slot after the command. The slot's Modbus session has the reads that the command
--- starts.
+-- The device's slot (the device with its session) after a command started polls on its Modbus
+-- session.
 abbrev pub slot_obeyed : (number at : ℕ) → List ReadSpan → Command → sessions.Slot → sessions.Slot
 slot_obeyed number at spans c slot = started_on number at spans c slot slot.present
 
--- All slots after the command. If the command adds a device, the device's slot is the last slot.
+-- All device slots (devices with their sessions) after a command. If the command adds a device, the
+-- slot of this device is the last.
 abbrev pub slots_obeyed : (number at : ℕ) → List ReadSpan → Command → List sessions.Slot
     → List sessions.Slot
 slots_obeyed number at spans c slots =
@@ -117,8 +118,8 @@ pub record Carries (old new : Ledger) (after : List Slot) (past : History) (at :
       → IfOk result (λ done.
       done.outgoing ≡ outgoing_of (next_poll (facts_of past)) at e (slots_of past) (facts_of past))
 
--- True if `Carries` holds for every accepted event that requests this command and has this stored
--- answer. `before` are the device slots before the event.
+-- True if every accepted event that requests this command, with this stored answer, is executed
+-- correctly. `before` are the devices with their connections before the event.
 abbrev pub CarriesOut : (old new : Ledger) → (before after : List Slot) → (at : ℕ) → Command
     → (replies : List Fact) → Result Done BooksFault → Type 0
 CarriesOut old new before after at c replies result =
@@ -126,8 +127,8 @@ CarriesOut old new before after at c replies result =
     → IsAccepted past at e → command_in e ≡ Some c → replies_by at e ≡ replies
     → Carries old new after past at e result
 
--- True if `Carries` holds for this event after every history that accepts the event and leads to
--- the device slots `before`.
+-- True if this event is executed correctly after every history that accepts the event and leads to
+-- `before`, the devices with their connections.
 abbrev pub CarriesEvent : (old new : Ledger) → (before after : List Slot) → (at : ℕ) → Event
     → Result Done BooksFault → Type 0
 CarriesEvent old new before after at e result =
@@ -147,7 +148,8 @@ polls_by at slot known c = starts.polls_of (next_poll known) at (spans_by known 
 abbrev pub frames_by : (at : ℕ) → sessions.Slot → List Fact → Command → List ℕ
 frames_by at slot known c = starts.frames_of (next_poll known) at (spans_by known c) slot
 
--- The device slot after the command's reads are started on its Modbus session.
+-- The device slot (a device with its session) after the command's reads are started on its Modbus
+-- session.
 abbrev pub slot_by : (at : ℕ) → sessions.Slot → List Fact → Command → sessions.Slot
 slot_by at slot known c = starts.slot_sent (next_poll known) at (spans_by known c) slot
 
@@ -157,8 +159,8 @@ abbrev pub facts_started : (at : ℕ) → sessions.Slot → List Fact → Comman
     → List Fact
 facts_started at slot known c replies = with_facts (polls_by at slot known c ++ replies) known
 
--- True if `so` holds for every device slot that agrees with the slot `kept` in memory. The premise
--- is that the number of recorded polls is within its limit.
+-- True if the property `so` holds for every device slot (device with its session) that agrees with
+-- the slot `kept` in memory. The premise is that the number of recorded polls is within its limit.
 abbrev pub WhereStarted : (kept : Slot) → (sessions.Slot → List Fact → Type 0) → Type 0
 WhereStarted kept so = (slot : sessions.Slot) (known : List Fact) → KeepsSlot kept slot
     → next_poll known ≤ MAX_POLLS + 1 → so slot known
@@ -185,7 +187,7 @@ StandsStarted at c old new after result slot known =
     starts.IsBefore at slot → old.holds known → new.is_clean
     → OnOk result (KeepsSlot after (slot_by at slot known c))
 
--- True if the answer equals `start_answer` whenever the command succeeds in starting polls.
+-- True if the answer equals `start_answer` whenever the command to start polls succeeds.
 abbrev pub AnswersStart : (at : ℕ) → Command → (old new : Ledger)
     → Result Done BooksFault → sessions.Slot → (known : List Fact) → Type 0
 AnswersStart at c old new result slot known =

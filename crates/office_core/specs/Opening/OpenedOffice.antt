@@ -1,5 +1,5 @@
--- The records that the opening of an office over a store adds, and the device slots of the opened
--- office.
+-- The records that an opening of the program adds to its store, and the slots (devices with their
+-- connections) after the opening.
 use Rattle.std.specs.Prelude.{◌≡◌, ℕ, true, ◌∷◌, None, Result, IfOk}
 use Rattle.std.specs.declared.alloc.Global.{Global}
 use Rattle.std.specs.declared.vec.Vec.{Vec}
@@ -14,17 +14,18 @@ use Rattle.office_core.specs.Sessions.Keeping.{KeepsSlots}
 use Rattle.office_books.specs.declared.faults.BooksFault.{BooksFault}
 use Rattle.office_books.specs.Ledgers.{Ledger, Moves}
 
--- A slot for the device, without a session because the device is not connected yet.
+-- A slot (the state of a connection) for the device, without a session because the device is not
+-- connected yet.
 unfoldable pub opened : Device → Slot
 opened device = record { device = device; session = None; idle = λ i. true }
 
--- True if the office may be opened at timestamp `at` after `past`, a list of accepted openings and
+-- True if the program may be opened at timestamp `at` after `past`, a list of accepted openings and
 -- events.
 pub record MayOpen (past : History) (at : ℕ) : Type 0 where
   pub is_past : IsPast past
   pub accepted : opening_refusal_of (facts_of past) at ≡ None
 
--- The guarantees of an opening of the office. The opening records all pending polls as lost, or
+-- The guarantees of an opening of the program. The opening records all pending polls as lost, or
 -- none of them, and each device has a slot without a Modbus session.
 pub record Opens (past : History) (at : ℕ) (old new : Ledger)
     (result : Result (Vec Slot Global) BooksFault) : Type 0 where
@@ -32,7 +33,7 @@ pub record Opens (past : History) (at : ℕ) (old new : Ledger)
   pub slots : old.holds (facts_of past) → new.is_clean
       → IfOk result (λ slots. KeepsSlots slots.items (slots_of (Opened at ∷ past)))
 
--- True for the two reasons to refuse an opening of the office. Its timestamp is before the latest
+-- True for the two reasons to refuse an opening of the program. Its timestamp is before the latest
 -- record's timestamp, or above the limit.
 abbrev pub IsOfOpening : Refusal → Type 0
 IsOfOpening refusal.ClockBack = Unit {0}

@@ -1,5 +1,5 @@
--- The events that the office decides without a query of the store, and the reasons to refuse device
--- events.
+-- The events that the program decides without a query of the store, and the reasons to refuse
+-- device events.
 use Rattle.office_events.specs.declared.commands.Command.{Command}
 use Rattle.office_events.specs.declared.commands.Command.TheVariants as command
 use Rattle.office_events.specs.declared.events.Event.{Event}
@@ -9,14 +9,14 @@ use Rattle.office_events.specs.declared.refusals.Refusal.TheVariants as refusal
 use Rattle.office_events.specs.declared.refusals.StoreCause.{StoreCause}
 use Rattle.office_events.specs.declared.refusals.StoreCause.TheVariants as store
 
--- True if the refusal of the command depends only on the devices, so that the office needs no query
--- of the store.
+-- True if the refusal of the command depends only on the devices, so that the program needs no
+-- query of the store.
 abbrev pub IsOfDevices : Command → Type 0
 IsOfDevices (command.AddDevice c) = Unit {0}
 IsOfDevices (command.PutList c) = Unit {0}
 IsOfDevices _ = ⊥
 
--- True if the refusal of the event depends only on the devices, so that the office needs no query
+-- True if the refusal of the event depends only on the devices, so that the program needs no query
 -- of the store.
 abbrev pub AsksNoBooks : Event → Type 0
 AsksNoBooks (event.Connected given) = Unit {0}
@@ -35,7 +35,7 @@ IsOfDevice (event.Gone given closing) = Unit {0}
 IsOfDevice (event.Command c) = ⊥
 IsOfDevice (event.Asked asked) = ⊥
 
--- True if the office may refuse a device event or a timer event for this reason.
+-- True if the program may refuse a device event or a timer event for this reason.
 abbrev pub IsOfSession : Refusal → Type 0
 IsOfSession refusal.NotFound = Unit {0}
 IsOfSession refusal.ClockBack = Unit {0}
@@ -43,12 +43,13 @@ IsOfSession refusal.Busy = Unit {0}
 IsOfSession refusal.Limit = Unit {0}
 IsOfSession _ = ⊥
 
--- True if the cause states that all poll numbers are used, which is not a failure of the store.
+-- True if the cause of a refusal is that all poll numbers are used, which is not a failure of the
+-- store.
 abbrev pub IsFull : StoreCause → Type 0
 IsFull store.Refused = Unit {0}
 IsFull _ = ⊥
 
--- True if the refusal has its reason in the event. Such a refusal is not a failure, a stop, or a
+-- True if the reason for the refusal is in the event. The refusal is not a failure, a stop, or a
 -- reused idempotency key.
 abbrev pub IsOfEvent : Refusal → Type 0
 IsOfEvent (refusal.Store why) = IsFull why

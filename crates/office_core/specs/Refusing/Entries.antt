@@ -15,11 +15,11 @@ use Rattle.office_books.specs.Refusals.{reasons}
 use Rattle.office_core.specs.declared.refusing.arrivals.Arrival.{Arrival}
 use Rattle.office_core.specs.Refusing.Asking.{IsOfEvent}
 
--- True if the entry has this fault after the last entry of the installed meter.
+-- True if the entry has this fault when it follows the last entry of the installed meter.
 abbrev pub entry_has_fault : Installation → Entry → TermFault → Bool
 entry_has_fault row e why = entering.refuses row.opening.range row.total row.last e why
 
--- True if the entry has this fault at the installed meter. False without a meter.
+-- True if the entry has this fault at the installed meter. False if no meter is installed.
 abbrev pub is_faulty : Option Installation → Entry → TermFault → Bool
 is_faulty None e why = false
 is_faulty (Some row) e why = entry_has_fault row e why
@@ -59,8 +59,8 @@ pub record IsEntryInRange (arrival : Arrival) (off_scale off_limits : Bool)
   pub field : off_limits ≡ false
   pub shown : CanBeShown MAX_RANGE e
 
--- True if the result agrees with the entry. An accepted entry is in range, and a refusal has its
--- reason in the entry or in its command.
+-- True if the result of the check agrees with the entry. An accepted entry is in range, and a
+-- refusal has its reason in the entry or in its command.
 abbrev pub BefitsEntry : Arrival → (off_scale off_limits : Bool) → Entry → Option Refusal → Type 0
 BefitsEntry arrival off_scale off_limits e None = IsEntryInRange arrival off_scale off_limits e
 BefitsEntry arrival off_scale off_limits e (Some why) = IsOfEvent why

@@ -15,14 +15,14 @@ use Rattle.office_core.specs.declared.refusing.arrivals.Arrival.{Arrival}
 use Rattle.office_core.specs.Refusing.Asking.{IsOfEvent}
 use Rattle.office_core.specs.Sessions.Ranges.{IsCommandInRange}
 
--- The timestamp `at` of an event, checked against the timestamp `latest` of the latest accepted
--- event.
+-- The timestamp `at` of an event, with two checks: whether it is before the latest accepted event,
+-- and whether it is above the limit.
 abbrev pub arrival_of : (latest at : ℕ) → Arrival
 arrival_of latest at =
     record { moment = at; is_back = nat_lt at latest; is_beyond = nat_lt moment_limit at }
 
--- The timestamp `at` of a request with an idempotency key. `is_beyond` is also true if the caller's
--- name is invalid or the number exceeds its limit.
+-- The timestamp `at` of a request with an idempotency key, with the results of two checks.
+-- `is_beyond` is also true if the key's caller name is invalid or its number exceeds the limit.
 abbrev pub request_arrival : (latest at : ℕ) → Asked → Arrival
 request_arrival latest at asked = record {
   moment = at;
@@ -46,11 +46,13 @@ speaks_against slots facts arrival c why =
 abbrev pub refusal_under : List sessions.Slot → List Fact → Arrival → Command → Option Refusal
 refusal_under slots facts arrival c = find (speaks_against slots facts arrival c) reasons
 
--- True if `r` is the refusal of the command for these records and any devices.
+-- True if `r` is the correct decision on the command (a reason to refuse it, or none) for these
+-- records and any devices.
 abbrev pub IsWhy : Arrival → Command → List Fact → Option Refusal → Type 0
 IsWhy arrival c facts r = (slots : List sessions.Slot) → r ≡ refusal_under slots facts arrival c
 
--- True if `r` is the refusal of the command for these records and the devices in these slots.
+-- True if `r` is the correct decision on the command (a reason to refuse it, or none) for these
+-- records and device connections.
 abbrev pub IsWhyAmong : List Slot → Arrival → Command → List Fact → Option Refusal → Type 0
 IsWhyAmong kept arrival c facts r =
     (slots : List sessions.Slot) → KeepsSlots kept slots → r ≡ refusal_under slots facts arrival c
@@ -62,8 +64,8 @@ pub record ComesInRange (arrival : Arrival) (c : Command) : Type 0 where
   pub within : arrival.is_beyond ≡ false
   pub command : IsCommandInRange arrival.moment c
 
--- True if the result agrees with the command. An accepted command is in range, and a refusal has
--- its reason in the command.
+-- True if the result of the check agrees with the command. An accepted command is in range, and a
+-- refusal has its reason in the command.
 abbrev pub Befits : Arrival → Command → Option Refusal → Type 0
 Befits arrival c None = ComesInRange arrival c
 Befits arrival c (Some why) = IsOfEvent why

@@ -1,4 +1,4 @@
--- The refusal of an event that the office computes from its device slots and its store.
+-- The reason to refuse an event, as computed from the device connections in memory and the store.
 use Rattle.std.specs.Prelude.{◌≡◌, ℕ, List, Option, Result, IfOk, IfSome}
 use Rattle.office_events.specs.declared.events.Event.{Event}
 use Rattle.office_events.specs.declared.refusals.Refusal.{Refusal}
@@ -10,16 +10,16 @@ use Rattle.office_books.specs.declared.faults.BooksFault.{BooksFault}
 use Rattle.office_books.specs.Ledgers.{Ledger}
 use Rattle.office_core.specs.Refusing.Asking.{IsOfSession}
 
--- True if the result, computed from the device slots and the store, is the refusal of the event.
--- This requires that no wrong result of the store went undetected.
+-- True if the result, computed from the connections in memory and the store, is the reason to
+-- refuse the event, if any. The premise is that no wrong result of the store went undetected.
 abbrev pub ReportsWhy : (old new : Ledger) → List Slot → (latest at : ℕ) → Event
     → Result (Option Refusal) BooksFault → Type 0
 ReportsWhy old new kept latest at e result =
     (past : History) → latest ≡ latest_of past → KeepsSlots kept (slots_of past)
     → old.holds (facts_of past) → new.is_clean → IfOk result (λ r. r ≡ refusal_of past at e)
 
--- True if the result is the refusal of a device event, computed from the slots only. The reason is
--- one of the four reasons of `IsOfSession`.
+-- True if the result is the reason to refuse a device event, if any, computed from the connections
+-- in memory only.
 pub record ReportsAlone (kept : List Slot) (latest at : ℕ) (e : Event)
     (result : Result (Option Refusal) BooksFault) : Type 0 where
   pub why : (past : History) → latest ≡ latest_of past → KeepsSlots kept (slots_of past)

@@ -1,5 +1,5 @@
--- The item that a meter's journal has at a sequence number. Number 1 is the opening, which installs
--- the meter, and the entries have the numbers from 2.
+-- The item that a meter's journal (history) has at a sequence number. Number 1 is the opening,
+-- which installs the meter, and the entries have the numbers from 2.
 use Rattle.std.specs.Prelude.{◌≡◌, ℕ, Bool, true, false, not, List, Option, Some, None, is_some}
 use Rattle.std.specs.List.{find}
 use Rattle.std.specs.Option.{option_and_then}
@@ -17,13 +17,15 @@ use Rattle.office_core.specs.declared.refusing.voids.Spot.{Spot}
 use Rattle.office_core.specs.declared.refusing.voids.Spot.TheVariants as spot
 use Rattle.office_core.specs.Refusing.Reasons.{comes_wrongly}
 
--- True if the journal has neither the opening nor an entry at the sequence number.
+-- True if the meter's journal (history) has neither the opening nor an entry at the sequence
+-- number.
 abbrev pub is_nothing : Spot → Bool
 is_nothing spot.Nothing = true
 is_nothing spot.Opening = false
 is_nothing (spot.Entry place) = false
 
--- The entry at the sequence number, or `None` for the opening and for a missing entry.
+-- The meter's entry at the sequence number, or `None` for the opening (number 1) and for a missing
+-- entry.
 abbrev pub entry_in : Spot → Option EntryContext
 entry_in spot.Nothing = None
 entry_in spot.Opening = None
@@ -35,14 +37,15 @@ abbrev pub is_full : Option EntryContext → Bool
 is_full found = is_held_for cause.TotalFull (verdict_at found)
 
 -- True if voids (cancellations) of the two entries have the same result. Both entries exist or
--- neither exists, both can be voided or neither, and the next entry gets the same verdict.
+-- neither exists, both can be cancelled or neither, and the next entry is accepted or rejected
+-- alike.
 pub record IsJudgedAs (own found : Option EntryContext) : Type 0 where
   pub there : is_some found ≡ is_some own
   pub voidable : is_not_voidable found ≡ is_not_voidable own
   pub verdict : verdict_at found ≡ verdict_at own
 
--- True if `found` is the meter's opening or entry at the sequence number, or an entry whose void
--- has the same result.
+-- True if `found` is the meter's opening (first entry) or entry at the sequence number, or an entry
+-- whose void (cancellation) has the same result.
 pub record IsAt (facts : List Fact) (meter : Option (List ℕ)) (place : ℕ)
     (found : Spot) : Type 0 where
   pub there : is_nothing found
@@ -52,13 +55,13 @@ pub record IsAt (facts : List Fact) (meter : Option (List ℕ)) (place : ℕ)
   pub verdict : verdict_at (entry_in found)
       ≡ verdict_at (option_and_then (λ m. entry_at facts m place) meter)
 
--- True if all numbers of the meter's state before the entry are in range.
+-- True if all numbers in the state of a meter before the entry are in range.
 abbrev pub IsSoundSpot : Spot → Type 0
 IsSoundSpot (spot.Entry place) = IsSound place.before
 IsSoundSpot _ = Unit {0}
 
--- True if this reason to refuse applies to a void (cancellation) of `found`, the journal's entry at
--- a sequence number.
+-- True if this reason to refuse applies to a void (cancellation) of `found`, the item of a meter's
+-- journal at a sequence number.
 abbrev pub speaks_of_void : Arrival → Spot → Refusal → Bool
 speaks_of_void arrival found refusal.NotFound = is_nothing found
 speaks_of_void arrival found refusal.NotVoidable = is_not_voidable (entry_in found)
@@ -66,8 +69,8 @@ speaks_of_void arrival found (refusal.NotPlausible why) =
     is_held_for why (verdict_at (entry_in found))
 speaks_of_void arrival found why = comes_wrongly arrival why
 
--- The first reason to refuse a void (cancellation) of `found`, the journal's entry at a sequence
--- number, or `None`.
+-- The first reason to refuse a void (cancellation) of `found`, the item of a meter's journal at a
+-- sequence number, or `None`.
 abbrev pub void_refusal : Arrival → Spot → Option Refusal
 void_refusal arrival found = find (speaks_of_void arrival found) reasons
 

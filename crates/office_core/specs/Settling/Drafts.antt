@@ -10,12 +10,13 @@ use Rattle.office_books.specs.declared.faults.BooksFault.{BooksFault}
 use Rattle.office_books.specs.Ledgers.{Ledger}
 use Rattle.office_core.specs.declared.settling.drafts.PendingWrite.{PendingWrite}
 
--- The store's records followed by the records of the pending write. The resulting list has the
--- latest record first.
+-- The store's records, followed by the records of the pending write (not yet stored). The resulting
+-- list has the latest record first.
 abbrev pub so_far : PendingWrite → (known : List Fact) → List Fact
 so_far draft known = reverse draft.facts.items ++ known
 
--- True if one record and its notification were added to the pending write `old`, which gives `new`.
+-- True if `new` is the pending write (records not yet stored) `old` with one more record and its
+-- notification.
 pub record HasMore (old new : PendingWrite) (f : Fact) (note : Note) : Type 0 where
   pub facts : new.facts.items ≡ old.facts.items ++ f ∷ []
   pub notes : new.notes.items ≡ old.notes.items ++ note ∷ []
@@ -33,17 +34,17 @@ abbrev pub AreReported : List Fact → Type 0
 AreReported [] = Unit {0}
 AreReported (f ∷ facts) = IsReported f × AreReported facts
 
--- True if the records `more` and the notifications `reports` were added to the pending write `old`,
--- which gives `new`.
+-- True if `new` is the pending write (records not yet stored) `old` with the additional records
+-- `more` and notifications `reports`.
 pub record IsAdded (known : List Fact) (old new : PendingWrite) (more : List Fact → List Fact)
     (reports : List Fact → List Note) : Type 0 where
   pub facts : so_far new known ≡ more (so_far old known)
   pub notes : new.notes.items ≡ old.notes.items ++ reports (so_far old known)
   pub reported : AreReported new.facts.items
 
--- True if the pending write gains the records `more` and the notifications `reports`. The premises
--- are that the rules accept the resulting records, and that no wrong result of the store went
--- undetected.
+-- True if the pending write (records not yet stored) gains the records `more` and the notifications
+-- `reports`. The premises are that the rules accept the resulting records, and that no wrong result
+-- of the store went undetected.
 abbrev pub Grows : (holds : List Fact → Type 0) (clean : Type 0) (old new : PendingWrite)
     → (List Fact → List Fact) → (List Fact → List Note) → Type 0
 Grows holds clean old new more reports =
@@ -51,21 +52,22 @@ Grows holds clean old new more reports =
     → AreLawful (more (so_far old known)) → IsAdded known old new more reports
 
 -- True if a successful call adds the records `more` and the notifications `reports` to the pending
--- write.
+-- write (records not yet stored).
 abbrev pub Adds : {T : Type 0} → (old new : Ledger) → (before after : PendingWrite) → Result T BooksFault
     → (List Fact → List Fact) → (List Fact → List Note) → Type 0
 Adds old new before after result more reports =
     OnOk result (Grows old.holds new.is_clean before after more reports)
 
 -- True if the result of a lookup is correct for the store's records followed by the records of the
--- pending write.
+-- pending write (not yet stored).
 abbrev pub FindsAfter : {T : Type 0} → (old new : Ledger) → PendingWrite → Result T BooksFault
     → (List Fact → T → Type 0) → Type 0
 FindsAfter old new draft result says =
     (known : List Fact) → old.holds known → new.is_clean → AreReported draft.facts.items
     → AreLawful (so_far draft known) → IfOk result (says (so_far draft known))
 
--- True if the call succeeds without a query of the store, and leaves the pending write unchanged.
+-- True if the call succeeds without a query of the store, and leaves the pending write (records not
+-- yet stored) unchanged.
 pub record IsIdle {T B : Type 0} (result : Result T BooksFault) (old new : B)
     (before after : PendingWrite) : Type 0 where
   pub ok : IsOk result

@@ -1,4 +1,5 @@
--- The effects of an accepted device event on the office's store, slots and notifications.
+-- The effects of an accepted device event on the store, the device connections and the
+-- notifications.
 use Rattle.std.specs.Prelude.{◌≡◌, ℕ, List, [], ◌∷◌, None, Result, IfOk, OnOk, IsOk}
 use Rattle.std.specs.declared.alloc.Global.{Global}
 use Rattle.std.specs.declared.vec.Vec.{Vec}
@@ -13,15 +14,15 @@ use Rattle.office_core.specs.Sessions.Keeping.{KeepsSlots}
 use Rattle.office_books.specs.declared.faults.BooksFault.{BooksFault}
 use Rattle.office_books.specs.Ledgers.{Ledger, Moves}
 
--- True if the device slots agree with the state after the accepted events `past`, and no reason to
--- refuse the event applies.
+-- True if the devices and their connections agree with the state after the accepted events `past`,
+-- and no reason to refuse the event applies.
 pub record IsNext (past : History) (slots : List Slot) (at : ℕ) (e : Event) : Type 0 where
   pub is_past : IsPast past
   pub keeps : KeepsSlots slots (slots_of past)
   pub accepted : refusal_of past at e ≡ None
 
--- The guarantees of processing a device event. On `Ok` the store has all outcomes and readings of
--- the event, the slots have the sessions after the event, and the notifications are correct.
+-- The guarantees of processing a device event. On `Ok` the store has all poll outcomes and readings
+-- of the event, the sessions have processed the event, and the notifications are correct.
 --
 -- On an error the store's records are unchanged, but a crash may leave the records after the event.
 pub record Settles (past : History) (at : ℕ) (e : Event) (old new : Ledger) (after : List Slot)

@@ -1,4 +1,4 @@
--- The state of a meter after the records of a pending write, which are not yet in the store.
+-- The state of a meter after the records of a pending write (records not yet stored).
 use Rattle.std.specs.Prelude.{◌≡◌, ◌+◌, List, ◌++◌, reverse, Result, Ok, Err, if◌then◌else◌}
 use Rattle.energy_core.specs.Admission.{entered}
 use Rattle.energy_core.specs.declared.entries.Last.{Last}
@@ -15,13 +15,13 @@ use Rattle.office_books.specs.Lawful.{AreLawful}
 use Rattle.office_books.specs.Laws.{IsRecorded}
 use Rattle.office_core.specs.Settling.Drafts.{AreReported}
 
--- The state of a meter after an entry, given the result of checking the entry. An admissible entry
--- advances the counter and the energy. Otherwise the state is unchanged.
+-- The state of a meter after an entry, given the result of checking the entry. A valid entry
+-- advances the counter and the energy. After an invalid entry the state is unchanged.
 abbrev pub with_result : Installation → Result (Last × Step) TermFault → Installation
 with_result row (Ok entry) = record row { last = entry.0; total = row.total + entry.1.mwh }
 with_result row (Err fault) = row
 
--- The state of a meter after an entry of this meter. If the entry is not admissible, the state is
+-- The state of a meter after an entry of this meter. If the entry is invalid, the state is
 -- unchanged.
 abbrev pub with_entry : Installation → Entry → Installation
 with_entry row e = with_result row (entered row.opening.range row.total row.last e)
@@ -38,13 +38,13 @@ abbrev pub installation_with : Fact → Installation → Installation
 installation_with (fact.Entry booked) row = with_booked booked row
 installation_with _ row = row
 
--- True if `row` is the present state of its meter by the records `facts`.
+-- True if `row` is the state of its meter that follows from the records `facts`.
 pub record IsIn (facts : List Fact) (row : Installation) : Type 0 where
   pub recorded : IsRecorded facts row.opening
   pub stands : row ≡ installation_of facts row.opening
 
 -- True if `following` is the state that the given installed meter has after the pending outcomes
--- and readings `facts`.
+-- and readings `facts` are recorded.
 abbrev pub IsAfterFacts : Installation → (facts : List Fact) → Installation → Type 0
 IsAfterFacts row facts following =
     (known : List Fact) → AreReported facts → AreLawful (reverse facts ++ known) → IsIn known row

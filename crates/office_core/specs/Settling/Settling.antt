@@ -27,7 +27,7 @@ IsSettling (event.Gone given closing) = Unit {0}
 IsSettling (event.Command c) = ⊥
 IsSettling (event.Asked asked) = ⊥
 
--- The session event that an event of the office causes at a device. `None` if the office's event
+-- The session event that an event of the program causes at a device. `None` if the program's event
 -- does not concern the device's session.
 abbrev pub happening_on : (at : ℕ) → Event → Device → Option session.Event
 happening_on at (event.Bytes given piece) device =
@@ -37,13 +37,14 @@ happening_on at (event.Gone given closing) device =
     if is_named given device.name then Some (session.Close at closing) else None
 happening_on at _ device = None
 
--- True if the slot `kept` in memory agrees with `slot`, and no event of its session is later than
--- `at`.
+-- True if the slot `kept` in memory agrees with `slot` (a device with its session), and no event of
+-- the session is later than `at`.
 pub record MayReach (at : ℕ) (kept : Slot) (slot : sessions.Slot) : Type 0 where
   pub keeps : KeepsSlot kept slot
   pub before : none_later at slot.present
 
--- True if `MayReach` holds for each device slot in memory and the given slot at the same index.
+-- True if each device slot (device with its session) in memory agrees with the given slot at the
+-- same index. No event of a slot's session is later than `at`.
 abbrev pub MayReachAll : ℕ → List Slot → List sessions.Slot → Type 0
 MayReachAll at [] [] = Unit {0}
 MayReachAll at (k ∷ kept) (slot ∷ slots) = MayReach at k slot × MayReachAll at kept slots
@@ -58,7 +59,7 @@ pub record SettlesNothing (kept : State) (happening : session.Event) : Type 0 wh
   pub nothing : session.outcomes_at kept.timeout events happening ≡ []
 
 -- The guarantees of passing an event to a Modbus session. The session has processed the event, and
--- the pending write has all outcomes and readings of the event.
+-- the pending write (records not yet stored) has all outcomes and readings of the event.
 pub record ReportsSettled (holds : List Fact → Type 0) (clean : Type 0) (before after : State)
     (happening : session.Event) (first last : PendingWrite) : Type 0 where
   pub timeout : after.timeout ≡ before.timeout
@@ -70,7 +71,8 @@ pub record ReportsSettled (holds : List Fact → Type 0) (clean : Type 0) (befor
       let outcomes = session.outcomes_at before.timeout events happening in
       Grows holds clean first last (with_outcomes at outcomes) (outcomes_notes at outcomes)
 
--- True if `ReportsSettled` holds after a successful call, if the event is not earlier than the
+-- True if a successful call passed the event to the session and added all of its outcomes to the
+-- pending write (records not yet stored). The premise is that the event is not earlier than the
 -- session's last event.
 abbrev pub ReportsAll : {T : Type 0} → (old new : Ledger) → (before after : State) → session.Event
     → (first last : PendingWrite) → Result T BooksFault → Type 0
@@ -78,8 +80,8 @@ ReportsAll old new before after happening first last result =
     before.last ≤ session.moment_of happening
     → OnOk result (ReportsSettled old.holds new.is_clean before after happening first last)
 
--- True if `ReportsAll` holds for an event that concerns the session. If the event does not concern
--- the session, then the session and the pending write are unchanged.
+-- True if an event that concerns the session is processed completely. If the event does not concern
+-- the session, then the session and the pending write (records not yet stored) are unchanged.
 abbrev pub ReportsReached : {T : Type 0} → (old new : Ledger) → (before after : State)
     → Option session.Event → (first last : PendingWrite) → Result T BooksFault → Type 0
 ReportsReached old new before after None first last result =
@@ -97,14 +99,14 @@ abbrev pub ends_session : Option session.Event → Bool
 ends_session None = false
 ends_session (Some happening) = sessions.is_close happening
 
--- True if the event ends no poll on any of these device slots.
+-- True if the event ends no poll on the connections of these devices.
 abbrev pub SettleNothing : (number at : ℕ) → Event → List sessions.Slot → Type 0
 SettleNothing number at e [] = Unit {0}
 SettleNothing number at e (slot ∷ slots) =
     (settled_by number at e slot ≡ []) × SettleNothing number at e slots
 
--- True if the outcomes and readings that the event causes on this device slot are added to the
--- pending write, for any next poll number.
+-- True if the outcomes and readings that the event causes on this device's session are added to the
+-- pending write (records not yet stored). Any next poll number is possible.
 abbrev pub AddsOfSlot : {T : Type 0} → (old new : Ledger) → (at : ℕ) → Event → Slot
     → (before after : PendingWrite) → Result T BooksFault → Type 0
 AddsOfSlot old new at e kept before after result =
@@ -112,8 +114,8 @@ AddsOfSlot old new at e kept before after result =
     → let outcomes = settled_by number at e stood in
     Adds old new before after result (with_outcomes at outcomes) (outcomes_notes at outcomes)
 
--- True if the outcomes and readings that the event causes on all device slots are added to the
--- pending write, in order.
+-- True if the outcomes and readings that the event causes on all sessions are added to the pending
+-- write (records not yet stored), in order.
 abbrev pub AddsOfSlots : {T : Type 0} → (old new : Ledger) → (at : ℕ) → Event → List Slot
     → (before after : PendingWrite) → Result T BooksFault → Type 0
 AddsOfSlots old new at e kept before after result =

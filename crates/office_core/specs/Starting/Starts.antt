@@ -16,8 +16,8 @@ use Rattle.office_books.specs.Sessions.{Slot, Send, start_by, sends_on, sends_at
 use Rattle.office_books.specs.History.{poll_by}
 use Rattle.office_books.specs.Notes.{frame_of}
 
--- The reads of `spans` that can be started on the slot's session, from the first read. Empty if the
--- slot has no session.
+-- The longest prefix of the reads in `spans` that can be started on the device's session. The
+-- prefix is empty if the device has no session.
 abbrev pub sends_of : (number at : ℕ) → List ReadSpan → Slot → List Send
 sends_of number at spans slot = sends_at number at slot.device slot.present spans
 
@@ -57,8 +57,8 @@ GivesPolls device kept number at spans result =
     (events : List session.Event) → KeepsSession device kept events → IfOk result (λ facts.
     facts.items ≡ map (poll_by at device) (sends_on number at device events spans))
 
--- True if `so` holds for the session's events and the reads that can be started, if no event of the
--- session is later than `at`.
+-- True if an event of the session is later than `at`. Otherwise true if the property `so` holds for
+-- the session's events and the reads that can be started at `at`.
 abbrev pub WhereSent : (device : Device) (kept : State) → (number at : ℕ) → List ReadSpan
     → (List session.Event → List Send → Type 0) → Type 0
 WhereSent device kept number at spans so =

@@ -30,7 +30,7 @@ fn listed(alloc: Global, fact: Option<Fact>) -> Result<Vec<Fact>, AllocError>
 }
 
 /// Returns the two records of a meter exchange. The first record closes the open meter of the
-/// accounting register, and the second record opens the new meter.
+/// accounting register (a named energy counter), and the second record opens the new meter.
 fn exchanged<B: Books>(
     alloc: Global,
     books: &mut B,
@@ -50,8 +50,8 @@ fn exchanged<B: Books>(
     Ok(facts)
 }
 
-/// Returns the records that a command adds to the store, in order. The command must not start
-/// polls.
+/// Returns the records that a command adds to the store, in order. The command must be of a kind
+/// that starts no polls.
 pub fn facts_by<B: Books>(
     alloc: Global,
     books: &mut B,

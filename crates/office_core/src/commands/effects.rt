@@ -1,5 +1,5 @@
-//! Executes accepted commands: writes their records, starts their polls and adds slots of new
-//! devices.
+//! Executes accepted commands: writes their records, starts their polls, and adds a slot (a device
+//! with its connection) for each new device.
 ghost use Rattle.std.specs.Prelude.{◌≡◌, ◌≤◌, ◌+◌, ◌++◌, [], true, false, List, Some, OnOk, OnErr, vec_len, vec_capacity};
 ghost use Rattle.std.specs.Option.{option_to_list};
 ghost use Rattle.office_events.specs.declared.commands.Command.TheVariants as commands;
@@ -31,7 +31,8 @@ pub struct Done {
     pub outgoing: Outgoing,
 }
 
-/// Proves that if a command has a point list, then this list has a plan of its reads.
+/// Proves that a point list (the Modbus registers to read) in a command has a plan: the reads that
+/// cover the list.
 pub fn puts_planned(command: &Command)
     ensures { PutsPlanned (Some command.now) }
 {
@@ -53,8 +54,8 @@ pub fn puts_planned(command: &Command)
     }
 }
 
-/// Appends the slot of a new device if the command succeeded and adds a device. The list must have
-/// room for the slot.
+/// Appends the slot (the device with its connection) of a new device if the command succeeded and
+/// adds a device. The list of slots must have room.
 fn add_slot(slots: &mut Vec<Slot>, device: Option<Device>, done: &Result<Done, BooksFault>)
     requires room { vec_len slots.old + 1 ≤ vec_capacity slots.old }
     ensures added { (kept : List sessions.Slot) → KeepsSlots slots.old.items kept
@@ -72,7 +73,8 @@ fn add_slot(slots: &mut Vec<Slot>, device: Option<Device>, done: &Result<Done, B
     }
 }
 
-/// Adds a device. Memory for its slot is reserved before the device is recorded.
+/// Adds a device. Memory for its slot (the device with its connection) is reserved before the
+/// device is recorded.
 fn add_device<B: Books>(
     alloc: Global,
     slots: &mut Vec<Slot>,
@@ -98,7 +100,8 @@ fn add_device<B: Books>(
     done
 }
 
-/// Executes a command that changes no device slot: its records are written, and no frames are sent.
+/// Executes a command that changes no device's connection: its records are written, and no frames
+/// are sent.
 fn note<B: Books>(
     alloc: Global,
     slots: &[Slot],
@@ -188,8 +191,8 @@ fn obey<B: Books>(
 /// Executes an accepted event that requests a command.
 ///
 /// The command's records and the stored answer to the request are written together. The command's
-/// polls are started, and a new device gets a slot. An error changes neither the slots nor the
-/// records.
+/// polls are started, and a new device gets a slot for its connection. An error changes neither the
+/// connections nor the records.
 pub fn carry_out<B: Books>(
     alloc: Global,
     slots: &mut Vec<Slot>,

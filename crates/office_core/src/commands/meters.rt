@@ -50,7 +50,7 @@ pub fn installed_by(exchange: &Exchange) -> Install
     }
 }
 
-/// Returns the record of an entry that advances a meter's counter to `raw`, with `rolls` rollovers.
+/// Returns the record of a meter entry: the counter advanced to `raw`, with `rolls` rollovers.
 fn step_on(row: &Installation, kind: EntryKind, at: u64, raw: u64, rolls: u64) -> Fact
     requires raw { raw ≤ MAX_SHOWN }
     requires rolls { rolls ≤ MAX_ROLLS }
@@ -68,8 +68,8 @@ fn step_on(row: &Installation, kind: EntryKind, at: u64, raw: u64, rolls: u64) -
     })
 }
 
-/// Returns the record of an entry that changes a meter's counter. The counter advanced to `before`
-/// and was then set to `after`, at the scale factor `sf`.
+/// Returns the record of a meter entry that sets the counter. The counter advanced to `before` and
+/// was then set to `after`, at the scale factor `sf`.
 fn change_on(row: &Installation, kind: EntryKind, at: u64, before: u64, after: u64, sf: i16) -> Fact
     requires before { before ≤ MAX_SHOWN }
     requires after { after ≤ MAX_SHOWN }
@@ -88,7 +88,7 @@ fn change_on(row: &Installation, kind: EntryKind, at: u64, before: u64, after: u
     })
 }
 
-/// Returns the closing entry of the old meter, which an exchange of meters replaces.
+/// Returns the closing entry of the old meter in an exchange of meters.
 pub fn closing_by(moment: u64, row: &Installation, exchange: &Exchange) -> Fact
     requires field { asks_bad_field moment (command.Exchange exchange.now) ≡ false }
     requires counter { FitsCounter (command.Exchange exchange.now) }
@@ -148,7 +148,7 @@ pub fn close_by(moment: u64, row: &Installation, close: &Close) -> Fact
     step_on(row, EntryKind::Closing, moment, close.raw, close.rolls)
 }
 
-/// Returns the record that voids a meter entry, or `None` if the meter's name is invalid.
+/// Returns the record that voids (cancels) a meter entry, or `None` if the meter's name is invalid.
 pub fn void_by(moment: u64, void: &VoidEntry) -> Option<Fact>
     ensures { result ≡ adding.void_by moment void.now }
 {
@@ -159,7 +159,8 @@ pub fn void_by(moment: u64, void: &VoidEntry) -> Option<Fact>
     }))
 }
 
-/// Returns the open meter at the named accounting register, or `None` if no meter is open there.
+/// Returns the open meter at the named accounting register (a named energy counter), or `None` if
+/// no meter is open at the register.
 pub fn open_meter<B: Books>(
     books: &mut B,
     register: &Option<Name>,

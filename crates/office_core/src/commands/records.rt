@@ -1,4 +1,4 @@
-//! Writes the records of commands that change no existing device slot.
+//! Writes the records of commands that change no existing device's connection.
 ghost use Rattle.std.specs.Prelude.{◌≡◌, ◌++◌, [], false, List, Option, IfOk};
 ghost use Rattle.std.specs.Option.{option_to_list};
 ghost use Rattle.office_events.specs.declared.facts.Fact.{Fact};
@@ -44,7 +44,7 @@ pub fn book<B: Books>(
 }
 
 /// Writes the records of a command that starts no polls to the store. If the command adds a device,
-/// the caller adds the device's slot.
+/// the caller adds the slot for the device's connection.
 pub fn record<B: Books>(
     alloc: Global,
     books: &mut B,

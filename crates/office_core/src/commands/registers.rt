@@ -1,4 +1,5 @@
-//! Builds the records of commands that add devices, point lists and accounting registers.
+//! Builds the records of commands that add devices, point lists (the Modbus registers to read) and
+//! accounting registers (named energy counters).
 ghost use Rattle.std.specs.Prelude.{◌≡◌, false, IfOk, Option};
 ghost use Rattle.office_events.specs.declared.commands.Command.TheVariants as command;
 ghost use Rattle.office_books.specs.Sessions as sessions;
@@ -26,8 +27,8 @@ pub fn device_by(add: &AddDevice) -> Option<Device>
     })
 }
 
-/// Returns the record of the point list that a command sets, or `None` if the device's name is
-/// invalid.
+/// Returns the record of the point list (the Modbus registers to read) that a command sets, or
+/// `None` if the device's name is invalid.
 pub fn list_by(put: &PutList) -> Result<Option<Fact>, AllocError>
     ensures { IfOk result (λ added. added ≡ adding.list_by put.now) }
 {
@@ -48,8 +49,8 @@ fn function_by(function: u64) -> ReadFunction
     }
 }
 
-/// Returns the record of the accounting register that a command adds, or `None` if a name is
-/// invalid.
+/// Returns the record of the accounting register (a named energy counter) that a command adds, or
+/// `None` if a name is invalid.
 pub fn register_by(add: &AddRegister) -> Option<Fact>
     requires field { asks_bad_field 0 (command.AddRegister add.now) ≡ false }
     requires scale { asks_bad_scale (command.AddRegister add.now) ≡ false }

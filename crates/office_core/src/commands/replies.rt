@@ -1,4 +1,4 @@
-//! Builds the stored answer to a request, by which the office recognizes a retry of the request.
+//! Builds the stored answer to a request, by which the program recognizes a retry of the request.
 ghost use Rattle.std.specs.Prelude.{◌≡◌, [], List, IfOk};
 ghost use Rattle.std.specs.Option.{option_to_list};
 ghost use Rattle.office_events.specs.declared.facts.Fact.{Fact};

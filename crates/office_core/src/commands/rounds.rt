@@ -10,15 +10,15 @@ use office_books::{Books, BooksFault, read_count_at, reads_at};
 use office_events::{Command, StartRound};
 use std::alloc::{AllocError, Global};
 
-/// The Modbus reads that a command requests, and the number of reads in the complete plan of the
-/// device.
+/// The Modbus reads that a command requests, and the number of all reads in the device's plan.
 #[derive(Drop)]
 pub struct Reads {
     pub spans: Vec<ReadSpan>,
     pub of: u64,
 }
 
-/// Returns the reads of the device's plan, beginning at the index that the command gives.
+/// Returns the reads of the device's plan (the reads that cover its registers), beginning at the
+/// index that the command gives.
 fn reads_of_round<B: Books>(
     alloc: Global,
     books: &mut B,

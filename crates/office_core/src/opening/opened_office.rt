@@ -1,5 +1,5 @@
-//! Opens an office: records each pending poll as lost, and creates device slots without Modbus
-//! sessions.
+//! Opens the program's store: records each pending poll as lost, and creates a slot without a
+//! Modbus session for each device.
 ghost use Rattle.std.specs.Prelude.{◌≡◌, ◌≤◌, List, map, reverse, None, IfOk, IfSome, OnErr};
 ghost use Rattle.office_events.specs.declared.facts.Fact.{Fact};
 ghost use Rattle.office_books.specs.Facts.{moment_limit, devices_in};
@@ -17,7 +17,7 @@ use office_events::{Device, EndedPoll, Fact, Poll, Refusal};
 use poll_core::{LAST_MOMENT, LostCause, Outcome};
 use std::alloc::{AllocError, Global};
 
-/// Returns a slot for the device, without a Modbus session.
+/// Returns a slot (the state of a device's connection) for the device, without a Modbus session.
 fn opened(device: &Device) -> Slot
     ensures { result ≡ opening.opened device.now }
 {
@@ -27,14 +27,15 @@ fn opened(device: &Device) -> Slot
     }
 }
 
-/// Returns the slots of a newly opened office, in which no device is connected.
+/// Returns the slots (devices with their connections) directly after the program opened its store,
+/// when no device is connected.
 fn opened_slots(alloc: Global, devices: &[Device]) -> Result<Vec<Slot>, AllocError>
     ensures { IfOk result (λ slots. slots.items ≡ map opening.opened devices.now) }
 {
     devices.iter().map(|device| opened(device)).collect(alloc)
 }
 
-/// Returns the record that a poll is lost because the office was opened again.
+/// Returns the record that a poll is lost because the program was started again.
 fn lost(moment: u64, poll: &Poll) -> Fact
     ensures { result ≡ history.lost moment poll.now }
 {
@@ -45,7 +46,7 @@ fn lost(moment: u64, poll: &Poll) -> Fact
     })
 }
 
-/// Returns one record for each given poll: the poll is lost because the office was opened again.
+/// Returns one record for each given poll: the poll is lost because the program was started again.
 fn lost_facts(alloc: Global, moment: u64, polls: &[Poll]) -> Result<Vec<Fact>, AllocError>
     ensures { IfOk result (λ facts. facts.items ≡ map (history.lost moment) polls.now) }
 {
@@ -78,7 +79,7 @@ fn book_lost<B: Books>(alloc: Global, books: &mut B, moment: u64) -> Result<(), 
     books.book(facts)
 }
 
-/// Returns the reason to refuse an opening of the office, or `None` if the opening is acceptable.
+/// Returns the reason to refuse an opening of the program, or `None` if the opening is acceptable.
 /// An opening is refused if its timestamp is before a record's timestamp, or above the limit.
 ///
 /// Timestamps are in seconds since 1970-01-01 UTC.
@@ -98,7 +99,7 @@ pub fn opening_refusal<B: Books>(books: &mut B, moment: u64) -> Result<Option<Re
     Ok(None)
 }
 
-/// Records an acceptable opening of the office, and returns a slot without a Modbus session for
+/// Records an acceptable opening of the program, and returns a slot without a Modbus session for
 /// each device.
 ///
 /// All pending polls are recorded as lost in one write. If no poll is pending, nothing is written.

@@ -30,7 +30,8 @@ impl Arrival {
         }
     }
 
-    /// Returns the timestamp `moment` of a request, with its idempotency key checked as well.
+    /// Returns the timestamp `moment` of a request. The request's idempotency key is checked as
+    /// well.
     pub fn of_request(latest: u64, moment: u64, asked: &Asked) -> Arrival
         ensures { result ≡ reasons.request_arrival latest moment asked.now }
     {

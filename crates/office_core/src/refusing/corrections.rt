@@ -1,4 +1,5 @@
-//! Finds the reason to refuse a correction or the closing of a meter.
+//! Finds the reason to refuse a correction of a meter (a reset, change of scale or manual reading)
+//! or the closing of a meter.
 ghost use Rattle.std.specs.Prelude.{◌≡◌, IfOk};
 ghost use Rattle.office_events.specs.declared.commands.Command.TheVariants as command;
 ghost use Rattle.office_books.specs.Ledgers.{Finds, OnlyReads};

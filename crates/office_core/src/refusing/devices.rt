@@ -1,4 +1,4 @@
-//! Finds the reason to refuse a new device or a device's point list.
+//! Finds the reason to refuse a new device or a device's point list (the Modbus registers to read).
 ghost use Rattle.std.specs.Prelude.{◌≡◌, List, nat_le, length};
 ghost use Rattle.office_events.specs.declared.commands.Command.TheVariants as command;
 ghost use Rattle.office_events.specs.declared.facts.Fact.{Fact};
@@ -11,7 +11,7 @@ use crate::refusing::limits::is_bad_device;
 use crate::{Slot, has_device};
 use office_events::{AddDevice, MAX_DEVICES, PutList, Refusal};
 
-/// Returns true if the office already has the maximum number of devices.
+/// Returns true if the program already has the maximum number of devices.
 fn are_all(slots: &[Slot]) -> bool
     ensures { IsOfKept slots.now result (λ stood. nat_le device_limit (length stood)) }
 {
@@ -36,7 +36,8 @@ pub fn add_device(slots: &[Slot], arrival: &Arrival, device: &AddDevice) -> Opti
     None
 }
 
-/// Returns the first reason to refuse a point list, or `None` if no reason applies.
+/// Returns the first reason to refuse a point list (the Modbus registers to read), or `None` if no
+/// reason applies.
 pub fn put_list(slots: &[Slot], arrival: &Arrival, put: &PutList) -> Option<Refusal>
     ensures found { (known : List Fact)
         → IsWhyAmong slots.now arrival.now (command.PutList put.now) known result }

@@ -1,5 +1,5 @@
-//! Finds the faults of an entry that a command adds. The command's numbers have 64 bits, so their
-//! sums and products use 128 bits.
+//! Finds the faults of a meter entry that a command adds. The command's numbers have 64 bits, so
+//! their sums and products use 128 bits.
 ghost use Rattle.std.specs.Prelude.{◌≡◌, ◌≤◌, ◌^◌};
 ghost use Rattle.energy_core.specs.Account.{moment_of, reached};
 ghost use Rattle.energy_core.specs.declared.admission.TermFault.TheVariants as fault;
@@ -20,8 +20,8 @@ fn moment(given: &GivenEntry) -> u64
     }
 }
 
-/// Returns the count that the counter reached at the entry. For a `Step` the count includes the
-/// full range of each rollover. For a `Change` it is the count before the counter was set.
+/// Returns the count that the counter reached at the entry. For a `Step`, the count includes the
+/// full range of each rollover. For a `Change`, it is the count before the counter was set.
 fn reach(range: u64, given: &GivenEntry) -> u128
     requires { range ≤ MAX_RANGE }
     ensures value { result ≡ reached range (entry_of given.now) }
@@ -43,14 +43,14 @@ pub fn goes_back(row: &Installation, given: &GivenEntry) -> bool
     reach(row.opening.range, given) < u128::from(row.last.raw)
 }
 
-/// Returns true if the entry's timestamp is not after the timestamp of the meter's last entry.
+/// Returns true if the entry's timestamp is at or before the timestamp of the meter's last entry.
 pub fn is_not_later(row: &Installation, given: &GivenEntry) -> bool
     ensures { result ≡ entry_has_fault row.now (entry_of given.now) fault.NotLater }
 {
     moment(given) <= row.last.at
 }
 
-/// Returns true if the time since the meter's last entry touches more than the maximum number of
+/// Returns true if the time since the meter's last entry overlaps more than the maximum number of
 /// quarter hours.
 pub fn is_long(row: &Installation, given: &GivenEntry) -> bool
     ensures { result ≡ entry_has_fault row.now (entry_of given.now) fault.SpanTooLong }

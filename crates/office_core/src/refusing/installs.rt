@@ -13,7 +13,7 @@ use crate::refusing::names::{has_meter, has_register};
 use office_books::{Books, BooksFault};
 use office_events::{Install, MAX_INSTALLATIONS, Refusal};
 
-/// Returns true if the office already has the maximum number of meters.
+/// Returns true if the program already has the maximum number of meters.
 pub fn are_all<B: Books>(books: &mut B) -> Result<bool, BooksFault>
     ensures found { Finds (B.ledger books.old) (B.ledger books.new) result
         (λ known b. b ≡ nat_le installation_limit (length (openings_in known))) }

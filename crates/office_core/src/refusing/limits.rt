@@ -25,14 +25,15 @@ pub fn is_off_scale_rescale(rescale: &Rescale) -> bool
     is_off_scale(rescale.sf)
 }
 
-/// Returns true if the scale factor of a replacement meter is out of range.
+/// Returns true if the scale factor of the new meter in an exchange is out of range.
 pub fn is_off_scale_exchange(exchange: &Exchange) -> bool
     ensures { result ≡ refusals.asks_bad_scale (command.Exchange exchange.now) }
 {
     is_off_scale(exchange.sf)
 }
 
-/// Returns true if the fixed scale of a new accounting register is out of range.
+/// Returns true if the fixed scale of a new accounting register (a named energy counter) is out of
+/// range.
 pub fn is_bad_scale(scale: GivenScale) -> bool
     ensures { result ≡ refusals.is_bad_scale scale }
 {
@@ -82,7 +83,8 @@ fn is_wide(address: u64, scale: GivenScale) -> bool
     }
 }
 
-/// Returns true if a name or a number of a new accounting register is invalid.
+/// Returns true if a name or a number of a new accounting register (a named energy counter) is
+/// invalid.
 pub fn is_bad_register(moment: u64, register: &AddRegister) -> bool
     ensures { result ≡ refusals.asks_bad_field moment (command.AddRegister register.now) }
 {
@@ -114,21 +116,21 @@ fn is_later(moment: u64, reported: Option<u64>) -> bool
     }
 }
 
-/// Returns true if a number of a manual reading is out of range.
+/// Returns true if a number in the command for a manual reading is out of range.
 pub fn is_bad_manual(moment: u64, manual: &Manual) -> bool
     ensures { result ≡ refusals.asks_bad_field moment (command.Manual manual.now) }
 {
     MAX_ROLLS < manual.rolls || is_later(moment, manual.at)
 }
 
-/// Returns true if a number of a closing is out of range.
+/// Returns true if a number in the command to close a meter is out of range.
 pub fn is_bad_close(moment: u64, close: &Close) -> bool
     ensures { result ≡ refusals.asks_bad_field moment (command.Close close.now) }
 {
     MAX_ROLLS < close.rolls
 }
 
-/// Returns true if a name or a number of an exchange is invalid.
+/// Returns true if a name or a number in the command to exchange a meter is invalid.
 pub fn is_bad_exchange(moment: u64, exchange: &Exchange) -> bool
     ensures { result ≡ refusals.asks_bad_field moment (command.Exchange exchange.now) }
 {

@@ -1,4 +1,4 @@
-//! Checks whether an accounting register has an open meter.
+//! Checks whether an accounting register (a named energy counter) has an open meter.
 ghost use Rattle.std.specs.Prelude.{◌≡◌, is_some};
 ghost use Rattle.std.specs.Option.{option_and_then};
 ghost use Rattle.office_books.specs.Meters.{if_open, open_at};
@@ -17,7 +17,8 @@ fn is_open(row: &Option<Installation>) -> bool
     }
 }
 
-/// Returns true if the accounting register with this name has an open meter.
+/// Returns true if the accounting register (a named energy counter) with this name has an open
+/// meter.
 pub fn has_open_meter<B: Books>(books: &mut B, given: &Option<Name>) -> Result<bool, BooksFault>
     ensures found { Finds (B.ledger books.old) (B.ledger books.new) result
         (λ known b. b ≡ is_some (option_and_then (open_at known) given.now)) }

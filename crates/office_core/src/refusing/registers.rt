@@ -1,4 +1,4 @@
-//! Finds the reason to refuse a new accounting register.
+//! Finds the reason to refuse a new accounting register (a named energy counter).
 ghost use Rattle.std.specs.Prelude.{◌≡◌, IfOk};
 ghost use Rattle.office_events.specs.declared.commands.Command.TheVariants as command;
 ghost use Rattle.office_books.specs.Refusals.{is_full_of_registers};
@@ -12,7 +12,8 @@ use crate::{Slot, has_device};
 use office_books::{Books, BooksFault};
 use office_events::{AddRegister, MAX_REGISTERS, Name, Refusal};
 
-/// Returns true if the device already has the maximum number of accounting registers.
+/// Returns true if the device already has the maximum number of accounting registers (named energy
+/// counters).
 fn is_full<B: Books>(books: &mut B, given: &Option<Name>) -> Result<bool, BooksFault>
     ensures found { Finds (B.ledger books.old) (B.ledger books.new) result
         (λ known b. b ≡ is_full_of_registers known given.now) }
@@ -24,7 +25,8 @@ fn is_full<B: Books>(books: &mut B, given: &Option<Name>) -> Result<bool, BooksF
     }
 }
 
-/// Returns the first reason to refuse a new accounting register, or `None` if no reason applies.
+/// Returns the first reason to refuse a new accounting register (a named energy counter), or `None`
+/// if no reason applies.
 pub fn add_register<B: Books>(
     books: &mut B,
     slots: &[Slot],

@@ -7,7 +7,8 @@ ghost use Rattle.office_core.specs.Refusing.Kept.{kept_as, IsNoRequest, IsReused
 use office_books::{Books, BooksFault, Repeat};
 use office_events::{CommandKind, Event, Refusal};
 
-/// Returns the answer to a request whose idempotency key is known.
+/// Returns the answer to a request with a known idempotency key: the stored answer to a retry, or
+/// `Reused`.
 fn answer_by(repeat: Repeat) -> Result<CommandKind, Refusal>
     ensures { result ≡ kept_as repeat }
 {

@@ -1,4 +1,5 @@
-//! Finds the reason to refuse the start of a poll or of a polling round.
+//! Finds the reason to refuse the start of a poll, or of a polling round (all polls of one device
+//! in turn).
 ghost use Rattle.std.specs.Prelude.{◌≡◌, ◌+◌, List, Option, Some, None, IfOk, is_some, length, nat_lt};
 ghost use Rattle.poll_core.specs.Settling as session;
 ghost use Rattle.office_events.specs.declared.commands.Command.TheVariants as command;
@@ -45,7 +46,7 @@ fn room(slots: &[Slot], given: &Option<Name>) -> Option<u64>
     }
 }
 
-/// Returns the number of reads from index `from` on in a plan of `count` reads.
+/// Returns the number of the remaining reads, from index `from` on, in a plan of `count` reads.
 fn reads_left(count: usize, from: u64) -> u64
     ensures { (list : Option Planned) → Some count ≡ read_count_of list
         → result ≡ length (round_spans from list) }
@@ -53,7 +54,7 @@ fn reads_left(count: usize, from: u64) -> u64
     (count as u64).saturating_sub(from)
 }
 
-/// Returns true if `more` further polls would need numbers above the greatest poll number.
+/// Returns true if `more` further polls would exceed the greatest poll number.
 fn is_past_numbers<B: Books>(books: &mut B, more: u64) -> Result<bool, BooksFault>
     ensures found { Finds (B.ledger books.old) (B.ledger books.new) result
         (λ known b. b ≡ nat_lt poll_limit (length (polls_in known) + more)) }
@@ -95,7 +96,8 @@ pub fn start_poll<B: Books>(
     Ok(None)
 }
 
-/// Returns the first reason to refuse the start of a polling round, or `None` if no reason applies.
+/// Returns the first reason to refuse the start of a polling round (all polls of one device in
+/// turn), or `None` if no reason applies.
 pub fn start_round<B: Books>(
     books: &mut B,
     slots: &[Slot],

@@ -15,13 +15,13 @@ use meter_journal::is_voidable;
 use office_books::{Books, BooksFault, verdict_at};
 use office_events::{EntryContext, Installation, Name, Refusal, VoidEntry};
 
-/// The opening or the entry that a meter's journal has at a sequence number, if any.
+/// The opening (first entry) of a meter, or a later entry, as found at a sequence number.
 #[derive(Clone, Copy)]
 enum Spot {
     Nothing,
-    /// The opening of the meter, which has sequence number 1.
+    /// The opening (first entry) of the meter, which has sequence number 1.
     Opening,
-    /// An entry after the opening, with a sequence number of at least 2.
+    /// A meter entry after the first, with a sequence number of at least 2.
     Entry(EntryContext),
 }
 
@@ -42,11 +42,11 @@ fn is_full(found: &Option<EntryContext>) -> bool
 }
 
 /// Returns the entry of a meter with sequence number `place`, or `None`. The result may have the
-/// meter's total energy instead of the energy before the entry, if the verdict on a void is the
-/// same.
+/// meter's total energy instead of the energy before the entry, if the verdict on a void
+/// (cancellation) is the same.
 ///
-/// The function first uses the meter's total energy from `entry_near`, which reads only the rows
-/// around the entry. It reads all rows only if the total energy might exceed its limit.
+/// The function first uses the meter's total energy and reads only the rows around the entry. It
+/// reads all rows only if the total energy might exceed its limit.
 fn entry_of<B: Books>(
     books: &mut B,
     meter: &Name,
@@ -64,7 +64,8 @@ fn entry_of<B: Books>(
     Ok(near)
 }
 
-/// Returns the opening or the entry that a meter's journal has at sequence number `place`, if any.
+/// Returns the opening (first entry) or the later entry that a meter has at sequence number
+/// `place`, if any.
 fn find_spot<B: Books>(books: &mut B, given: &Option<Name>, place: u64) -> Result<Spot, BooksFault>
     ensures found { Finds (B.ledger books.old) (B.ledger books.new) result
         (λ known spot. spots.IsAt known given.now place spot) }
@@ -89,8 +90,8 @@ fn find_spot<B: Books>(books: &mut B, given: &Option<Name>, place: u64) -> Resul
     }
 }
 
-/// Returns the verdict on an entry that follows the state `before`, or `None` if the entry sets the
-/// counter.
+/// Returns the verdict on a meter entry that follows the meter's state `before`, or `None` if the
+/// entry sets the counter.
 fn verdict_on(before: &Installation, entry: &Entry) -> Option<Verdict>
     requires { IsSound before.now }
     ensures { result ≡ verdict_between before.now entry.now }
@@ -108,8 +109,8 @@ fn verdict_on(before: &Installation, entry: &Entry) -> Option<Verdict>
     }
 }
 
-/// Returns the verdict on the next valid entry if the entry `place` were voided, or `None` if no
-/// valid entry follows.
+/// Returns the verdict on the next valid entry if the entry with sequence number `place` were
+/// voided (cancelled). Returns `None` if no valid entry follows.
 fn verdict(place: &EntryContext) -> Option<Verdict>
     requires { IsSound place.now.before }
     ensures { result ≡ verdict_at (Some place.now) }
@@ -137,8 +138,8 @@ fn refusal_of_voided_entry(place: &EntryContext) -> Option<Refusal>
     }
 }
 
-/// Returns the first reason to refuse a void (cancellation) of `spot`, the journal's entry at a
-/// sequence number, or `None`.
+/// Returns the first reason to refuse a void (cancellation) of `spot`, an entry of a meter, or
+/// `None` if the entry can be voided.
 fn against(arrival: &Arrival, spot: &Spot) -> Option<Refusal>
     requires { spots.IsSoundSpot spot.now }
     ensures found { result ≡ spots.void_refusal arrival.now spot.now }

@@ -1,5 +1,5 @@
-//! Finds the slot of a device by the device's name, and checks whether the slot has a Modbus
-//! session.
+//! Finds the slot (the state of a connection) of a device by the device's name, and checks whether
+//! the slot has a Modbus session.
 ghost use Rattle.std.specs.Prelude.{◌≡◌, ◌<◌, length, IfSome, List, slice_get, is_some};
 ghost use Rattle.std.specs.Option.{option_and_then};
 ghost use Rattle.office_books.specs.Facts as facts;
@@ -20,15 +20,16 @@ pub fn is_named(given: &Option<Name>, device: &Device) -> bool
     }
 }
 
-/// Returns the index of the first slot whose device has the given name.
+/// Returns the index of the first slot (a device with its connection) whose device has the given
+/// name.
 fn position_of(slots: &[Slot], given: &Option<Name>) -> Option<usize>
     ensures { result ≡ place_in slots.now given.now }
 {
     slots.iter().position(|slot| is_named(given, &slot.device))
 }
 
-/// Returns the index of the slot whose device has the given name, or `None` if no device has the
-/// name.
+/// Returns the index of the slot (a device with its connection) whose device has the given name, or
+/// `None` if no device has the name.
 pub fn place_of(slots: &[Slot], given: &Option<Name>) -> Option<usize>
     ensures inside { IfSome result (λ i. i < length slots.now) }
     ensures there { is_some result ≡ has_slot slots.now given.now }
@@ -38,7 +39,7 @@ pub fn place_of(slots: &[Slot], given: &Option<Name>) -> Option<usize>
     position_of(slots, given)
 }
 
-/// Returns true if a slot's device has the given name.
+/// Returns true if the device of a slot (a device with its connection) has the given name.
 pub fn has_device(slots: &[Slot], given: &Option<Name>) -> bool
     ensures { IsOfKept slots.now result (λ stood. is_some (sessions.slot_of stood given.now)) }
 {

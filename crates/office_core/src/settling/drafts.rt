@@ -1,5 +1,5 @@
-//! The pending write of a device event: records that are not yet in the store, and their
-//! notifications.
+//! The pending write of a device event: new records that are not yet in the store, and the
+//! notifications of these records.
 ghost use Rattle.std.specs.Prelude.{◌≡◌, ◌++◌, ◌∷◌, [], OnOk, IfErr};
 ghost use Rattle.office_books.specs.declared.faults.BooksFault.TheVariants.{Memory};
 ghost use Rattle.office_core.specs.Settling.Drafts.{HasMore};
@@ -17,7 +17,7 @@ pub struct PendingWrite {
 }
 
 impl PendingWrite {
-    /// Creates a pending write that has no records. Allocates no memory.
+    /// Creates an empty pending write: no records and no notifications. Allocates no memory.
     pub fn new(alloc: Global) -> PendingWrite
         ensures facts { result.facts.items ≡ [] }
         ensures notes { result.notes.items ≡ [] }
@@ -28,7 +28,7 @@ impl PendingWrite {
         }
     }
 
-    /// Adds a record and its notification to the pending write.
+    /// Adds a record and its notification to the pending write (records not yet stored).
     pub fn add(&mut self, fact: Fact, note: Note) -> Result<(), BooksFault>
         ensures ok { OnOk result (HasMore self.old self.new fact note) }
         ensures err { IfErr result (λ fault. fault ≡ Memory) }

@@ -31,13 +31,14 @@ fn write_records<B: Books>(books: &mut B, facts: Vec<Fact>) -> Result<(), BooksF
     books.book(facts)
 }
 
-/// Applies a device event to the slots, and records its outcomes and readings in one write.
+/// Applies a device event to the device connections, and records its outcomes and readings in one
+/// write.
 ///
 /// Returns a notification for each poll that ended, followed by notifications of the readings in
-/// the poll's response. If an event ends no poll, it makes no query of the store and needs no
-/// memory.
+/// the poll's response. If an event ends no poll, the function makes no query of the store and
+/// needs no memory.
 ///
-/// If the call fails, some slots may have been updated, so the caller must discard all Modbus
+/// If the call fails, some connections may have been updated, so the caller must discard all Modbus
 /// sessions.
 pub fn settle_event<B: Books>(
     alloc: Global,

@@ -1,4 +1,4 @@
-//! Finds the state of a meter after the records of a pending write, which are not yet in the store.
+//! Finds the state of a meter after the records of a pending write (records not yet stored).
 ghost use Rattle.std.specs.Prelude.{◌≡◌};
 ghost use Rattle.office_books.specs.Meters.{open_at};
 ghost use Rattle.office_books.specs.Ranges.{IsSound};
@@ -45,8 +45,9 @@ fn with_facts(row: &Installation, facts: &[Fact]) -> Installation
     following
 }
 
-/// Returns the open meter at an accounting register, with its state after the pending write's
-/// records, or `None` if no meter is open there.
+/// Returns the open meter at an accounting register (a named energy counter), with its state after
+/// the pending write's records (not yet stored). Returns `None` if no meter is open at the
+/// register.
 pub fn open_installation<B: Books>(
     books: &mut B,
     draft: &PendingWrite,

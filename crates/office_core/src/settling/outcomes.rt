@@ -1,4 +1,5 @@
-//! Adds the outcomes of ended polls, and the readings in their responses, to a pending write.
+//! Adds the outcomes of ended polls, and the readings in their responses, to a pending write
+//! (records not yet stored).
 ghost use Rattle.std.specs.Prelude.{◌≡◌, OnOk, IfErr};
 ghost use Rattle.poll_core.specs.Reporting.{settled_of, LendsReply};
 ghost use Rattle.office_books.specs.Readings as readings;
@@ -22,8 +23,9 @@ use office_events::{
 };
 use poll_core::Settled;
 
-/// Returns the record and the notification of a judged reading. If the reading is accepted, the
-/// record is a meter entry. Otherwise it is a rejected reading with its cause.
+/// Returns the record and the notification of a reading that was accepted or rejected. If the
+/// reading is accepted, the record is a meter entry. Otherwise it is a rejected reading with its
+/// cause.
 fn record_of_reading(meter: Name, poll: u64, reading: &Reading, verdict: Verdict) -> (Fact, Note)
     ensures fact { result.0 ≡ readings.as_fact meter poll reading.now verdict }
     ensures note { result.1 ≡ notes.as_note meter reading.now verdict }
@@ -64,8 +66,8 @@ fn record_of_reading(meter: Name, poll: u64, reading: &Reading, verdict: Verdict
     }
 }
 
-/// Judges a reading of an installed meter, and adds the record and the notification of the reading
-/// to the pending write.
+/// Accepts or rejects a reading of an installed meter, and adds the reading's record and
+/// notification to the pending write (records not yet stored).
 fn add_judged(
     draft: &mut PendingWrite,
     row: &Installation,
@@ -82,7 +84,8 @@ fn add_judged(
     draft.add(fact, note)
 }
 
-/// Adds the reading of an accounting register in a poll's response to the pending write.
+/// Adds the reading of an accounting register (a named energy counter) in a poll's response to the
+/// pending write (records not yet stored).
 ///
 /// Adds nothing if the read does not cover the register's counter and scale factor, or if no meter
 /// is open at the register.
@@ -109,8 +112,8 @@ fn add_reading<B: Books>(
     add_judged(draft, &row, poll.number, &reading)
 }
 
-/// Adds the readings of several accounting registers in one response to the pending write, in the
-/// order of the registers.
+/// Adds the readings of several accounting registers in one response to the pending write (records
+/// not yet stored), in the order of the registers.
 fn add_readings<B: Books>(
     books: &mut B,
     draft: &mut PendingWrite,
@@ -130,8 +133,8 @@ fn add_readings<B: Books>(
     Ok(())
 }
 
-/// Adds the readings in a poll's response to the pending write, one for each accounting register
-/// that the read covers.
+/// Adds the readings in a poll's response to the pending write (records not yet stored), one for
+/// each accounting register that the read covers.
 fn add_reply<B: Books>(
     books: &mut B,
     draft: &mut PendingWrite,
@@ -151,8 +154,8 @@ fn add_reply<B: Books>(
     add_readings(books, draft, at, &row.poll, reply, &registers)
 }
 
-/// Adds the outcome of a poll and, if the device responded, the readings in its response to the
-/// pending write.
+/// Adds the outcome of a poll to the pending write (records not yet stored). If the device
+/// responded, adds the readings in its response too.
 pub fn add_outcome<B: Books>(
     books: &mut B,
     draft: &mut PendingWrite,

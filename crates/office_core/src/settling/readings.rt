@@ -1,4 +1,4 @@
-//! Decodes the reading of an accounting register from a Modbus response.
+//! Decodes the reading of an accounting register (a named energy counter) from a Modbus response.
 ghost use Rattle.std.specs.Prelude.{◌≡◌};
 ghost use Rattle.office_books.specs.Readings as readings;
 ghost use Rattle.office_core.specs.Settling.Replies.{words_of};
@@ -17,8 +17,8 @@ fn word_at(span: ReadSpan, reply: &Reply, address: u32) -> u16
     reply.word(place as usize).unwrap_or(0)
 }
 
-/// Returns the scale factor of an accounting register: fixed, or from a Modbus register of the
-/// response.
+/// Returns the scale factor of an accounting register (a named energy counter): fixed, or from a
+/// Modbus register of the response.
 fn scale_of(span: ReadSpan, reply: &Reply, scale: ScaleSource) -> i16
     ensures { result ≡ readings.scale_of span (words_of reply.now) scale }
 {
@@ -28,8 +28,8 @@ fn scale_of(span: ReadSpan, reply: &Reply, scale: ScaleSource) -> i16
     }
 }
 
-/// Returns the reading of an accounting register in a Modbus response: its count and its scale
-/// factor.
+/// Returns the reading of an accounting register (a named energy counter) in a Modbus response: its
+/// count and its scale factor.
 pub fn reading_of(at: u64, span: ReadSpan, reply: &Reply, register: &Register) -> Reading
     ensures { result ≡ readings.reading_of at span (words_of reply.now) register.now }
 {

@@ -1,5 +1,5 @@
 //! Applies a device event to the Modbus session of a device, and adds the outcomes of polls to the
-//! pending write.
+//! pending write (records not yet stored).
 ghost use Rattle.std.specs.Prelude.{◌≡◌, ◌≤◌, true, not, None, OnOk, IfOk};
 ghost use Rattle.poll_core.specs.Settling as happening;
 ghost use Rattle.office_books.specs.Facts.{moment_limit};
@@ -14,8 +14,8 @@ use office_books::{Books, BooksFault};
 use office_events::{Device, Event};
 use poll_core::{Closing, Session, longer_pieces_settle};
 
-/// Passes a chunk of received bytes to a Modbus session, and adds the outcomes of the polls that
-/// the bytes end to the pending write.
+/// Passes a chunk of received bytes to a Modbus session. Adds the outcomes of the polls that the
+/// bytes end to the pending write (records not yet stored).
 fn settle_piece<B: Books>(
     session: &mut Session,
     books: &mut B,
@@ -47,7 +47,7 @@ fn settle_piece<B: Books>(
 }
 
 /// Passes a timer event to a Modbus session, and adds the outcomes of the polls that time out to
-/// the pending write.
+/// the pending write (records not yet stored).
 fn settle_timer<B: Books>(
     session: &mut Session,
     books: &mut B,
@@ -74,7 +74,8 @@ fn settle_timer<B: Books>(
     }
 }
 
-/// Closes a Modbus session, and adds the outcomes of its pending polls to the pending write.
+/// Closes a Modbus session, and adds the outcomes of its pending polls to the pending write
+/// (records not yet stored).
 fn settle_close<B: Books>(
     session: &mut Session,
     books: &mut B,
@@ -101,8 +102,8 @@ fn settle_close<B: Books>(
     }
 }
 
-/// Applies an event to the session of a device, if the event concerns this device. Returns true if
-/// the device stays connected.
+/// Applies an event to the Modbus session of a device, if the event concerns this device. Returns
+/// true if the device stays connected.
 pub fn settle_session<B: Books>(
     session: &mut Session,
     device: &Device,

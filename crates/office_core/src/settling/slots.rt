@@ -1,4 +1,4 @@
-//! Applies a device event to the slots of an office.
+//! Applies a device event to the slots, which are the devices with their connections.
 ghost use Rattle.std.specs.Prelude.{◌≡◌, ℕ, ◌≤◌, [], List, map, Some, OnOk, is_some};
 ghost use Rattle.office_books.specs.Facts.{moment_limit};
 ghost use Rattle.office_books.specs.Sessions as sessions;
@@ -41,7 +41,8 @@ fn reaches(event: &Event, device: &Device) -> bool
     }
 }
 
-/// Returns a slot for a newly connected device, with a new session.
+/// Returns a slot (a device with its connection) for a newly connected device, with a new Modbus
+/// session.
 fn connected(device: &Device) -> Slot
     ensures { KeepsSlot result (record { device = device.now; ended = []; present = Some [] }) }
 {
@@ -51,8 +52,8 @@ fn connected(device: &Device) -> Slot
     }
 }
 
-/// Applies an event to the slot of a device, if the event concerns this device. If the call fails,
-/// the slot has no Modbus session afterwards.
+/// Applies an event to the slot (connection) of a device, if the event concerns this device. If the
+/// call fails, the slot has no Modbus session afterwards.
 fn settle_slot<B: Books>(
     slot: &mut Slot,
     books: &mut B,
@@ -89,7 +90,8 @@ fn settle_slot<B: Books>(
     Ok(())
 }
 
-/// Applies an event to the slot of each device that the event concerns, in the order of the slots.
+/// Applies an event to the slot (connection) of each device that the event concerns, in the order
+/// of the slots.
 pub fn settle_slots<B: Books>(
     slots: &mut [Slot],
     books: &mut B,

@@ -1,7 +1,8 @@
-//! A buffer for the request frames that the office sends to a device.
+//! A buffer for the request frames that the program sends to a device.
 use std::marker::Model;
 
-/// A buffer of at most 260 bytes for request frames. The frames of 16 reads need 192 bytes.
+/// A buffer of at most 260 bytes for request frames, which are sent to a device. The frames of 16
+/// reads need 192 bytes.
 #[derive(Drop)]
 pub struct Outgoing {
     bytes: [u8; 260],
@@ -21,7 +22,7 @@ impl Model for Outgoing {
 impl Outgoing {
     ghost use Rattle.std.specs.Prelude.{◌≡◌, ◌≤◌, ◌+◌, ◌++◌, [], length, take};
 
-    /// Creates a buffer without frames.
+    /// Creates an empty buffer for request frames.
     pub fn none() -> Outgoing
         ensures { result ≡ [] }
     {
@@ -41,7 +42,7 @@ impl Outgoing {
         self.len = end;
     }
 
-    /// Returns the bytes of all frames in the buffer.
+    /// Returns the bytes of all request frames in the buffer.
     pub fn as_slice(&self) -> &[u8]
         ensures { result.now ≡ self.now }
     {

@@ -26,8 +26,7 @@ fn count_on(kept: &Session, device: &Device, spans: &[ReadSpan]) -> usize
         .min(spans.len())
 }
 
-/// Returns the poll records of the given reads, from the first read, for as many reads as the
-/// Modbus session allows.
+/// Returns the poll records of the first of the given reads, as many as the Modbus session allows.
 fn poll_facts(
     alloc: Global,
     kept: &Session,
@@ -55,8 +54,7 @@ fn poll_facts(
     Ok(facts)
 }
 
-/// Returns the poll records of the given reads, from the first read, for as many reads as the
-/// Modbus session allows.
+/// Returns the poll records of the first of the given reads, as many as the Modbus session allows.
 ///
 /// `number` is the number of the first poll.
 pub fn polls_on(
@@ -76,8 +74,7 @@ pub fn polls_on(
     }
 }
 
-/// Starts the given reads on the Modbus session, from the first read, as many as the session
-/// allows.
+/// Starts the first of the given reads, as many as the Modbus session allows.
 fn start_each(
     kept: &mut Session,
     device: &Device,
@@ -105,8 +102,8 @@ fn start_each(
     outgoing
 }
 
-/// Starts the given reads, from the first read, as many as the Modbus session allows, and returns
-/// their request frames.
+/// Starts the first of the given reads, as many as the Modbus session allows, and returns their
+/// request frames.
 ///
 /// `number` is the number of the first poll.
 pub fn start_on(slot: &mut Slot, number: u64, moment: u64, spans: &[ReadSpan]) -> Outgoing

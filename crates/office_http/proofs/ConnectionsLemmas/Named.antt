@@ -24,7 +24,7 @@ use Rattle.office_http.specs.Connections.Named.{HandlesNamed, MayAsk, RepliesMis
 use Rattle.office_http.specs.declared.fault.HandleFault.{HandleFault}
 use Rattle.office_http.proofs.Handled.{came_is, does_reply, gives_since, stopped}
 
--- ---- Bytes that were read in two parts, first the head and then the body.
+-- Lemmas on bytes that were read in two parts, first the head of a request and then the body.
 
 pub counts_both : {X Y : Type 0} (first : Result X TakeFault) (next : Result Y TakeFault) (a b c : Inbox) (r s t : ℕ)
     → CountsTakes first a b r s → CountsTakes next b c s t → CountsTakes next a c r t
@@ -59,12 +59,12 @@ stops_both a b c chunk was then now came first (inr last) =
     }
 
 -- If the input buffer was empty before the call, then all its bytes after the call were read from
--- the link.
+-- the client's connection.
 took : (old new : List ℕ) (r s t : Option (List ℕ)) → old ≡ [] → Came old new r s → Keeps s t → Consumes r t new
 took old new r s t empty came keeps =
     subst (Consumes r t) (sym (came_is old new r s empty came)) (Consumes-kept r s t came.chunk came.consumed keeps)
 
--- ---- The test of the Host header.
+-- Lemmas on the test of the Host header.
 
 none_yet : (names : List (List ℕ)) (read : List ℕ) → IsOpenHead read → MayAsk names read
 none_yet names read goes_on = record {
@@ -85,7 +85,7 @@ tested_first names tested read r s head_state finds may came = record {
   may = may;
 }
 
--- ---- Calls that fail to read their request.
+-- Lemmas on calls that fail to read their request.
 
 does_nothing : {B : Type 0} (ledger : B → Ledger) (at : ℕ) (office : Office B) (fault : TakeFault) (read : List ℕ) (remaining later given later_given : Option (List ℕ))
     (last : Option LastTake) → IsUnfinished routes read → Keeps given later_given → EndsAt fault later
@@ -120,7 +120,7 @@ no_body names ledger at office fault head_state old mid new remaining between la
   }));
 }
 
--- ---- Calls that write a response.
+-- Lemmas on calls that write a response.
 
 pub turned_away : {B : Type 0} (names : List (List ℕ)) (ledger : B → Ledger) (at : ℕ) (office : Office B) (inbox full : Inbox) (head_state : HeadState)
     (result : Result (Unit {0}) HandleFault) (remaining mid later given given_mid later_given : Option (List ℕ)) (was between last : Option LastTake)

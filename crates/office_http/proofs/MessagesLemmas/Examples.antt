@@ -6,8 +6,8 @@ use Rattle.office_http.specs.Messages.HeadTests.{Start}
 use Rattle.office_http.specs.Messages.Hosts.{is_known, may_ask}
 use Rattle.office_http.specs.Messages.Sites.{is_cross_site}
 
--- ---- Accepted Host values (RFC 9110, section 7.2): the names and addresses of this machine, in
--- any case.
+-- Examples of accepted Host values (RFC 9110, section 7.2): the names and addresses of this
+-- machine, in any case.
 
 by_number : is_known [] (codes "127.0.0.1") ≡ true
 by_number = refl
@@ -59,7 +59,7 @@ a_given_name = refl
 another_than_given : is_known (codes "office.example" ∷ []) (codes "evil.example:443") ≡ false
 another_than_given = refl
 
--- ---- Heads with no, one or two Host headers.
+-- Examples of request heads with no, one or two Host headers.
 
 abbrev head_with : List (List ℕ) → Start
 head_with values = record {
@@ -84,8 +84,8 @@ with_an_empty_one = refl
 with_two : may_ask [] (head_with (codes "localhost" ∷ codes "localhost" ∷ [])) ≡ false
 with_two = refl
 
--- ---- Requests that a page of another site sent, by Sec-Fetch-Site (W3C, Fetch Metadata Request
--- Headers, section 2.3).
+-- Examples of requests that a page of another site sent, by Sec-Fetch-Site (W3C, Fetch Metadata
+-- Request Headers, section 2.3).
 
 abbrev from_site : List (List ℕ) → Start
 from_site values = record {

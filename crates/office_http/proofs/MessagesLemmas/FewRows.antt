@@ -1,5 +1,5 @@
--- Lemmas: the program reports at most 513 faulty rows of a point list (CSV), each with a row number
--- of at most 514.
+-- Lemmas: the program reports at most 513 faulty rows of a point list (a CSV text of registers to
+-- poll), each with a row number of at most 514.
 use Rattle.std.proofs.Common.{◌≡◌, ℕ, zero, suc, ◌+◌, ◌≤◌, Bool, true, false, List, [], ◌∷◌, length, Option, Some, None, refl, sym, subst, arith, length-append}
 use Rattle.std.specs.Prelude.{All, if◌then◌else◌}
 use Rattle.std.specs.Option.{option_to_list}
@@ -61,6 +61,7 @@ few_in : (rows : List (List (List ℕ))) → length rows ≤ 514 → AreFew (lis
 few_in [] h = few_no_header
 few_in (header ∷ rows) h = either_few (is_header header) (faults_below rows) no_header (few_below rows (omega arith)) few_no_header
 
--- The faulty rows that the program reports for a point list are within the bounds of `AreFew`.
+-- A list of the faulty rows in a point list (CSV) has at most 513 rows, each with a row number of
+-- at most 514.
 pub reported_few : (text : List ℕ) (reported : List FaultyRow) → AreFaults (list_faults (rows_read text)) reported → AreFew reported
 reported_few text reported is = subst AreFew (sym is.0) (few_in (rows_read text) (omega (arith, length-take 514 (csv_rows text))))

@@ -1,4 +1,5 @@
--- Lemmas: the count of a header in the code agrees with the count in the specification.
+-- Lemmas: the code and the specification agree on whether a request has a header never, once or
+-- more than once.
 use Rattle.std.proofs.Common.{◌≡◌, ◌≤◌, ℕ, List, [], ◌∷◌, length, refl, sym, ap, arith}
 use Rattle.std.specs.Prelude.{codes}
 use Rattle.office_http.specs.Messages.Head.Headers.{Gives, values_of}

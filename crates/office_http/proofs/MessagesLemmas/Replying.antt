@@ -26,7 +26,7 @@ use Rattle.office_http.specs.Messages.Replies.{ask, command_reply, fault, found_
 use Rattle.office_http.specs.Messages.Requests.{name_asked}
 use Rattle.office_http.specs.Messages.WholeResponses.{BodyGives, IsCommand, IsReply, bad_head_status}
 
--- If a test of the head fails, the response does not depend on the request's body.
+-- If a test of the request's head fails, the response does not depend on the request's body.
 fails : (office : Office) (table : Table) (start : Start) (body : List ℕ) (given : Result Command CommandFault) (status : Status) → head_fault table start ≡ Some status
     → fault status ≡ reply_of office table start body given
 fails office table start body given status h = sym (ap (λ o. unless_failed o (found_reply office start body given (route_in table start.target) (name_in table start.target))) h)

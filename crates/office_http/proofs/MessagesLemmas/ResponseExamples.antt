@@ -17,8 +17,8 @@ use Rattle.office_http.specs.Messages.Replies.{fault_said, refused, reply_bytes,
 use Rattle.office_http.specs.Messages.Requests.{kept_request, number_asked}
 use Rattle.office_http.specs.Messages.Rows.{meter_text}
 
--- Example answers of the program: no meter exists, queries for interval rows return rows, and a
--- meter exchange is accepted.
+-- Example answers of the program: no meter exists, queries for energy by quarter hours return rows,
+-- and the replacement of a meter is accepted.
 abbrev office : Office
 office = record {
   meter = λ name. Err refusal.NotFound;

@@ -1,4 +1,4 @@
--- Lemmas on rows that are written as lines of a report, one after another.
+-- Lemmas on the rows of a query that are written as lines of a report, one after another.
 use Rattle.std.proofs.Common.{◌≡◌, ◌∙◌, ◌+◌, ◌<◌, ◌≤◌, ℕ, zero, suc, List, [], ◌∷◌, ◌++◌, length, refl, sym, ap, subst, arith, append_assoc}
 use Rattle.std.specs.Prelude.{flat_map, min}
 use Rattle.std.proofs.lemmas.Bool.Decides.{nat_tests}
@@ -23,7 +23,8 @@ few_counted count next is = grind (arith, nat_tests)
 counted_more : (count next more : ℕ) → next ≡ counted (count + 1) → counted (next + more) ≡ counted (count + suc more)
 counted_more count next more is = grind (arith, nat_tests)
 
--- The lines `text` were written to the report, and the report's count of rows rose by `count`.
+-- True if the lines `text` were written to a report, and the report's count of rows rose by
+-- `count`.
 pub record RowsPut (text : List ℕ) (count : ℕ) (before after : Report) : Type 0 where
   pub puts : Puts before.out after.out text
   pub counts : after.count ≡ counted (before.count + count)
@@ -35,7 +36,7 @@ none_put before after few same = record {
 }
 
 -- If the first row of a report was already written, then later rows are written without the head of
--- the response.
+-- the HTTP response.
 pub later_put : {T : Type 0} (line : T → List ℕ) (before after : Report) (rows : List T) → 0 < before.count → before.count ≤ 18446744073709551615
     → TakesAll (λ old row new. PutsLine (line row) old new) before rows after → RowsPut (flat_map line rows) (length rows) before after
 later_put line before after [] begun few took = none_put before after few took
@@ -47,7 +48,7 @@ later_put line before after (row ∷ rows) begun few took =
       counts = more.counts ∙ counted_more before.count took.0.count (length rows) first.count;
     }
 
--- If a report has no row yet, then its first row is written after the head of the response.
+-- If a report has no row yet, then its first row is written after the head of the HTTP response.
 pub first_put : {T : Type 0} (line : T → List ℕ) (before after : Report) (rows : List T) → before.count ≡ 0
     → TakesAll (λ old row new. PutsLine (line row) old new) before rows after → RowsPut (rows_begun line rows) (length rows) before after
 first_put line before after [] none took = none_put before after (omega arith) took

@@ -1,4 +1,4 @@
--- Lemmas: the body of a request parses to one command or one fault.
+-- Lemmas: the body of a request parses to only one command or one fault.
 use Rattle.std.proofs.Common.{◌≡◌, ◌∙◌, ◌≢◌, ◌⊎◌, ℕ, List, Option, Some, Result, Ok, Err, inl, inr, refl, sym, ap, subst}
 use Rattle.serde_json.specs.Data.{Data}
 use Rattle.serde_json.specs.Read.{read}
@@ -14,7 +14,7 @@ use Rattle.read_plan.specs.PlannedLists.{ListsArePlannedOnce}
 use Rattle.read_plan.specs.PlannedLists.{Planned}
 use Rattle.point_list.specs.Laws.{SpelledListIsOne}
 
--- A JSON text has only one value.
+-- A JSON text has only one value: two values that parsing the text returns are equal.
 one_value : (bytes : List ℕ) (d e : Data) → IsJson bytes d → IsJson bytes e → d ≡ e
 one_value bytes d e one other = let both : Some d ≡ Some e = sym one.value ∙ other.value in cc both
 

@@ -1,4 +1,4 @@
--- Lemmas on bytes that hold no request for any command.
+-- Lemmas on received bytes that contain no request for a command.
 use Rattle.std.proofs.Common.{◌≡◌, ◌∙◌, ◌≢◌, ℕ, true, false, List, Some, None, Result, Ok, Err, refl, sym, ap, subst}
 use Rattle.office_http.specs.Messages.Commands.Given.{Gives}
 use Rattle.office_http.specs.declared.messages.commands.fault.CommandFault.{CommandFault}
@@ -25,11 +25,11 @@ use Rattle.office_http.specs.Messages.Requests.{name_asked}
 use Rattle.office_http.specs.Wants.Bodies.{BodiesGiveOne}
 use Rattle.office_http.specs.Wants.Wanting.{AsksNothing, AsksOffice}
 
--- If bytes begin with an invalid head, then they hold no request for a command.
+-- If received bytes begin with an invalid head, then they contain no request for a command.
 in_bad_head : (table : Table) (bytes : List ℕ) → IsBadHead bytes → AsksNothing table bytes
 in_bad_head table bytes bad asked asks = bad.none asks.holds.len asks.holds.head asks.holds.begins
 
--- If the bytes hold a request for a command, the head of that request is the parsed head.
+-- If received bytes contain a request for a command, the head of that request is the parsed head.
 start_is : (table : Table) (bytes : List ℕ) (at : Head) (asked : Asked) → IsWhole table bytes at → (asks : AsksOffice table bytes asked) → asks.start ≡ start_at bytes at
 start_is table bytes at asked whole asks = (one_request table bytes asks.start (start_at bytes at) asks.body (body_of table bytes at) asks.holds (request_of_whole table bytes at whole)).one_start
 
@@ -62,8 +62,8 @@ asks_a_question table bytes head_state.TooLarge found holds tests = cc tests
 asks_a_question table bytes head_state.NoHead found holds tests = cc tests
 asks_a_question table bytes (head_state.Whole at) found holds tests = tests.1.1
 
--- If the bytes hold a request for a command, then parsing the body of the parsed request has that
--- command as a result.
+-- If received bytes contain a request for a command, then parsing the body of that request returns
+-- the command.
 gives_again : (table : Table) (bytes : List ℕ) (at : Head) (found : Found) (posted : Posted) (asked : Asked) → IsWhole table bytes at
     → TestsHead table (start_at bytes at) (Ok (AskedCommand found posted)) → (asks : AsksOffice table bytes asked)
     → Gives found.route (name_asked (name_of found)) (body_of table bytes at) (Ok asks.command)
@@ -77,7 +77,7 @@ gives_again table bytes at found posted asked whole tests asks =
     (subst (λ n. Gives found.route (name_asked n) asks.body (Ok asks.command)) name
     (subst (λ r. Gives r (name_asked (name_in table asks.start.target)) asks.body (Ok asks.command)) route asks.gives))
 
--- The request has no valid command because its body has a fault, and not because memory ran out.
+-- True if a request's body contains no valid command for another reason than running out of memory.
 abbrev pub IsNoMemory : CommandFault → Type 0
 IsNoMemory why = let given : Result Command CommandFault = Err why in given ≢ Err Memory
 

@@ -27,7 +27,8 @@ pub kept_same : (method target body other_method other_target other_body : List 
     → kept_request method target body ≡ kept_request other_method other_target other_body
 kept_same method target body other_method other_target other_body m t b = λ i. kept_request (m i) (t i) (b i)
 
--- The bytes hold a complete request for a command, whose body parses to this command or fault.
+-- True if received bytes contain a complete request for a command, whose body parses to the given
+-- command or fault.
 pub record IsFoundOut (table : Table) (bytes : List ℕ) (at : Head) (found : Found) (posted : Posted) (given : Result Command CommandFault) : Type 0 where
   pub holds : IsWhole table bytes at
   pub tests : TestsHead table (start_at bytes at) (Ok (AskedCommand found posted))

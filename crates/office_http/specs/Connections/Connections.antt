@@ -11,14 +11,14 @@ use Rattle.office_http.specs.Serving.{with_asked}
 use Rattle.office_http.specs.Wants.Wanting.{AsksOffice}
 use Rattle.office_http.specs.Connections.Named.{MayAsk}
 
--- The bytes of a connection hold a request with this command, and its Host header is accepted.
--- Without a command, the bytes are arbitrary.
+-- True if the bytes of a connection contain a request with this command, and its Host header is
+-- accepted. Without a command, the bytes are arbitrary.
 abbrev pub AskedBy : (names : List (List ℕ)) → (read : List ℕ) → Option Asked → Type 0
 AskedBy names read None = Unit {0}
 AskedBy names read (Some asked) = MayAsk names read × AsksOffice routes read asked
 
--- A served HTTP connection: the time when it was accepted, the bytes that were read, and the
--- command that the program executed, if any.
+-- A served HTTP connection: the time when the connection was accepted, the bytes that were read,
+-- and the command that the program executed, if any.
 pub record Connection (names : List (List ℕ)) : Type 0 where
   pub at : ℕ
   pub read : List ℕ
@@ -32,15 +32,15 @@ abbrev pub history_with : {names : List (List ℕ)} → (past : History) → Lis
 history_with past [] = past
 history_with past (one ∷ earlier) = with_asked (history_with past earlier) one.at one.asked
 
--- The time of each connection is the clock's time when the connection was accepted. The clock was
--- read for nothing else.
+-- True if the time of each connection is the clock's time when the connection was accepted. The
+-- clock was read for nothing else.
 abbrev pub AreTimed : {names : List (List ℕ)} → (begun now : Option (List ℕ))
     → List (Connection names) → Type 0
 AreTimed begun now [] = now ≡ begun
 AreTimed begun now (one ∷ earlier) =
     (between : Option (List ℕ)) × AreTimed begun between earlier × ReportsMoment between now one.at
 
--- The program's state results from its earlier history of accepted events and then one HTTP
+-- True if the program's state follows from the events that it accepted earlier and then one HTTP
 -- connection, which was accepted at the time `at`.
 pub record ServesOne {B : Type 0} (names : List (List ℕ)) (at : ℕ) (ledger : B → Ledger)
     (past : History) (office : Office B) : Type 0 where
@@ -48,8 +48,8 @@ pub record ServesOne {B : Type 0} (names : List (List ℕ)) (at : ℕ) (ledger :
   pub moment : connection.at ≡ at
   pub stands : Stands ledger (with_asked past connection.at connection.asked) office
 
--- The program's state results from its earlier history of accepted events and then at most `most`
--- HTTP connections. Each has the clock's time at its acceptance. A connection has no command if the
+-- True if the program's state follows from its earlier events and then at most `most` HTTP
+-- connections. Each has the clock's time at its acceptance. A connection has no command if the
 -- store or memory failed, or if the program refuses all events.
 pub record ServesUpTo {B : Type 0} (names : List (List ℕ)) (most : ℕ)
     (begun now : Option (List ℕ)) (ledger : B → Ledger) (past : History)

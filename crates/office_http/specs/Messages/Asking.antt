@@ -10,32 +10,32 @@ use Rattle.office_http.specs.declared.messages.ask.Ask.TheVariants.{Question, Co
 use Rattle.office_http.specs.declared.messages.post.Posted.{Posted}
 use Rattle.office_http.specs.declared.messages.status.Status.{Status}
 
--- The request target has this route and this value of the route's parameter.
+-- True if the request target has this route and this value of the route's parameter.
 pub record LeadsTo (table : Table) (start : Start) (found : Found) : Type 0 where
   pub route : route_in table start.target ≡ Some found.route
   pub name : name_of found ≡ name_in table start.target
 
--- The headers of a POST parse to this body size, caller and request number.
+-- True if the headers of a POST parse to this body size, client name and request number.
 pub record Says (headers : PostHeaders) (posted : Posted) : Type 0 where
   pub size : size_in headers ≡ Some posted.size
   pub caller : caller_in headers ≡ Some posted.caller
   pub number : request_in headers ≡ Some posted.number
 
--- The test of a POST's headers. Its result is the parsed headers if all tests pass, or the status
--- of the first failed test.
+-- True if the result is that of testing a POST's headers: the parsed headers if all tests pass, or
+-- the status of the first failed test.
 abbrev pub TestsPost : PostHeaders → Result Posted Status → Type 0
 TestsPost headers (Ok posted) = (post_fault headers ≡ None) × Says headers posted
 TestsPost headers (Err status) = post_fault headers ≡ Some status
 
--- The head asks for this query or command, by the route of its target.
+-- True if the head asks for this query or command, by the route of the request target.
 abbrev pub AsksFor : Table → Start → Ask → Type 0
 AsksFor table start (Question found) = LeadsTo table start found × (is_question found.route ≡ true)
 AsksFor table start (Command found posted) =
     LeadsTo table start found × (is_question found.route ≡ false)
     × Says (post_headers_of start.headers) posted
 
--- The test of a request's head. Its result is the query or command if all tests pass, or the status
--- of the first failed test.
+-- True if the result is that of testing a request's head: the query or command if all tests pass,
+-- or the status of the first failed test.
 abbrev pub TestsHead : Table → Start → Result Ask Status → Type 0
 TestsHead table start (Ok ask) = (head_fault table start ≡ None) × AsksFor table start ask
 TestsHead table start (Err status) = head_fault table start ≡ Some status

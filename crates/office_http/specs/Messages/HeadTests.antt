@@ -1,4 +1,4 @@
--- The tests of a request's head, in order.
+-- The tests of a request's head, in the order in which the program makes them.
 use Rattle.std.specs.Prelude.{ℕ, Bool, false, not, if◌then◌else◌, List, [], ◌∷◌, map, take, is_none, Option, Some, None}
 use Rattle.std.specs.Str.{bytes_eq}
 use Rattle.httparse.specs.Grammar.{RequestHead}
@@ -30,16 +30,17 @@ start_at bytes at = record {
   headers = map (header_bytes bytes) (take at.count at.headers);
 }
 
--- The request's method is that of the route. Upper and lower case differ.
+-- True if the request's method is that of the route. Upper and lower case differ.
 abbrev pub has_method : Route → List ℕ → Bool
 has_method route method = bytes_eq method (method_of route)
 
--- The request target has a route, but the request's method is not that of the route.
+-- True if the request target has a route, but the request's method is not that of the route.
 abbrev pub has_other_method : Option Route → List ℕ → Bool
 has_other_method None method = false
 has_other_method (Some route) method = not (has_method route method)
 
--- The route of the request target is a query. False for a command and for a target without a route.
+-- True if the route of the request target is a query. False for a command and for a target without
+-- a route.
 abbrev pub asks : Option Route → Bool
 asks None = false
 asks (Some route) = is_question route

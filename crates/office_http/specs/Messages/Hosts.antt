@@ -14,37 +14,39 @@ use Rattle.office_http.specs.declared.messages.head.head.HeadState.TheVariants.{
 abbrev pub own_names : List (List ℕ)
 own_names = codes "127.0.0.1" ∷ codes "localhost" ∷ codes "[::1]" ∷ []
 
--- The end of a Host value after the name: empty, or a colon and digits. Any port is accepted.
+-- True for the end of a Host value after the name: empty, or a colon and digits. Any port is
+-- accepted.
 abbrev pub is_port : List ℕ → Bool
 is_port [] = true
 is_port (byte ∷ digits) = byte == 58 && list_all is_ascii_digit digits
 
--- The Host value is this name in any case, with or without a port.
+-- True if the Host value is this name in any case, with or without a port.
 abbrev pub is_host : (name value : List ℕ) → Bool
 is_host name value =
     same_name (take (length name) value) name && is_port (drop (length name) value)
 
--- The Host value is one of the names, with or without a port.
+-- True if the Host value is one of the names, with or without a port.
 abbrev pub is_among : (names : List (List ℕ)) → (value : List ℕ) → Bool
 is_among names value = list_any (λ name. is_host name value) names
 
--- The Host value is a name of this machine or one of the given names, with or without a port.
+-- True if the Host value is a name of this machine or one of the given names, with or without a
+-- port.
 abbrev pub is_known : (given : List (List ℕ)) → (value : List ℕ) → Bool
 is_known given value = is_among own_names value || is_among given value
 
--- The program serves a request without a Host header, or with one Host header that has a known
--- name. It rejects a request with two Host headers (RFC 9112, section 3.2).
+-- True if the program serves a request without a Host header, or with one Host header that has a
+-- known name. False for a request with two Host headers (RFC 9112, section 3.2).
 abbrev pub may_ask_with : (given : List (List ℕ)) → Times → Bool
 may_ask_with given Missing = true
 may_ask_with given (Alone value) = is_known given value
 may_ask_with given Repeated = false
 
--- The Host header in this head lets the program serve the request.
+-- True if the program serves a request with this head, by the head's Host header.
 abbrev pub may_ask : (given : List (List ℕ)) → Start → Bool
 may_ask given start = may_ask_with given (times (values_of (codes "host") start.headers))
 
--- The received bytes pass the test of the Host header. Bytes without a complete head pass, because
--- a later test rejects an invalid head.
+-- True if the received bytes pass the test of the Host header. Bytes without a complete head pass,
+-- because a later test rejects an invalid head.
 abbrev pub may_ask_in : (given : List (List ℕ)) → List ℕ → HeadState → Bool
 may_ask_in given bytes Open = true
 may_ask_in given bytes TooLarge = true

@@ -1,5 +1,5 @@
--- The response to a request. The first failed test of its head decides the response, then a fault
--- of its body, and otherwise the program's answer.
+-- The response to a request. The first failed test of the request's head decides the response, then
+-- a fault of the body, and otherwise the program's answer.
 use Rattle.std.specs.Prelude.{ℕ, List, ◌++◌, if◌then◌else◌, Option, Some, None, Result, Ok, Err}
 use Rattle.office_http.specs.declared.messages.commands.fault.CommandFault.{CommandFault}
 use Rattle.office_http.specs.declared.messages.commands.fault.CommandFault.TheVariants.{Malformed, Negative, Faulty, Memory}
@@ -121,7 +121,7 @@ route_reply office start body given route.Intervals taken =
 route_reply office start body given route.Days taken = question_reply office route.Days taken
 route_reply office start body given _ taken = command_reply (ask office start body) given
 
--- The response to a request with this route. Without a route, the response is 404.
+-- The response to a request with this route. For a request without a route, the response is 404.
 abbrev pub found_reply : Office → Start → (body : List ℕ) → Result Command CommandFault
     → Option Route → Option (List ℕ) → Reply
 found_reply office start body given None taken = fault NotThere

@@ -7,13 +7,13 @@ use Rattle.office_events.specs.declared.facts.EndedPoll.{EndedPoll}
 use Rattle.office_events.specs.declared.questions.Installation.{Installation}
 use Rattle.office_events.specs.declared.questions.PollRow.{PollRow}
 
--- The JSON word of a Boolean.
+-- The JSON text of a Boolean: `true` or `false`.
 abbrev pub bool_text : Bool → List ℕ
 bool_text true = codes "true"
 bool_text false = codes "false"
 
--- The JSON of a meter: its last entry, its range, and its total energy in mWh as a string of
--- digits.
+-- The JSON of a meter: its last entry, its counter's range, and its total energy in mWh as a string
+-- of digits.
 abbrev pub meter_text : Installation → List ℕ
 meter_text row =
     codes "{\"at\":" ++ decimal row.last.at
@@ -27,14 +27,14 @@ meter_text row =
     ++ codes "\"}"
 
 -- The end of a poll: its time, the number of its outcome, and the outcome's code. All fields are 0
--- while the poll is pending.
+-- while the poll waits for its response.
 pub record Ending : Type 0 where
   pub moment : ℕ
   pub outcome : ℕ
   pub code : ℕ
 
--- The end of a poll, from the stored end if the poll has ended. All fields are 0 while the poll is
--- pending.
+-- The end of a poll, from the stored end if the poll has ended. All fields are 0 while the poll
+-- waits for its response.
 abbrev pub ending_of : Option EndedPoll → Ending
 ending_of None = record { moment = 0; outcome = 0; code = 0 }
 ending_of (Some ended) =
@@ -44,7 +44,7 @@ ending_of (Some ended) =
       code = outcome_code ended.outcome;
     }
 
--- The JSON of a poll, with these values for its end.
+-- The JSON of a poll. The end of the poll has the given values.
 abbrev pub poll_text_with : Ending → PollRow → List ℕ
 poll_text_with ending row =
     codes "{\"code\":" ++ decimal ending.code

@@ -9,7 +9,7 @@ use Rattle.office_http.specs.declared.messages.head.head.Head.{Head}
 use Rattle.office_http.specs.declared.messages.head.head.HeadState.{HeadState}
 use Rattle.office_http.specs.declared.messages.head.head.HeadState.TheVariants.{Open, TooLarge, NoHead, Whole}
 
--- The values of Sec-Fetch-Site say that a page of another site sent the request. True for a
+-- True if the values of Sec-Fetch-Site say that a page of another site sent the request. True for a
 -- repeated header, because no browser sends two. False for a missing header: the request came from
 -- an old browser or from another program.
 abbrev pub says_cross_site : Times → Bool
@@ -17,12 +17,13 @@ says_cross_site Missing = false
 says_cross_site (Alone value) = bytes_eq value (codes "cross-site")
 says_cross_site Repeated = true
 
--- The Sec-Fetch-Site header of the request says that a page of another site sent the request.
+-- True if the Sec-Fetch-Site header of the request says that a page of another site sent the
+-- request.
 abbrev pub is_cross_site : Start → Bool
 is_cross_site start = says_cross_site (times (values_of (codes "sec-fetch-site") start.headers))
 
--- The head in these bytes says that a page of another site sent the request. False for bytes
--- without a complete head.
+-- True if the head in these bytes says that a page of another site sent the request. False for
+-- bytes without a complete head.
 abbrev pub is_cross_site_in : List ℕ → HeadState → Bool
 is_cross_site_in bytes Open = false
 is_cross_site_in bytes TooLarge = false

@@ -19,19 +19,20 @@ pub data Times : Type 0 where
   Alone : List ℕ → Times
   Repeated : Times
 
--- The count of a header, from the list of its values.
+-- How often a request has a header (never, once or more often), from the list of the header's
+-- values.
 abbrev pub times : List (List ℕ) → Times
 times [] = Missing
 times (value ∷ []) = Alone value
 times (value ∷ other ∷ values) = Repeated
 
--- The request does not have the header.
+-- True if the request does not have the header.
 abbrev pub is_missing : Times → Bool
 is_missing Missing = true
 is_missing (Alone value) = false
 is_missing Repeated = false
 
--- The request has the header more than once.
+-- True if the request has the header more than once.
 abbrev pub is_repeated : Times → Bool
 is_repeated Missing = false
 is_repeated (Alone value) = false
@@ -71,7 +72,7 @@ caller_in headers = option_and_then named (value_in headers.caller)
 abbrev pub request_in : PostHeaders → Option ℕ
 request_in headers = option_and_then number_in (value_in headers.number)
 
--- The Content-Length is a number above the limit `most`, in bytes.
+-- True if the Content-Length is a number above the limit `most`, in bytes.
 abbrev pub is_over : ℕ → Option ℕ → Bool
 is_over most None = false
 is_over most (Some size) = nat_lt most size

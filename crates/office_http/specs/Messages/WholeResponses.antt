@@ -18,21 +18,21 @@ use Rattle.office_http.specs.Messages.Offices.{Office}
 use Rattle.office_http.specs.Messages.Replies.{ask, command_reply, fault, reply_bytes, reply_of}
 use Rattle.office_http.specs.Messages.Requests.{name_asked}
 
--- The head of the request passes all tests, and the request's target has this route, which is the
--- route of a command.
+-- True if the head of the request passes all tests, and the request's target has this route, which
+-- is the route of a command.
 pub record IsCommand (table : Table) (start : Start) (route : Route) : Type 0 where
   pub passes : head_fault table start ≡ None
   pub leads : route_in table start.target ≡ Some route
   pub changes : is_question route ≡ false
 
--- The body of a command's request parses to `given`, a command or a fault. `Memory` is excluded,
--- because running out of memory is no property of the body.
+-- True if the body of a command's request parses to `given`, a command or a fault. `Memory` is
+-- excluded, because running out of memory is no property of the body.
 abbrev pub BodyGives : Table → Start → (body : List ℕ) → Result Command CommandFault → Type 0
 BodyGives table start body given =
     (route : Route) → IsCommand table start route
     → Gives route (name_asked (name_in table start.target)) body given × (given ≢ Err Memory)
 
--- The bytes hold a complete request, and `reply` is the response to that request.
+-- True if the bytes have a complete request, and `reply` is the response to that request.
 pub record RepliesToRequest (office : Office) (table : Table) (bytes reply : List ℕ) : Type 0 where
   pub start : Start
   pub body : List ℕ
@@ -45,7 +45,7 @@ pub record RepliesToRequest (office : Office) (table : Table) (bytes reply : Lis
 abbrev pub bad_head_status : List ℕ → Status
 bad_head_status bytes = if is_past_limits bytes then FieldsTooLarge else BadRequest
 
--- The bytes begin with an invalid request head, and `reply` is the response to that head.
+-- True if the bytes begin with an invalid request head, and `reply` is the response to that head.
 pub record RepliesToBadHead (bytes reply : List ℕ) : Type 0 where
   pub bad : IsBadHead bytes
   pub is : reply ≡ reply_bytes (fault (bad_head_status bytes))
@@ -57,7 +57,8 @@ reply_to_command office table bytes at given =
     reply_bytes
     (command_reply (ask office (start_at bytes at) (body_of table bytes at)) given)
 
--- `reply` is the response to the received bytes, which hold an invalid head or a complete request.
+-- True if `reply` is the response to the received bytes, which have an invalid head or a complete
+-- request.
 abbrev pub IsReply : Office → Table → (bytes reply : List ℕ) → Type 0
 IsReply office table bytes reply =
     RepliesToBadHead bytes reply ⊎ RepliesToRequest office table bytes reply

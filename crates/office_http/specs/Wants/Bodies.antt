@@ -6,7 +6,7 @@ use Rattle.office_http.specs.declared.messages.commands.fault.CommandFault.TheVa
 use Rattle.office_http.specs.declared.messages.routing.routes.Route.{Route}
 use Rattle.office_events.specs.declared.commands.Command.{Command}
 
--- Two results of parsing one body for one route are equal, unless memory ran out.
+-- States that two results of parsing one body for one route are equal, unless memory ran out.
 abbrev pub BodiesGiveOne : Type 0
 BodiesGiveOne =
     (at : Route) (name : Option (List ℕ)) (body : List ℕ) (one other : Result Command CommandFault)

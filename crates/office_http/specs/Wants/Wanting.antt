@@ -1,4 +1,4 @@
--- The query or command of a request, or why there is none.
+-- The query or command of a request, or the reason why the request has neither.
 use Rattle.std.specs.Prelude.{◌≡◌, ◌⊎◌, ℕ, true, List, Ok, Err}
 use Rattle.office_http.specs.Messages.Commands.Given.{Gives}
 use Rattle.office_http.specs.Messages.Commands.Few.{HasFewRows}
@@ -21,8 +21,8 @@ use Rattle.office_http.specs.Messages.WholeResponses.{IsCommand, IsReply}
 use Rattle.office_http.specs.declared.wants.kinds.Want.{Want}
 use Rattle.office_http.specs.declared.wants.kinds.Want.TheVariants as want
 
--- The bytes hold a request for this command: its head passes all tests, and its body contains the
--- command.
+-- True if the bytes have a request for this command: its head passes all tests, and its body
+-- contains the command.
 pub record AsksOffice (table : Table) (bytes : List ℕ) (asked : Asked) : Type 0 where
   pub start : Start
   pub body : List ℕ
@@ -33,43 +33,46 @@ pub record AsksOffice (table : Table) (bytes : List ℕ) (asked : Asked) : Type 
   pub gives : Gives route (name_asked (name_in table start.target)) body (Ok command)
   pub is : asked ≡ asked_of start body command
 
--- The bytes hold no request for any command.
+-- True if the bytes have no request for any command.
 abbrev pub AsksNothing : Table → (bytes : List ℕ) → Type 0
 AsksNothing table bytes = (asked : Asked) → AsksOffice table bytes asked → ⊥
 
--- `text` is the response to the bytes for any state of the program, and the bytes hold no request
--- for a command.
+-- True if `text` is the response to the bytes for any state of the program, and the bytes have no
+-- request for a command.
 pub record IsReportedOff (table : Table) (bytes text : List ℕ) : Type 0 where
   pub nothing : AsksNothing table bytes
   pub reply : (office : Office) → IsReply office table bytes text
 
--- The bytes hold a request with this query, and the response is the program's answer to it.
+-- True if the bytes have a request with this query, and the response is the program's answer to the
+-- query.
 pub record IsQuestion (table : Table) (bytes : List ℕ) (found : Found) : Type 0 where
   pub asks : is_question found.route ≡ true
   pub nothing : AsksNothing table bytes
   pub reply : (office : Office)
       → IsReply office table bytes (reply_bytes (question_reply office found.route (name_of found)))
 
--- The bytes hold a request for this command, and the response is the program's answer to it.
+-- True if the bytes have a request for this command, and the response is the program's answer to
+-- the command.
 pub record IsAskedFor (table : Table) (bytes : List ℕ) (asked : Asked) : Type 0 where
   pub asks : AsksOffice table bytes asked
   pub reply : (office : Office)
       → IsReply office table bytes (reply_bytes (row_reply done_text (office.asked asked)))
 
--- The body of the request contains no valid command, for the reason `why`. If the reason is
+-- True if the body of the request contains no valid command, for the reason `why`. If the reason is
 -- `Memory`, then memory ran out, and the request is arbitrary.
 abbrev pub IsNoCommand : Table → (bytes : List ℕ) → CommandFault → Type 0
 IsNoCommand table bytes why = (why ≡ Memory) ⊎ IsReportedOff table bytes (reply_bytes (fault_said why))
 
--- The request in the bytes has this query or this command, or it has neither because of a failed
--- test or a faulty body.
+-- True if the request in the bytes has this query or this command, or has neither because of a
+-- failed test or a faulty body.
 abbrev pub Wants : Table → (bytes : List ℕ) → Want → Type 0
 Wants table bytes (want.Rejected status) = IsReportedOff table bytes (reply_bytes (fault status))
 Wants table bytes (want.Answer found) = IsQuestion table bytes found
 Wants table bytes (want.Refused why) = IsNoCommand table bytes why
 Wants table bytes (want.Command asked) = IsAskedFor table bytes asked
 
--- If the result has faulty rows of a point list, they are within the bounds of `HasFewRows`.
+-- True if any faulty rows of a point list (CSV) in the result are at most 513, each with a row
+-- number of at most 514.
 abbrev pub HasFewFaults : Want → Type 0
 HasFewFaults (want.Rejected status) = Unit {0}
 HasFewFaults (want.Answer found) = Unit {0}

@@ -17,8 +17,8 @@ use std::net::{OpenListener, OpenStream};
 /// The most seconds from accepting a connection to the end of its response.
 pub const MOST_SECONDS: u64 = 10;
 
-// Serves the only request of a connection that was accepted at `moment`. A failure ends only this
-// connection.
+// Serves the only request of an HTTP connection that was accepted at the time `moment`. A failure
+// ends only this connection.
 fn serve_connection<R: std::rt::Clock, S: Read + Write + OpenStream + Drop, B: Books>(
     rt: &R,
     alloc: Global,
@@ -42,7 +42,8 @@ fn serve_connection<R: std::rt::Clock, S: Read + Write + OpenStream + Drop, B: B
     }
 }
 
-// Returns whether an error of `accept` concerns only the new connection, and not the listener.
+// Returns whether an error of `accept` concerns only the new connection, and not the listening
+// socket.
 fn is_of_connection(kind: ErrorKind) -> bool {
     matches!(kind, ErrorKind::ConnectionAborted | ErrorKind::Interrupted)
 }
@@ -51,9 +52,9 @@ fn is_of_connection(kind: ErrorKind) -> bool {
 ///
 /// Each connection has one request. The request's timestamp is the clock's time when the connection
 /// was accepted. [`handle_named`] tests the host. A connection that fails also counts, and ends
-/// alone. A connection without a response 10 seconds after it was accepted is dropped, by the
-/// monotonic clock. Each socket call waits for at most a second. An error of the listener ends the
-/// call.
+/// alone. A connection without a response 10 seconds after its acceptance is dropped, by the
+/// monotonic clock. Each socket call waits for at most a second. An error of the listening socket
+/// ends the call.
 pub fn serve_connections<R: std::rt::Clock, L: OpenListener, B: Books, C: Clock>(
     rt: &R,
     alloc: Global,
@@ -85,7 +86,7 @@ where
     Ok(())
 }
 
-/// Serves requests as [`serve_connections`] does, under the names of this machine only.
+/// Serves requests as [`serve_connections`] does, under the host names of this machine only.
 ///
 /// The call uses the clock for timestamps only. Connections have no deadline, but each socket call
 /// waits for at most a second.

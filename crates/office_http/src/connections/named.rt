@@ -38,8 +38,8 @@ pub fn write_misdirected<L: Link>(link: &mut L) -> Result<(), HandleFault>
     ended(sent, None)
 }
 
-// Reads a request head. If the head's `Host` header is accepted, reads the body and serves the
-// request. Otherwise writes the response 421.
+// Reads a request head. If the head's `Host` header is accepted, reads the request's body and
+// serves the request. Otherwise writes the response 421 (Misdirected Request).
 fn serve_named<L: Link, B: Books>(
     alloc: Global,
     router: &Router<Route>,
@@ -73,7 +73,7 @@ fn serve_named<L: Link, B: Books>(
 ///
 /// The header is accepted if it names this machine or one of `names`, or is missing. Any other head
 /// gets status 421 as soon as the head has arrived, before all other tests. If memory runs out for
-/// a request, the response reports that, and the host is not tested.
+/// a request, the response reports the lack of memory, and the host is not tested.
 pub fn handle_named<L: Link, B: Books>(
     alloc: Global,
     names: &[&str],

@@ -8,7 +8,7 @@ ghost use Rattle.office_http.specs.Messages.Faults.{faults_text, more_rows};
 use crate::messages::sending::Text;
 use point_list::FaultyRow;
 
-// Appends `key`, a row number and the number of the row's fault as JSON.
+// Appends to a JSON text: the text `key`, the number of a row, and the number of the row's fault.
 fn push_row(text: &mut Text, key: &[u8], faulty: FaultyRow)
     requires room { length text.old + length key.now + 60 ≤ 8192 }
     requires low { faulty.row ≤ 514 }
@@ -21,7 +21,7 @@ fn push_row(text: &mut Text, key: &[u8], faulty: FaultyRow)
     text.push(b"]");
 }
 
-// Appends row numbers and their faults as JSON, each with a comma before it.
+// Appends the numbers of rows and of their faults to a JSON text, each with a comma before it.
 fn push_rows(text: &mut Text, rows: &[FaultyRow])
     requires room { length text.old + 12 * length rows.now ≤ 8000 }
     requires low { All (λ faulty. faulty.row ≤ 514) rows.now }

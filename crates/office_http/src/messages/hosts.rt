@@ -71,8 +71,8 @@ fn is_given(given: &[&str], value: &[u8]) -> bool
     is_one_of(given, value)
 }
 
-// Returns whether the `Host` header allows the program to serve the request: the header is missing,
-// or the request has it once, with the name of this machine or one of the names `given`.
+// Returns whether the program serves a request, by the `Host` header: it is missing, or occurs once
+// with a name of this machine or one of the names `given`.
 fn has_known_host(given: &[&str], bytes: &[u8], head: &Head) -> bool
     requires placed { IsPlaced bytes.now head.now }
     ensures { result ≡ hosts.may_ask (texts given.now) (start_at bytes.now head.now) }

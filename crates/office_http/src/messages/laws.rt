@@ -1,4 +1,4 @@
-//! Theorems: which response belongs to the bytes of a request.
+//! Theorems: how the response to a request follows from the request's bytes.
 ghost use Rattle.std.specs.Prelude.{◌≡◌, ◌≢◌, Ok, Err};
 ghost use Rattle.office_http.specs.Messages.Commands.Given.{Gives};
 ghost use Rattle.office_http.specs.declared.messages.commands.fault.CommandFault.TheVariants.{Memory};
@@ -30,7 +30,7 @@ pub fn faults_are_replied_to(
     ensures { (office : Office) → IsReply office router.now bytes.now (reply_bytes (fault status)) }
 {}
 
-/// Theorem: the response to a query is the result of the lookup in the store.
+/// Theorem: the response to a query is the result of the query in the store.
 pub fn questions_are_replied_to(
     router: &Router<Route>,
     bytes: &[u8],

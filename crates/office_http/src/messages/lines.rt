@@ -1,4 +1,4 @@
-//! Writes the lines of energy reports to a response. No function in this module allocates.
+//! Writes the lines of energy reports to an HTTP response. No function in this module allocates.
 ghost use Rattle.interval_core.specs.Report.{day_line};
 ghost use Rattle.interval_core.specs.Lines.{end_line, share_line};
 ghost use Rattle.office_http.specs.Messages.Sending.Sending.{Puts};
@@ -8,17 +8,17 @@ use interval_core::{DayTotal, Share};
 use mb_wire::Link;
 use script_text::{day_line, end_line, interval_line};
 
-/// Writes the line of one interval: its start in seconds since 1970-01-01 UTC, and its energy in
-/// mWh.
+/// Writes the line of one quarter hour to a report: its start in seconds since 1970-01-01 UTC, and
+/// its energy in mWh.
 pub fn write_share<L: Link>(row: &Share, writer: &mut ResponseWriter<'_, L>)
     ensures { Puts writer.old writer.new (share_line row.now) }
 {
     writer.write_bytes(interval_line(*row).bytes());
 }
 
-/// Writes the line of one day to a report. The line has the day as `YYYY-MM-DD`, the number of its
-/// intervals in 3 columns, and its energy in mWh in 24 columns. Spaces separate the fields, and
-/// both numbers are right-aligned.
+/// Writes the line of one day to a report. The line has the day as `YYYY-MM-DD`, the number of
+/// recorded quarter hours in 3 columns, and the day's energy in mWh in 24 columns. Spaces separate
+/// the fields, and both numbers are right-aligned.
 pub fn append_day<L: Link>(total: &DayTotal, writer: &mut ResponseWriter<'_, L>)
     ensures { Puts writer.old writer.new (day_line total.now) }
 {

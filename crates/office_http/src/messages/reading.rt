@@ -1,4 +1,4 @@
-//! Reads an HTTP request from a link: first its head, then its body.
+//! Reads an HTTP request from a client's connection: first its head, then its body.
 
 mod head_and_body;
 mod inbox;

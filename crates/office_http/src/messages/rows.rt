@@ -21,8 +21,9 @@ fn push_scale(text: &mut Text, sf: i16)
     text.push_number(b"\",\"sf\":", i64::from(sf));
 }
 
-/// Formats the JSON of a meter: its last entry, its range, and its total energy in mWh. The energy
-/// is a string of digits, since JSON numbers lose precision above 2^53 in many clients.
+/// Formats the JSON of a meter: its last entry, its counter's range, and its total energy in mWh.
+/// The energy is a string of digits, because JSON numbers lose precision above 2^53 in many
+/// clients.
 pub fn meter_body(row: &Installation) -> Text
     ensures { result ≡ meter_text row.now }
 {
@@ -42,7 +43,8 @@ pub fn meter_body(row: &Installation) -> Text
     text
 }
 
-// The end of a poll: its time, outcome and code. All fields are 0 while the poll is pending.
+// The end of a poll: its time, outcome and code. All fields are 0 while the poll waits for its
+// response.
 #[derive(Clone, Copy)]
 struct Ending {
     moment: u64,
@@ -70,7 +72,7 @@ fn ending_of(ended: &Option<EndedPoll>) -> Ending
 }
 
 /// Formats the JSON of a poll. The numbers of its outcome and of the outcome's code are 0 while the
-/// poll is pending.
+/// poll waits for its response.
 pub fn poll_body(row: &PollRow) -> Text
     ensures { result ≡ poll_text row.now }
 {

@@ -1,4 +1,5 @@
-//! Formats HTTP responses, and sends them to a link. No function in this module allocates.
+//! Formats HTTP responses, and sends them to the client's connection. No function in this module
+//! allocates.
 
 mod bodies;
 mod outbox;

@@ -1,4 +1,5 @@
-//! Reads a complete HTTP request from a link: its head, and the body that belongs to this head.
+//! Reads a complete HTTP request from a client's connection: its head, and the body that belongs to
+//! this head.
 
 ghost use Rattle.std.specs.Prelude.{◌≡◌, ◌≤◌, ◌+◌, IsUtf8, MatchBool, OnOk, Ok, drop, length, take};
 ghost use Rattle.std.specs.Io.KnownBytes.{Keeps};
@@ -20,7 +21,7 @@ use crate::messages::{Ask, Found, MOST_BODY, Posted, ask_of};
 use matchit::Router;
 use mb_wire::Link;
 
-/// The size in bytes of a buffer that suffices for any request.
+/// The size in bytes of a buffer that is large enough for any request.
 pub const MOST_ROOM: usize = MOST_BYTES + MOST_BODY;
 
 // Returns the size in bytes of the body that follows a head: 0 for a query or a head that fails a
@@ -37,8 +38,8 @@ fn body_size(router: &Router<Route>, bytes: &[u8], head: &Head) -> usize
     }
 }
 
-/// Reads from a link until the buffer holds a complete request or an invalid head. The returned
-/// state is never `Open`.
+/// Reads from a client's connection until the buffer has a complete request or an invalid head. The
+/// returned state is never `Open`.
 ///
 /// Fails with the cause if a read fails, the input ends, or the buffer has made 100,000 reads.
 pub fn read_request<L: Link>(
@@ -64,8 +65,8 @@ pub fn read_request<L: Link>(
     Ok(head_state)
 }
 
-/// Returns whether bytes hold a complete request or an invalid head. Then no more bytes have to be
-/// read.
+/// Returns whether bytes have a complete request or an invalid head, so that no more bytes have to
+/// be read.
 pub fn is_whole(router: &Router<Route>, bytes: &[u8]) -> bool
     ensures { MatchBool result (IsReadWhole router.now bytes.now)
         (IsUnfinished router.now bytes.now) }
@@ -79,8 +80,8 @@ pub fn is_whole(router: &Router<Route>, bytes: &[u8]) -> bool
 
 /// Returns the query or command of a complete request, or the status that rejects the request.
 ///
-/// A head past the limits gets status 431, and a malformed head gets 400. [`ask_of`] tests any
-/// other head.
+/// A head past the limits of 8,192 bytes and 64 headers gets status 431, and a malformed head gets
+/// 400. [`ask_of`] tests any other head.
 pub fn test_request<'b>(
     router: &Router<Route>,
     bytes: &'b [u8],
@@ -119,7 +120,7 @@ pub fn head_gives_body_size(
     ensures { body_size router.now (start_at bytes.now head.now) ≡ posted.now.size }
 {}
 
-/// Theorem: two results of parsing a head from the same bytes have the same spans.
+/// Theorem: two results of parsing a request head from the same bytes have the same spans.
 pub fn parses_agree(bytes: &[u8], one: &Head, other: &Head)
     requires one { IsHeadAt bytes.now one.now }
     requires other { IsHeadAt bytes.now other.now }
@@ -127,20 +128,21 @@ pub fn parses_agree(bytes: &[u8], one: &Head, other: &Head)
     ensures len { one.now.len ≡ other.now.len }
 {}
 
-/// Theorem: bytes without a complete head or body hold no complete request.
+/// Theorem: bytes without a complete request head or body contain no complete request.
 pub fn incomplete_is_no_request(router: &Router<Route>, bytes: &[u8], head: &Head)
     requires { IsUnfinished router.now bytes.now }
     ensures { IsWhole router.now bytes.now head.now → ⊥ }
 {}
 
-/// Theorem: bytes with a complete head and body hold the request with this head and this body.
+/// Theorem: bytes with a complete request head and body contain the request with this head and this
+/// body.
 pub fn parsing_finds_the_request(router: &Router<Route>, bytes: &[u8], head: &Head)
     requires { IsWhole router.now bytes.now head.now }
     ensures { HoldsRequest router.now bytes.now (start_at bytes.now head.now)
         (body_of router.now bytes.now head.now) }
 {}
 
-/// Theorem: bytes begin with at most one request.
+/// Theorem: received bytes begin with at most one request.
 pub fn requests_are_one()
     ensures { RequestsAreOne }
 {}

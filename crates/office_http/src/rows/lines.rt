@@ -1,4 +1,4 @@
-//! Writes the rows of a report as lines of a response.
+//! Writes the rows of a report as lines of an HTTP response.
 ghost use Rattle.std.specs.Prelude.{◌≡◌};
 ghost use Rattle.office_http.specs.Messages.Sending.Sending.{Puts};
 ghost use Rattle.interval_core.specs.Lines.{share_line};
@@ -14,8 +14,8 @@ use office_books::RowSink;
 use office_events::Refusal;
 use std::marker::Model;
 
-/// A row visitor that writes each row as a line. Before the first row it writes the head of the
-/// response.
+/// A visitor of a query's rows that writes each row as a line of the response. Before the first
+/// row, the visitor writes the head of the response.
 #[derive(Drop)]
 pub struct RowLines<'l, L: Link> {
     writer: ResponseWriter<'l, L>,
@@ -28,7 +28,7 @@ impl<'l, L: Link> Model for RowLines<'l, L> {
     ghost view = { λ lines. record { out = lines.writer; count = lines.count } };
 }
 
-/// A response that was written completely or was cut off.
+/// An HTTP response that was written completely or was cut off.
 #[derive(Drop)]
 pub struct Replied<'l, L: Link> {
     pub writer: ResponseWriter<'l, L>,
@@ -36,7 +36,7 @@ pub struct Replied<'l, L: Link> {
     pub cut: Option<Refusal>,
 }
 
-// Writes the head of the response if no row was written yet.
+// Writes the head of the HTTP response if no row of the report was written yet.
 fn write_head<L: Link>(count: u64, writer: &mut ResponseWriter<'_, L>)
     ensures { Puts writer.old writer.new (head_before count) }
 {
@@ -46,14 +46,14 @@ fn write_head<L: Link>(count: u64, writer: &mut ResponseWriter<'_, L>)
 }
 
 impl<'l, L: Link> RowLines<'l, L> {
-    /// Makes a row visitor that has written no row.
+    /// Makes a visitor of a query's rows that has written no row.
     pub fn new(writer: ResponseWriter<'l, L>) -> RowLines<'l, L>
         ensures { result ≡ record { out = writer.entry; count = 0 } }
     {
         RowLines { writer, count: 0 }
     }
 
-    /// Ends the report with the number of its rows, or with a refusal.
+    /// Ends the report with the number of its rows, or with a refusal of the query.
     ///
     /// A refusal before the first row becomes the response. A refusal after a row cuts the response
     /// off, and nothing more is written.

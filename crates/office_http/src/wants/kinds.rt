@@ -1,8 +1,8 @@
-//! The query or command of a request, or why there is none.
+//! The query or command of a request, or the reason why the request has neither.
 use crate::messages::{CommandFault, Found, Status};
 use office_events::Asked;
 
-/// The query or command of a request, or why there is none.
+/// The query or command of a request, or the reason why the request has neither.
 #[derive(Drop)]
 pub enum Want<'b> {
     /// No query or command: the head of the request fails a test.

@@ -1,4 +1,5 @@
--- Properties of a call of the function `turn`, which feeds events to the office one by one.
+-- Properties of a call of the function `turn`, which feeds events to the office (the event engine)
+-- one by one.
 use Rattle.std.proofs.Common.{◌≡◌, inl, inr, ℕ, ◌+◌, ◌≤◌, List, [], ◌∷◌, map, length, Option, Some, None, Result, refl, sym, ap, ◌∙◌, subst, arith}
 use Rattle.office_events.specs.declared.answers.Answer.{Answer}
 use Rattle.office_events.specs.declared.answers.Note.{Note}
@@ -44,8 +45,8 @@ next_shown sees old new next place at e answer notes now frames out is notes_are
     ∙ ap (λ p. shown p at e answer now out) (sym (ap place_of is)))
     h
 
--- After the next event of a call of `turn` is fed, the office, the polling rounds and the observer
--- are in the state after this event.
+-- After a call of `turn` feeds its next event, the event engine, the polling rounds and the
+-- observer are in the state after this event. The observer is shown each event.
 pub feeds_next : {B V : Type 0} (ledger : B → Ledger) (sees : V → Shown → V → Type 0) (at : ℕ) (place : Option ℕ) (e : Event)
     (answer : Result Answer Refusal) (old new : Scene B V) (mid : List Round) (notes : List Note) (frames : List ℕ)
     → ((past : History) → Stands ledger past old.office → (ledger (books_in new.office)).is_clean
@@ -72,8 +73,8 @@ feeds_next ledger sees at place e answer old new mid notes frames feeds mid_is n
       },
     )
 
--- The state of a call of `turn` that has fed at least `steps` events. It is the invariant of the
--- call's loop.
+-- The loop invariant of the function `turn`: the call has fed at least `steps` events, and the
+-- state follows from these events.
 pub record GoesFar {B V : Type 0} (ledger : B → Ledger) (sees : V → Shown → V → Type 0) (at steps : ℕ) (past : History) (begun : Start V)
     (now : Scene B V) : Type 0 where
   pub fed : List Answered
@@ -120,8 +121,8 @@ begins ledger sees at past first old stands = record {
   shown = refl;
 }
 
--- If a call of `turn` has no device event, then it begins with the events that polling rounds
--- request.
+-- If a call of `turn` (which processes events of devices) has no device event, then it begins with
+-- the events that polling rounds request.
 pub turns_on : {B V : Type 0} (ledger : B → Ledger) (sees : V → Shown → V → Type 0) (at : ℕ) (past : History) (old new : Scene B V)
     → OfficeGoesOn ledger sees at old new → Stands ledger past old.office → (ledger (books_in new.office)).is_clean
     → TakesTurn ledger sees past (start old.failures (table None old.rounds) old.observer) at new
@@ -142,8 +143,8 @@ turns_first ledger sees at past one old mid new feeds goes lasts stands clean =
     let so = goes past begun (fed.0 ∷ []) fed.1 clean in
     record { fed = so.0; going = so.1; settled = so.2 }
 
--- If the contract `TakesTurn` holds for a state at the start of a call of `turn`, then it holds for
--- an equal state.
+-- If `TakesTurn`, the contract of `turn`, holds for a state at the start of a call, then the
+-- contract holds for an equal state.
 pub turns_as : {B V : Type 0} (ledger : B → Ledger) (sees : V → Shown → V → Type 0) (at : ℕ) (past : History) (failures : Failures) (one other : Table) (observer : V)
     (new : Scene B V) → one ≡ other → TakesTurn ledger sees past (start failures one observer) at new
     → TakesTurn ledger sees past (start failures other observer) at new

@@ -1,5 +1,5 @@
--- Properties of the effect of one input line on an office. The line's request is fed and answered,
--- or the reason for making no request is printed.
+-- Properties of the effect of one input line on an office (the event engine). The line's request is
+-- fed and answered, or the reason for making no request is printed.
 use Rattle.std.proofs.Common.{ℤ, pos, sym, ◌≡◌, inl, inr, ℕ, ◌||◌, max, Bool, true, List, Option, Some, None, Result, Ok, Err, refl, ap, subst, ◌∙◌}
 use Rattle.std.specs.Prelude.{IfOk, is_err}
 use Rattle.std.specs.declared.io.Error.{Error}
@@ -41,7 +41,8 @@ use Rattle.office_program.specs.declared.entering.files.Shown.{Shown}
 use Rattle.office_program.specs.declared.entering.read_line.ReadRequest.{ReadRequest}
 use Rattle.office_program.specs.Entering.Lines.{IsEntry, ReadsEntry, Reporting}
 
--- The printed text of the office's answer equals the text that the contract defines for the answer.
+-- The printed text of the event engine's answer equals the text that the contract defines for the
+-- answer.
 reported_is : {B : Type 0} (office : Office B) (past : History) (at : ℕ) (e : Event) (reply : Result Answer Refusal) → IsReported past at e reply office
     → reported_text office reply ≡ reply_text past at e reply
 reported_is office past at e (Ok given) reported =
@@ -52,15 +53,15 @@ reported_is office past at e (Err why) reported = refl
 abbrev pub one : (at : ℕ) → Event → Result Answer Refusal → Answered
 one at e reply = record { at = at; event = e; result = reply }
 
--- After an input line, the progress has the line's timestamp, and records that a line was refused
--- if this line or an earlier one was refused.
+-- After an input line, the input's progress has the line's timestamp. It records a refusal if this
+-- line or an earlier one was refused.
 pub next_is : (progress next : Progress) (at : ℕ) (e : Event) (reply : Result Answer Refusal) (failed : Bool)
     → next ≡ record { latest = at; refused = progress.refused || failed } → failed ≡ is_err reply → next ≡ progress_after progress (Asked (one at e reply))
 next_is progress next at e reply failed is same =
     is ∙ ap (λ (b : Bool). let p : Progress = record { latest = at; refused = progress.refused || b } in p) same
 
--- If an event was fed to the office and its answer was printed, completely or in part, then the
--- contract `IsAsked` holds.
+-- Suppose that a request was fed to the event engine, and its answer was printed, completely or in
+-- part. Then the contract `IsAsked` for feeding a request holds.
 pub asked : {B : Type 0} (ledger : B → Ledger) (past : History) (progress : Progress) (before after : Failures) (had holds : Option (List ℕ)) (office : Office B)
     (at : ℕ) (e : Event) (reply : Result Answer Refusal) (result : Result Progress Error) (text : List ℕ) → Stands ledger (with_answer past at e reply) office
     → IsAnswer past at e before after reply → IsReported past at e reply office → text ≡ reported_text office reply → GotText result text had holds
@@ -78,7 +79,8 @@ asked ledger past progress before after had holds office at e reply result text 
       next = next;
     }
 
--- If a request is not doubted, then it was fed to the office, as `HasAsked` requires.
+-- If a request needs no confirmation, then it was fed to the event engine, as the contract
+-- `HasAsked` requires.
 pub undoubted : {B : Type 0} (ledger : B → Ledger) (past : History) (progress : Progress) (begun now : RoundState) (office : Office B) (at : ℕ) (request : Request)
     (between : Failures) (result : Result Progress Error) → IsAskedAt progress.latest begun.moments now.moments at
     → doubt_of (facts_of past) at request ≡ None → between ≡ begun.failures
@@ -103,8 +105,8 @@ undoubted ledger past progress begun now office at request between result timed 
       };
     }
 
--- If a request is doubted, then it was not fed to the office, and only the doubted energy was
--- printed. So the contract `HasAsked` holds.
+-- If a request needs a confirmation, then it was not fed to the event engine, and only the energy
+-- of its entry was printed. So the contract `HasAsked` holds.
 pub doubted : {B : Type 0} (ledger : B → Ledger) (past : History) (progress : Progress) (begun now : RoundState) (office : Office B) (at mwh : ℕ) (request : Request)
     (result : Result Progress Error) → IsAskedAt progress.latest begun.moments now.moments at → Stands ledger past office
     → doubt_of (facts_of past) at request ≡ Some mwh → now.failures ≡ begun.failures → ReportsWhyNot (doubted_line mwh) at begun.printed now.printed result
@@ -119,8 +121,8 @@ doubted ledger past progress begun now office at mwh request result timed stands
   };
 }
 
--- If the office could not answer whether a request is doubted, then the request was not fed, and
--- the refusal was printed. So the contract `HasAsked` holds.
+-- If the event engine could not answer whether a request needs a confirmation, then the request was
+-- not fed, and the refusal was printed. So the contract `HasAsked` holds.
 pub undecided : {B : Type 0} (ledger : B → Ledger) (past : History) (progress : Progress) (begun now : RoundState) (office : Office B) (at : ℕ) (request : Request)
     (reason : Refusal) (result : Result Progress Error) → IsAskedAt progress.latest begun.moments now.moments at → Stands ledger past office
     → IsOutside ⊥ begun.failures now.failures reason → ReportsWhyNot (refused_line reason) at begun.printed now.printed result
@@ -135,15 +137,15 @@ undecided ledger past progress begun now office at request reason result timed s
   };
 }
 
--- ---- The effect of an input line by its parsed form
+-- Lemmas on the effect of an input line, by its parsed form.
 
 pub asked_come : {B : Type 0} (ledger : B → Ledger) (reports : Reporting) (request : Request) (past : History) (progress : Progress) (begun now : RoundState)
     (office : Office B) (result : Result Progress Error) → HasAsked ledger request past progress begun now office result
     → HasCome ledger reports (entry.Ask request) past progress begun now office result
 asked_come ledger reports request past progress begun now office result done = record { came = done.came; comes = done.comes; shown = tt; takes = done.takes }
 
--- After the counter was read for a line with `@read`, the outcome of the line is the outcome of its
--- request.
+-- Suppose that a meter's counter was read for an input line with `@read` (the reading's
+-- placeholder). Then the outcome of the line is the outcome of its request.
 read_comes : (reports : Reporting) (facts : List Fact) (read : ReadRequest) (raw : ℕ) (sf : ℤ) (came : Came) → IsCameOf (entry.Ask (asked_at read raw sf)) came
     → AsksShown reports facts read (asked_at read raw sf) → IsCameOf (entry.Read read) came × IsShown reports facts (entry.Read read) came
 read_comes reports facts read raw sf (Asked one) is shown =
@@ -165,7 +167,8 @@ read_come ledger reports read shown request past progress begun now office resul
     let both = read_comes reports (facts_of past) read shown.raw shown.sf done.came (subst P same done.comes) (shown, is, refl) in
     record { came = done.came; comes = both.0; shown = both.1; takes = done.takes }
 
--- If the counter for a line with `@read` can't be read, then the line makes no request.
+-- If the counter for an input line with `@read` (the reading's placeholder) can't be read, then the
+-- line makes no request.
 pub unread : {B : Type 0} (ledger : B → Ledger) (reports : Reporting) (read : ReadRequest) (past : History) (progress : Progress) (begun now : RoundState) (office : Office B)
     (at : ℕ) (result : Result Progress Error) → IsAskedAt progress.latest begun.moments now.moments at → Stands ledger past office
     → IsShownFor reports (facts_of past) read None → now.failures ≡ begun.failures → ReportsWhyNot unread_line at begun.printed now.printed result
@@ -181,8 +184,8 @@ unread ledger reports read past progress begun now office at result timed stands
   };
 }
 
--- If the office refused the query for the counter of a line with `@read`, then the line makes no
--- request.
+-- If the event engine refused the query for the counter of an input line with `@read` (the
+-- reading's placeholder), then the line makes no request.
 pub unknown : {B : Type 0} (ledger : B → Ledger) (reports : Reporting) (read : ReadRequest) (past : History) (progress : Progress) (begun now : RoundState) (office : Office B)
     (at : ℕ) (reason : Refusal) (result : Result Progress Error) → IsAskedAt progress.latest begun.moments now.moments at → Stands ledger past office
     → IsOutside ⊥ begun.failures now.failures reason → ReportsWhyNot (refused_line reason) at begun.printed now.printed result
@@ -198,8 +201,8 @@ unknown ledger reports read past progress begun now office at reason result time
   };
 }
 
--- If the point list of a line has faulty rows, then the line makes no request, and the rows are
--- printed.
+-- If the point list of an input line has faulty rows, then the line makes no request, and these
+-- rows are printed.
 pub faulty : {B : Type 0} (ledger : B → Ledger) (reports : Reporting) (past : History) (progress : Progress) (begun now : RoundState) (office : Office B) (rows reported : List FaultyRow)
     (result : Result Progress Error) → Stands ledger past office → now.moments ≡ begun.moments → now.failures ≡ begun.failures → reported ≡ rows
     → GotText result (faults_text reported) begun.printed now.printed
@@ -218,8 +221,8 @@ faulty ledger reports past progress begun now office rows reported result stands
       };
     }
 
--- If an input line was processed and its outcome was printed, then the result satisfies the
--- contract `EntersLine`.
+-- If an input line was processed and its outcome was printed, then the result satisfies
+-- `EntersLine`, the contract for one line.
 pub line_taken : {B : Type 0} (ledger : B → Ledger) (reports : Reporting) (caller : Option (List ℕ)) (line : Line) (past : History) (progress next : Progress)
     (begun now : RoundState) (old new : Office B) (e : Entry) → IsEntry reports caller line.text e
     → HasCome ledger reports e past progress begun now new (Ok next)

@@ -46,7 +46,8 @@ looks_none ledger = record {
   keeps = record { facts = λ known holds. holds; left = λ left may. may };
 }
 
--- If a store is only queried, then it still records its history.
+-- If a store is only queried, then its records still agree with the same history of accepted
+-- events.
 pub still_stand : (old new : Ledger) (past : History) → OnlyLooks old new → BooksStand old past → BooksStand new past
 still_stand old new past looks stand = record {
   is_past = stand.is_past;
@@ -131,7 +132,8 @@ ends_early reports caller lines rest left facts had was holds refused line repor
   });
 }
 
--- After an input was checked over a store, the store still records its history.
+-- After an input was checked over a store, the store's records still agree with the same history of
+-- accepted events.
 pub checked_over : (reports : Reporting) (caller text : List ℕ) (name : Option (List ℕ)) (old new : Ledger) (had holds : Option (List ℕ)) (status : ExitStatus) (past : History)
     → name ≡ named caller → BooksStand old past → OnlyLooks old new → Checks reports name (speaking_lines text) (facts_of past) status had holds
     → LooksOver reports caller text new had holds status past

@@ -73,8 +73,8 @@ one_more {B = B} ledger reports caller lines rest left past first begun was now 
       come = done.2.next;
     }
 
--- If an input line made no request, then the list of processed lines still describes the office
--- after it.
+-- If an input line made no request, then the office (the event engine) is still in the state after
+-- the lines that were processed before.
 untouched : {B : Type 0} (ledger : B → Ledger) (reports : Reporting) (caller : Option (List ℕ)) (past : History) (first : ℕ) (begun was now : RoundState)
     (old new : Office B) (taken : List Taken) → AreTaken ledger reports caller past first begun was old taken → IsUntouched was now old new
     → AreTaken ledger reports caller past first begun now new taken
@@ -100,7 +100,7 @@ then_nothing a b c x whole none =
     (x ++ [], [], sym (append-nil x) ∙ sym (append-nil (x ++ [])), Appends-trans a b c x [] whole none)
 
 -- If a line is bad or a failure ends the command, then the result of entering the input satisfies
--- `EntersLines`.
+-- `EntersLines`, the contract for all lines.
 pub ends_early : {B : Type 0} (ledger : B → Ledger) (reports : Reporting) (caller : Option (List ℕ)) (lines rest left : List Line) (past : History) (first : ℕ)
     (begun was now : RoundState) (progress : Progress) (old new : Office B) (line : Line) (status : ExitStatus)
     → (under : Underway ledger reports caller lines rest past first begun was progress old) → rest ≡ line ∷ left
@@ -162,7 +162,8 @@ ends_early ledger reports caller lines rest left past first begun was now progre
       }));
     }
 
--- If the last line was processed, then the result of entering the input satisfies `EntersLines`.
+-- If the last line was processed, then the result of entering the input satisfies `EntersLines`,
+-- the contract for all lines.
 pub ends_whole : {B : Type 0} (ledger : B → Ledger) (reports : Reporting) (caller : Option (List ℕ)) (lines rest : List Line) (past : History) (first : ℕ)
     (begun now : RoundState) (progress : Progress) (office : Office B) (status : ExitStatus)
     → Underway ledger reports caller lines rest past first begun now progress office → rest ≡ [] → status ≡ status_of progress

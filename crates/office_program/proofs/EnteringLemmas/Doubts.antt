@@ -31,8 +31,9 @@ less_one up_to raw unit =
     sym (ap (λ (n : ℕ). n * unit) (sym order) ∙ mul_comm ((up_to - 1) - raw) unit ∙ mul-sub unit (up_to - 1) raw
     ∙ ap (λ (n : ℕ). n - unit * raw) (mul_comm unit (up_to - 1)) ∙ ap (λ (n : ℕ). (up_to - 1) * unit - n) (mul_comm unit raw))
 
--- The program compares an entry's energy with the greatest load and the time. This equals the rule
--- `can_count`: how far a load at the meter's ceiling can advance its counter.
+-- The program compares the energy of a manual entry with the greatest load and the time. This
+-- equals the rule `can_count`: how far a load of the meter's greatest power can advance its
+-- counter.
 pub within_is : (energy seconds load ceiling up_to less raw unit moment at : ℕ) → energy ≡ less * unit - raw * unit → less ≡ up_to - 1 → load ≡ ceiling
     → seconds ≡ moment - at → nat_le (energy * 18) (load * seconds * 5) ≡ can_count ceiling unit (moment - at) (up_to - raw)
 within_is energy seconds load ceiling up_to less raw unit moment at energy_is less_is load_is seconds_is =
@@ -40,7 +41,7 @@ within_is energy seconds load ceiling up_to less raw unit moment at energy_is le
     ap (λ (n : ℕ). nat_le (n * 18) (load * seconds * 5)) same ∙ ap (λ (n : ℕ). nat_le ((up_to - raw - 1) * unit * 18) (n * seconds * 5)) load_is
     ∙ ap (λ (n : ℕ). nat_le ((up_to - raw - 1) * unit * 18) (ceiling * n * 5)) seconds_is
 
--- ---- The office's answer to the query for a meter with a doubted entry
+-- Lemmas on the event engine's answer to the query for a meter whose entry needs a confirmation.
 
 pub row_found : {T : Type 0} (found : Option T) (before after : Failures) (x : T) → IsRowFound found before after (Ok x) → (found ≡ Some x) × (after ≡ before)
 row_found None before after x (inl reported) = let never = reported.0 in absurd (cc never)
@@ -59,15 +60,16 @@ row_failed None before after why other (inl reported) = let same = reported.0 in
 row_failed (Some y) before after why other (inl reported) = let never = reported.0 in absurd (cc never)
 row_failed found before after why other (inr fails) = fails
 
--- ---- The open meter at an accounting register
+-- Lemmas on the open meter (the one that is not closed) at an accounting register (a named
+-- counter).
 
 pub sound_there : (facts : List Fact) (register : Option (List ℕ)) (row : Installation) → AreInRange facts
     → option_and_then (installation_at facts) register ≡ Some row → IsSound row
 sound_there facts None row ranges found = absurd (cc found)
 sound_there facts (Some name) row ranges found = ranges.at_register name row found
 
--- Whether an entry by hand is doubted depends on the meter that was found at the register. If no
--- meter was found, the entry is not doubted.
+-- Whether a manual entry needs a confirmation depends on the meter that was found at the accounting
+-- register. If no meter was found, none is needed.
 pub found_doubt : (facts : List Fact) (at : ℕ) (c : Command) (register : Option (List ℕ)) (row : Installation)
     → option_and_then (installation_at facts) register ≡ Some row → doubted_in facts at c register ≡ option_and_then (doubted_at at c) (if_open row)
 found_doubt facts at c None row found = cc found
@@ -78,14 +80,14 @@ pub no_doubt_there : (facts : List Fact) (at : ℕ) (c : Command) (register : Op
 no_doubt_there facts at c None found = refl
 no_doubt_there facts at c (Some name) found = ap (λ (o : Option Installation). option_and_then (doubted_at at c) (option_and_then if_open o)) found
 
--- ---- The doubt about the entry in a request
+-- Lemmas on whether the manual entry in a request needs a confirmation.
 
 none_either : (b : Bool) (o : Option ℕ) → o ≡ None → (if b then None else o) ≡ None
 none_either true o none = refl
 none_either false o none = none
 
--- If a request is stored, its line has the mark ` !`, or it makes no entry by hand, then it is not
--- doubted.
+-- If a request is already stored, its line has the mark ` !`, or it makes no manual entry, then it
+-- needs no confirmation.
 pub kept_undoubted : (facts : List Fact) (at : ℕ) (asked : Asked) (repeat : Repeat) → repeat_in facts asked ≡ Some repeat → doubt_of facts at asked ≡ None
 kept_undoubted facts at asked repeat kept = cond-true (is_some (repeat_in facts asked)) None _ (ap is_some kept)
 
@@ -102,17 +104,17 @@ entryless_undoubted facts at asked none =
     none_either (is_some (repeat_in facts asked)) _
     (none_either (is_marked asked.request) _ (entryless facts at asked.command (corrected_at asked.command) none))
 
--- If a request is not stored and has no mark ` !`, then it is doubted exactly when its entry by
--- hand is doubted.
+-- Suppose that a request is not stored yet, and its line has no mark ` !`. Then it needs a
+-- confirmation exactly if its manual entry needs one.
 pub doubt_is : (facts : List Fact) (at : ℕ) (asked : Asked) → repeat_in facts asked ≡ None → is_marked asked.request ≡ false
     → doubt_of facts at asked ≡ doubted_in facts at asked.command (corrected_at asked.command)
 doubt_is facts at asked new unmarked =
     cond-false (is_some (repeat_in facts asked)) None _ (ap is_some new) ∙ cond-false (is_marked asked.request) None _ unmarked
 
--- ---- The office's answer to the query whether an entry is doubted
+-- Lemmas on the event engine's answer to the query whether an entry needs a confirmation.
 
--- If an earlier query had no failure, then the answer about a doubt after this query is also a
--- correct answer for the state before it.
+-- Suppose that a first query did not fail. If a second query answers whether an entry needs a
+-- confirmation, then the answer is also correct for the state before the first query.
 pub reported_on : {B : Type 0} (ledger : B → Ledger) (past : History) (before between after : Failures) (office : Office B) (doubt other : Option ℕ)
     (result : Result (Option ℕ) Refusal) → between ≡ before → doubt ≡ other → IsDoubtReported ledger past between after office doubt result
     → IsDoubtReported ledger past before after office other result

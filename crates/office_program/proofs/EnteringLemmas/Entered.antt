@@ -1,4 +1,5 @@
--- Properties of the result of a command that opens an office and enters an input.
+-- Properties of the result of a command that opens an office (the event engine) and enters an
+-- input.
 use Rattle.std.proofs.Common.{◌≡◌, inl, inr, ℕ, List, [], ◌∷◌, Option, Some, sym, ap, subst, ◌∙◌}
 use Rattle.command_io.specs.Lines.{speaking_lines}
 use Rattle.command_io.specs.declared.status.ExitStatus.{ExitStatus}
@@ -14,12 +15,12 @@ use Rattle.office_program.specs.Texts.OpenedOffice.{Opens, ReportsUnopened}
 use Rattle.office_program.specs.Entering.Entered.{EntersLines, ReportsEntering}
 use Rattle.office_program.specs.Entering.Lines.{Reporting}
 
--- The first timestamp of an input's lines equals the clock's time when the office was opened.
+-- The first timestamp of an input's lines equals the clock's time when the event engine was opened.
 reported_at : (moments then : Option (List ℕ)) (listed : List ℕ) (following : Option (List ℕ)) (first at : ℕ) → ReportsMoment moments then first
     → listed ≡ first ∷ [] → ReportsMoment (Some listed) following at → at ≡ first
 reported_at moments then listed following first at reported is opens = opens.0 ∙ ap next_moment is
 
--- If opening the office was refused, then entering an input prints only the refusal.
+-- If opening the event engine was refused, then entering an input prints only the refusal.
 pub unopened : {B : Type 0} (ledger : B → Ledger) (reports : Reporting) (past : History) (caller text : List ℕ) (moments then : Option (List ℕ)) (listed : List ℕ)
     (following : Option (List ℕ)) (first : ℕ) (books back : B) (had holds : Option (List ℕ)) (status : ExitStatus) → ReportsMoment moments then first → listed ≡ first ∷ []
     → ReportsUnopened past (Some listed) following (ledger books) (ledger back) status had holds
@@ -39,8 +40,8 @@ kept : {B : Type 0} (ledger : B → Ledger) (left : Office B) (back : B) → bac
     → (ledger (books_in left)).is_clean
 kept {B = B} ledger left back is clean = let P : B → Type 0 = λ b. (ledger b).is_clean in subst P is clean
 
--- After an input was entered into the opened office, the office is in the state after the input's
--- lines.
+-- After an input was entered into the opened event engine, the engine is in the state after the
+-- input's lines.
 pub entered : {B W : Type 0} (ledger : B → Ledger) (contents : W → Option (List ℕ)) (reports : Reporting) (past : History) (caller text : List ℕ) (name : Option (List ℕ))
     (moments then later : Option (List ℕ)) (listed : List ℕ) (following : Option (List ℕ)) (first : ℕ) (books back : B) (opened left : Office B) (before silent : W)
     (holds : Option (List ℕ)) (status : ExitStatus) → name ≡ named caller → ReportsMoment moments then first → listed ≡ first ∷ []

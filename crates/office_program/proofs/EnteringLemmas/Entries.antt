@@ -23,7 +23,8 @@ use Rattle.office_program.specs.declared.entering.read_line.ReadLine.{ReadLine}
 use Rattle.office_program.specs.Entering.ReadLines.{IsNoRead, IsRead}
 use Rattle.office_program.specs.Entering.Lines.{IsWantedEntry, ReadsCounter, ReadsEntry, ReadsFile, ReadsList, ReadsScript, ReadsUnnamed, ReadsWanted, Reporting, asked_by, file_request, append_by, wanted_in}
 
--- If a line has a command, then its request has the command, and the line's bytes as stored bytes.
+-- If an input line has a command, then its request has this command. The request also has the
+-- line's bytes, which the store keeps.
 pub command_wanted : (caller : Option (List ℕ)) (text kept : List ℕ) (number : ℕ) (c : Command) (want : Wanted) → want ≡ wanted.Command number c → kept ≡ text
     → ReadsWanted caller text want (Ok (Ask (asked_by caller number kept c)))
 command_wanted caller text kept number c want is same = rw is (ap (λ bytes. Ask (asked_by caller number bytes c)) same)
@@ -34,7 +35,8 @@ list_reads caller text number list (Ok entry) reads = reads
 list_reads caller text number list (Err Bad) reads = absurd reads
 list_reads caller text number list (Err Memory) reads = tt
 
--- If a line has a point list, then its request has the list, and the line's bytes as stored bytes.
+-- If an input line has a point list (the points to poll), then its request has this list. The
+-- request also has the line's bytes, which the store keeps.
 pub list_wanted : (caller : Option (List ℕ)) (text kept bytes : List ℕ) (number : ℕ) (list : GivenList) (want : Wanted) (result : Result Entry LineFault)
     → want ≡ wanted.List number list → kept ≡ text → bytes ≡ list.text → ReadsList caller number list.device bytes kept result
     → ReadsWanted caller text want result
@@ -84,8 +86,8 @@ unnamed_reads reports caller text (Ok entry) none reads = inr (none, reads)
 unnamed_reads reports caller text (Err Bad) none reads = inr (none, reads.0, reads.1)
 unnamed_reads reports caller text (Err Memory) none reads = tt
 
--- If a line has `@read`, then the parser returns its parsed form. Any other line without a file is
--- parsed as a script's line.
+-- If an input line has `@read` (the reading's placeholder), then the parser returns the line's
+-- parsed form. Any other line without a file is parsed as a script's line.
 pub counter_reads : (caller : Option (List ℕ)) (text : List ℕ) (line : ReadLine) (result : Result Entry LineFault) → IsRead text line
     → ReadsCounter caller text line result → ReadsUnnamed caller text result
 counter_reads caller text line (Ok entry) is reads = inl (record { line = line; is = is; comes = reads })
@@ -98,14 +100,16 @@ script_reads_on caller text (Ok entry) none reads = inr (none, reads)
 script_reads_on caller text (Err Bad) none reads = (none, reads)
 script_reads_on caller text (Err Memory) none reads = tt
 
--- If a point list was parsed and planned, then it is the request of its line.
+-- If a point list (the points to poll) was parsed and its Modbus reads were planned, then its input
+-- line requests this list.
 pub list_read : (caller : Option (List ℕ)) (number : ℕ) (device : Option (List ℕ)) (text request : List ℕ) (points : List ListedPoint) (planned : Planned)
     → SpellsList text points → planned.points ≡ points → IsPlanned planned
     → ReadsList caller number device text request (Ok (Ask (asked_by caller number request (append_by device planned))))
 list_read caller number device text request points planned spells same is =
     (planned, record { points = subst (SpellsList text) (sym same) spells; planned = is }, refl)
 
--- If a point list could not be parsed, then its line has faulty rows.
+-- If a point list (the points to poll) could not be parsed, then the parsed form of its input line
+-- has the list's faulty rows.
 pub list_faulty : (caller : Option (List ℕ)) (number : ℕ) (device : Option (List ℕ)) (text request : List ℕ) (fault : ListFault) (reported : List FaultyRow)
     → fault ≡ Faults reported → ExplainsList (list_faults (rows_read text)) fault → ReadsList caller number device text request (Ok (Faulty reported))
 list_faulty caller number device text request fault reported is explains =

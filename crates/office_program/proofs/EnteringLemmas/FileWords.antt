@@ -72,6 +72,6 @@ spelled_of words line h =
 pub none_of : (words : List (List ℕ)) → (let o : Option FileLine = None in o) ≡ file_said words → IsNoFileLine words
 none_of words h = λ line is. let both : (let o : Option FileLine = None in o) ≡ Some line = h ∙ said_of words line is in cc both
 
--- If the words form two lines that name a file, then the lines are equal.
+-- Words form at most one input line that names a file: any two lines that they form are equal.
 pub one_line : (words : List (List ℕ)) (a b : FileLine) → IsFileLine words a → IsFileLine words b → a ≡ b
 one_line words a b first second = same a b (sym (said_of words a first) ∙ said_of words b second)

@@ -26,8 +26,8 @@ use Rattle.office_books.proofs.Lookups.{same_itself, same_text}
 use Rattle.office_books.proofs.LostPolls.{left_in, with_lost_is}
 use Rattle.office_books.proofs.QuietFacts.{HoldsOfBooks, added_each, later_part_first, unseen}
 
--- If a record is a point list, register, opening, entry or void (a cancelled reading), then it has
--- no stored answer to a request.
+-- A record of a point list, register, meter installation, meter entry or cancellation of an entry
+-- has no stored answer to a request.
 no_reply : HoldsOfBooks (λ f. as_reply f ≡ None)
 no_reply = record { list = λ l. refl; register = λ r. refl; opening = λ o. refl; entry = λ b. refl; void = λ v. refl }
 
@@ -206,14 +206,15 @@ keeps_first past at asked accepted =
       done = refl;
     }
 
--- If the answer of a request is stored, then it answers a retry of the request.
+-- If the store has the answer of a request, then a retry of the request gets this answer.
 pub answers : (facts : List Fact) (asked again : Asked) (kind : CommandKind) → again.caller ≡ asked.caller → again.number ≡ asked.number → again.request ≡ asked.request
     → Keeps facts asked kind → kept_of facts (event.Asked again) ≡ Some (Ok kind)
 answers facts asked again kind who which what kept =
     let bytes : bytes_eq kept.reply.request again.request ≡ true = rw (kept.bytes ∙ sym what) (same_itself again.request) in
     rw (who ∙ kept.named, which, kept.found, bytes) (ap (λ (k : CommandKind). let r : Result CommandKind Refusal = Ok k in Some r) kept.done)
 
--- If a stored answer answers a request, then the request has the stored bytes.
+-- If a stored answer is the answer to a request, then the request has the bytes that are stored
+-- with the answer.
 by_bytes : (asked : Asked) (reply : Reply) (kind : CommandKind) (b : Bool) → bytes_eq reply.request asked.request ≡ b
     → (let r : Result CommandKind Refusal = Ok kind in (if b then Ok reply.kind else Err refusal.Reused) ≡ r) → (reply.request ≡ asked.request) × (reply.kind ≡ kind)
 by_bytes asked reply kind true same_bytes h = (same_text reply.request asked.request same_bytes, cc h)

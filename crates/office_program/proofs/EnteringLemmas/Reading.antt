@@ -31,8 +31,8 @@ counter_reported reports facts register counter device None found there reported
 counter_reported reports facts register counter device (Some shown) found there reported =
     record { counter = counter; device = device; register_is = found; device_is = there; reported = reported }
 
--- If an earlier query had no failure, then the answer about the counter's reading after this query
--- is also a correct answer for the state before it.
+-- Suppose that an earlier query did not fail. Then the answer to a later query for the counter's
+-- reading is also correct for the state before the earlier query.
 pub read_on : {B : Type 0} (ledger : B → Ledger) (reports : Reporting) (register : Option (List ℕ)) (past : History) (before between after : Failures) (office : Office B)
     (result : Result (Option Shown) Refusal) → between ≡ before → IsReadThere ledger reports register past between after office result
     → IsReadThere ledger reports register past before after office result
@@ -40,7 +40,8 @@ read_on ledger reports register past before between after office result same don
     let P : Failures → Type 0 = λ n. IsReadThere ledger reports register past n after office result in
     subst P same done
 
--- If the store does not have a request with `@read`, then the counter is read for the request.
+-- If the store does not have the request of an input line with `@read` (the reading's placeholder),
+-- then the counter is read for the request.
 pub filled : {B : Type 0} (ledger : B → Ledger) (reports : Reporting) (read : ReadRequest) (register : Option (List ℕ)) (past : History) (before between after : Failures)
     (office : Office B) (result : Result (Option Shown) Refusal) → repeat_of_read (facts_of past) read ≡ None → register ≡ line.register_of read.line
     → between ≡ before → IsReadThere ledger reports register past between after office result → IsFilled ledger reports read past before after office result
@@ -54,8 +55,8 @@ filled ledger reports read register past before between after office (Err why) n
     let on = read_on ledger reports register past before between after office (Err why) none done in
     record { stands = on.stands; reported = on.reported }
 
--- If the request of a line with `@read` is stored, then comparing it with the store finds a stored
--- request.
+-- If the store has the request of an input line with `@read` (the reading's placeholder), then a
+-- lookup of the request finds a stored request.
 pub kept_read : (facts : List Fact) (read : ReadRequest) (repeat : Repeat) → repeat_of_read facts read ≡ Some repeat → is_some (repeat_of_read facts read) ≡ is_some (Some repeat)
 kept_read facts read repeat kept = ap is_some kept
 
@@ -65,7 +66,7 @@ found_as reports past read found shown before after same reported =
     let P : Option Shown → Type 0 = λ s. IsShownFor reports (facts_of past) read s in
     (subst P same reported.0, reported.1)
 
--- If a query has no failure, then a request after the query has the same effect as without the
+-- If a query does not fail, then a request after the query has the same effect as without the
 -- query.
 pub asked_on : {B : Type 0} (ledger : B → Ledger) (request : Request) (past : History) (progress : Progress) (printed moments : Option (List ℕ)) (before between : Failures)
     (now : RoundState) (office : Office B) (result : Result Progress Error) → between ≡ before

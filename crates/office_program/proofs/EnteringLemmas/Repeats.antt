@@ -41,7 +41,7 @@ use Rattle.office_program.proofs.EnteringLemmas.FileWords.{one_line}
 use Rattle.office_program.proofs.EnteringLemmas.ReadWords.{one_line as one_read}
 use Rattle.office_program.proofs.EnteringLemmas.Kept.{Keeps, accepted_before, answers, keeps_first, keeps_on, kept_again}
 
--- ---- The answer to a retry of one request
+-- Lemmas on the answer to a retry of one request.
 
 decided : (history : History) (at : ℕ) (e : Event) (kind : CommandKind) → kept_of (facts_of history) e ≡ Some (Ok kind)
     → decision_of history at e ≡ Ok (answer.Again kind)
@@ -56,10 +56,10 @@ requests_are_repeated past more at again_at asked again accepted same =
     decided history again_at (event.Asked again) (kind_of asked.command)
     (answers (facts_of history) asked again (kind_of asked.command) same.caller same.number same.request kept)
 
--- ---- Proof that an input line makes one request
+-- Lemmas: an input line makes one request.
 
--- The request of a line with `@read` with an arbitrary reading. Its caller, number and bytes are
--- the same for every reading of the counter, so it identifies the line's retries.
+-- The request of an input line with `@read`, for an arbitrary reading of the counter. The request's
+-- caller, number and bytes do not depend on the reading, so they identify the line's retries.
 abbrev asked_like : ReadRequest → Asked
 asked_like read = asked_at read 0 (pos 0)
 
@@ -134,7 +134,7 @@ same_entry reports caller text a b steady (inl first) (inr second) = absurd (sec
 same_entry reports caller text a b steady (inr first) (inl second) = absurd (first.0 second.line second.is)
 same_entry reports caller text a b steady (inr first) (inr second) = same_unnamed caller text a b first.1 second.1
 
--- ---- Proof that the request of an accepted line is stored
+-- Lemmas: the request of an accepted input line is stored.
 
 -- True if the store has the request of an input line, with its answer.
 abbrev KeepsEntry : History → Entry → Type 0
@@ -142,7 +142,8 @@ KeepsEntry later (entry.Ask asked) = (kind : CommandKind) × Keeps (facts_of lat
 KeepsEntry later (entry.Read read) = (kind : CommandKind) × Keeps (facts_of later) (asked_like read) kind
 KeepsEntry later (entry.Faulty rows) = ⊥
 
--- True if an accepted request was answered as a retry, or with the answer to a new request.
+-- True if the answer to an accepted request is the answer to a retry, or the answer to a new
+-- request.
 abbrev Acted : (history : History) (at : ℕ) (asked : Asked) → Result Answer Refusal → (kept : Option (Result CommandKind Refusal)) → (why : Option Refusal) → Type 0
 Acted history at asked result kept why =
     ((kind : CommandKind) × (result ≡ Ok (answer.Again kind)) × (kept ≡ Some (Ok kind)))
@@ -160,8 +161,8 @@ not_outside : (takes_memory : Type 0) (result : Result Answer Refusal) (before a
 not_outside takes_memory (Ok given) before after ok fails = fails
 not_outside takes_memory (Err why) before after ok fails = cc ok
 
--- If a command is newly accepted, then the history is longer by its event. The answer to a newly
--- accepted command is not the answer to a retry.
+-- If a command is newly accepted, then its event is added to the history of accepted events. The
+-- command's answer is not the answer to a retry.
 fed_by : (history : History) (at : ℕ) (e : Event) (b : Bool) (first count of : ℕ) (kind : CommandKind)
     → with_answer history at e (Ok (if b then answer.Started first count of else answer.Done kind)) ≡ Fed at e ∷ history
 fed_by history at e true first count of kind = refl
@@ -174,7 +175,7 @@ fed history at asked =
     fed_by history at (event.Asked asked) (is_start c) (next_poll (facts_of history)) (sent_count (slots_of history) (facts_of history) at c)
     (reads_in_all (facts_of history) c) (kind_of c)
 
--- True if the later history extends the earlier history.
+-- True if the later history of accepted events extends the earlier history.
 abbrev GrowsTo : History → History → Type 0
 GrowsTo later history = (more : History) × (later ≡ more ++ history)
 
@@ -220,7 +221,8 @@ keeps_same facts asked again kind same kept = record {
   done = kept.done;
 }
 
--- The requests of a line with `@read` have equal keys and bytes for any reading of the counter.
+-- The requests of an input line with `@read` have equal idempotency keys and bytes for any reading
+-- of the counter.
 like : (read : ReadRequest) (raw : ℕ) (sf : ℤ) → IsSameRequest (asked_at read raw sf) (asked_like read)
 like read raw sf = record { caller = refl; number = refl; request = refl }
 
@@ -241,7 +243,7 @@ keeps_entry later more history e (Doubted at request mwh) before after is goes a
 keeps_entry later more history e (Undecided at request why) before after is goes accepted answered ok = absurd ok
 keeps_entry later more history e (Unread at read) before after is goes accepted answered ok = absurd ok
 
--- ---- Proof that the request of a line that is entered again is stored
+-- Lemmas: if an input line is entered again, then its request is already stored.
 
 repeats_by : (later : History) (a b : Entry) → SameEntry a b → KeepsEntry later a → KeepsEntry later b
 repeats_by later (entry.Ask x) (entry.Ask y) same kept = (kept.0, keeps_same (facts_of later) x y kept.0 same kept.1)
@@ -288,7 +290,7 @@ each_kept reports caller (one ∷ earlier) past later more before after steady g
       each_kept reports caller earlier past later here.1.0 before answered.0 steady here.1.1 accepted are.1 answered.1 acted.1,
     )
 
--- ---- Proof that a line that is entered again does not act
+-- Lemmas: an input line that is entered again has no effect.
 
 outside_same : (takes_memory : Type 0) (history : History) (at : ℕ) (e : Event) (result : Result Answer Refusal) (before after : Failures)
     → FailsOutside takes_memory before after result → with_answer history at e result ≡ history
@@ -321,7 +323,7 @@ stays_asked later one asked kind before after is keeps (inr fails) =
     let takes : Type 0 = IsAccepted later one.at one.event in
     (outside_same takes later one.at one.event one.result before after fails, inr (before, after, without_memory takes before after one.result none fails))
 
--- If a request is stored, then its entry is not doubted.
+-- If a request is already stored, then its manual entry needs no confirmation.
 not_doubted : (facts : List Fact) (at : ℕ) (asked request : Asked) (kind : CommandKind) (mwh : ℕ) → request ≡ asked → Keeps facts asked kind
     → doubt_of facts at request ≡ Some mwh → ⊥
 not_doubted facts at asked request kind mwh is keeps doubt =

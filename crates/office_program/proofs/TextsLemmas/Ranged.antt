@@ -20,7 +20,7 @@ use Rattle.office_program.specs.Texts.EndTexts.{IsReported}
 use Rattle.office_program.specs.Texts.RangedReports.{IsRangedReport, PrintsRest}
 use Rattle.office_program.specs.Texts.Reports.{meant_by}
 
--- ---- The printed text of a register's report on a range
+-- Lemmas on the printed text of a register's report on a range of days.
 
 -- If the writer of a report received the first days and then more days one by one, then it has
 -- received all days.
@@ -40,8 +40,8 @@ reported_by : (failed : Bool) (status : ExitStatus) (text : List ℕ) (old new :
 reported_by false status text old new is got = inl (is, got)
 reported_by true status text old new is got = inr (is, got)
 
--- If the office passed the days of a range to the writer of a report, then the report's text was
--- printed. If the report was refused, the refusal was printed.
+-- If the office (the event engine) passed the days of a range to the writer of a report, then the
+-- report's text was printed. If the report was refused, the refusal was printed.
 pub printed : {W : Type 0} (contents : W → Option (List ℕ)) (zone : Zone) (past : History) (register : Option (List ℕ)) (form : ReportForm)
     (before after : Failures) (from to left : ReportRows W) (output : W) (status : ExitStatus) (reply : Result (Unit {0}) Refusal)
     → IsFresh contents form output from
@@ -60,7 +60,7 @@ printed {W} contents zone past register form before after from to left output st
     let P : W → Type 0 = λ w. IsReported (refused_line why) Refused status (contents w) (contents left.output.now) in
     (refused_line why, refl, subst P same rest.reported)
 
--- While the days of a report are written, the output of the report remains the same writer.
+-- While the days of a report are written, the report's text is printed to the same writer.
 taken_by : {W : Type 0} (contents : W → Option (List ℕ)) (days : List DayTotal) (from to : ReportRows W)
     → TakesAll (TakesDay contents) from days to → to.output.ghost_name ≡ from.output.ghost_name
 taken_by {W} contents [] from to took = ap (λ (rows : ReportRows W). rows.output.ghost_name) took

@@ -1,4 +1,4 @@
--- How a connection, and the office's answers and notifications, change the state of a polling
+-- How a connection, and the event engine's answers and notifications, change the state of a polling
 -- round.
 use Rattle.std.specs.Prelude.{ℕ, ◌+◌, ◌-◌, ◌^◌, ◌==◌, nat_lt, nat_le, min, Bool, true, false, List, [], ◌++◌, length, Option, Some, None, Result, Ok, Err, if◌then◌else◌}
 use Rattle.std.specs.List.{filter}
@@ -30,7 +30,7 @@ unconnected device = record {
   sum = sums.none;
 }
 
--- True if the polling round requests an event of the office.
+-- True if the polling round requests an event of the office (the event engine).
 abbrev pub has_request : Round → Bool
 has_request round = stages.has_request round.stage
 
@@ -93,7 +93,7 @@ begun first count planned round = record {
   sum = round.sum;
 }
 
--- The polling round after the office's answer to its start of Modbus reads.
+-- The polling round after the event engine's answer to its start of Modbus reads.
 --
 -- If the answer reports no started polls, or there are more than 16 pending polls, the round ends
 -- early.
@@ -105,10 +105,10 @@ started_by (answer.Started first count of) round =
     if nat_le (length round.polls.items + count) 16 then begun first count of round
     else broken_off round
 
--- A polling round at a stage after the office's answer to the round's event.
+-- A polling round at a stage after the event engine's answer to the round's event.
 --
 -- After `Connected` the round starts its Modbus reads. A refusal ends the round early. If the
--- office refused `Connected`, the round is over at once.
+-- engine refused `Connected`, the round is over at once.
 abbrev pub answered_at : Stage → Result Answer Refusal → Round → Round
 answered_at Off result round = round
 answered_at Joining (Ok given) round = record round { stage = Starting }
@@ -119,7 +119,7 @@ answered_at Waiting (Ok given) round = round
 answered_at Waiting (Err why) round = broken_off round
 answered_at (Leaving closing) result round = record round { stage = Off }
 
--- The polling round after the office answered the event that the round requested.
+-- The polling round after the event engine answered the event that the round requested.
 abbrev pub answered : Result Answer Refusal → Round → Round
 answered result round = answered_at round.stage result round
 
@@ -131,8 +131,8 @@ gone_on round =
     else if length round.polls.items == 0 then record round { stage = Leaving closing.Gone }
     else round
 
--- A polling round at a stage after the office's notifications of an event. `ended` is true if the
--- notifications end one of the round's polls.
+-- A polling round at a stage after the event engine's notifications of an event. `ended` is true if
+-- the notifications end one of the round's polls.
 abbrev pub going_on : Stage → (ended : Bool) → Round → Round
 going_on Off ended round = round
 going_on Joining ended round = round
@@ -145,7 +145,7 @@ going_on (Leaving closing) ended round = round
 abbrev pub polls_left : List Note → Round → List ℕ
 polls_left notes round = filter (waits notes) round.polls.items
 
--- The polling round after the office's notifications of an event.
+-- The polling round after the event engine's notifications of an event.
 abbrev pub heard : List Note → Round → Round
 heard notes round =
     going_on round.stage (nat_lt (length (polls_left notes round)) (length round.polls.items))

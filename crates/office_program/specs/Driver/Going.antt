@@ -1,5 +1,5 @@
--- The events that one call of `turn` has fed to the office so far, and the state of the office and
--- of the polling rounds. A call of `turn` processes one device event.
+-- The events that one call of `turn` has fed to the office (the event engine) so far, and the
+-- resulting state. A call of `turn` processes one device event.
 use Rattle.std.specs.Prelude.{◌≡◌, ◌⊎◌, ◌≤◌, ℕ, List, [], ◌∷◌, length, Option, Some, None}
 use Rattle.office_books.specs.History.{History}
 use Rattle.office_books.specs.declared.failures.Failures.{Failures}
@@ -13,27 +13,27 @@ use Rattle.office_program.specs.declared.device_rounds.round.Round.{Round}
 use Rattle.office_events.specs.Showing.{Shown}
 use Rattle.office_program.specs.Driver.Turns.{AreNext, AreShown, Table, Wished, first_request, next_by, table, table_with}
 
--- The state during a call of `turn`: the office, the failure counts of its store, the polling
--- rounds, and the observer that is shown each event.
+-- The state during a call of `turn`, which processes one device event. It has the event engine, the
+-- failure counts of its store, the polling rounds, and the observer that is shown each event.
 pub record Scene (B V : Type 0) : Type 0 where
   pub office : Office B
   pub failures : Failures
   pub rounds : List Round
   pub observer : V
 
--- The `Scene` during a call of `turn` with these fields.
+-- The `Scene` (the state during a call of `turn`) with these fields.
 abbrev pub scene : {B V : Type 0} → Office B → Failures → List Round → V → Scene B V
 scene office failures rounds observer =
     record { office = office; failures = failures; rounds = rounds; observer = observer }
 
--- The state at the start of a call of `turn`: the store's failure counts, the observer, and the
--- polling rounds with the event to feed first.
+-- The state at the start of a call of `turn`, which processes one device event. It has the store's
+-- failure counts, the observer, and the polling rounds with the event to feed first.
 pub record Start (V : Type 0) : Type 0 where
   pub failures : Failures
   pub table : Table
   pub observer : V
 
--- The `Start` of a call of `turn` with these fields.
+-- The `Start` (the state at the start of a call of `turn`) with these fields.
 abbrev pub start : {V : Type 0} → Failures → Table → V → Start V
 start failures at observer = record { failures = failures; table = at; observer = observer }
 
@@ -45,8 +45,8 @@ AreAt at (one ∷ earlier) = AreAt at earlier × (one.at ≡ at)
 -- The invariant of a call of `turn`: it has fed exactly the events that were next, all with one
 -- timestamp.
 --
--- Each event has the defined answer, the office and the polling rounds are in the state after the
--- events, and the observer was shown each event.
+-- Each event has the defined answer, and the observer was shown each event. The event engine and
+-- the polling rounds are in the state after the events.
 pub record Going {B V : Type 0} (ledger : B → Ledger) (sees : V → Shown → V → Type 0)
     (past : History) (begun : Start V)
     (at : ℕ) (fed : List Answered) (first : Option Wished) (now : Scene B V) : Type 0 where
@@ -69,8 +69,8 @@ FeedsNext {B} {V} ledger sees at one old new =
     → (ledger (books_in new.office)).is_clean
     → (next : Answered) × Going ledger sees past begun at (next ∷ fed) None new
 
--- True if a call of `turn` is complete, because no polling round requests an event, or the call has
--- fed 256 or more events.
+-- True if a call of `turn` (which processes one device event) is complete: no polling round
+-- requests an event, or the call has fed 256 or more events.
 abbrev pub IsSettled : List Round → (before after : List Answered) → Type 0
 IsSettled rounds before after = (first_request rounds ≡ None) ⊎ (256 ≤ length after)
 
@@ -84,7 +84,7 @@ OfficeGoesOn {B} {V} ledger sees at old new =
     → (later : List Answered) × Going ledger sees past begun at later None new
     × IsSettled new.rounds fed later
 
--- The contract of feeding one event. It promises `FeedsNext` for the office, its polling rounds and
+-- The contract of feeding one event. `FeedsNext` relates the event engine, its polling rounds and
 -- its observer before and after the call.
 abbrev pub FeedsOne : {B V : Type 0} → (B → Ledger) → (V → Shown → V → Type 0) → (at : ℕ) → Wished
     → (old new : Office B) → (before after : List Round) → (from to : V) → Type 0
@@ -92,7 +92,7 @@ FeedsOne ledger sees at one old new before after from to =
     FeedsNext ledger sees at one (scene old (failures_of ledger old) before from)
     (scene new (failures_of ledger new) after to)
 
--- The contract of feeding the requested events. It promises `OfficeGoesOn` for the office, its
+-- The contract of feeding the requested events. `OfficeGoesOn` relates the event engine, its
 -- polling rounds and its observer before and after the call.
 abbrev pub Settles : {B V : Type 0} → (B → Ledger) → (V → Shown → V → Type 0) → (at : ℕ)
     → (old new : Office B) → (before after : List Round) → (from to : V) → Type 0
@@ -109,7 +109,8 @@ pub record TakesTurn {B V : Type 0} (ledger : B → Ledger) (sees : V → Shown 
   pub going : Going ledger sees past begun at fed None now
   pub settled : IsSettled now.rounds [] fed
 
--- True if an office has performed a complete call of `turn`.
+-- True if an event engine has performed a complete call of `turn` (which processes one device
+-- event).
 --
 -- `begun` has the polling rounds and the event to feed first. `rounds` and `to` are the rounds and
 -- the observer after the call.

@@ -1,5 +1,6 @@
--- The order of the events that one call of `turn` feeds to the office. The device event comes
--- first, and then the events that polling rounds request, in the order of their slots.
+-- The order of the events that one call of `turn` feeds to the office (the event engine). The
+-- device event comes first, and then the events that polling rounds request, in the order of their
+-- slots.
 --
 -- Lists of fed events have the latest event first.
 use Rattle.std.specs.Prelude.{◌≡◌, ℕ, zero, suc, List, [], ◌∷◌, map, position, slice_get, Option, Some, None, Result}
@@ -20,8 +21,8 @@ use Rattle.office_events.specs.Showing.{Shown, shown}
 use Rattle.office_program.specs.declared.driver.device_events.DeviceEvent.{DeviceEvent}
 use Rattle.office_program.specs.declared.driver.device_events.DeviceEvent.TheVariants.{Connected, Received, Closed, Tick}
 
--- An event to feed to the office, with the slot (index) of the polling round that requests the
--- event. The slot is `None` for an event of a device.
+-- An event to feed to the event engine, with the slot (index) of the polling round that requests
+-- the event. The slot is `None` for an event of a device.
 pub record Wished : Type 0 where
   pub place : Option ℕ
   pub event : Event
@@ -52,18 +53,19 @@ wish_from (Some place) rounds = wish_in place (slice_get rounds place)
 abbrev pub first_request : List Round → Option Wished
 first_request rounds = wish_from (position has_request rounds) rounds
 
--- The event to feed that the given slot and event form.
+-- The event to feed, together with its slot: the index of the polling round that requests the
+-- event.
 abbrev pub as_wished : Option (ℕ × Event) → Option Wished
 as_wished None = None
 as_wished (Some one) = Some (wished (Some one.0) one.1)
 
--- The state of the polling rounds during a call of `turn`, and the event to feed before any event
--- that the rounds request.
+-- The state of the polling rounds while `turn` processes one device event, and the event to feed
+-- before any event that the rounds request.
 pub record Table : Type 0 where
   pub first : Option Wished
   pub rounds : List Round
 
--- The polling rounds with the event to feed first.
+-- The polling rounds, together with the event to feed before any event that they request.
 abbrev pub table : Option Wished → List Round → Table
 table first rounds = record { first = first; rounds = rounds }
 
@@ -73,7 +75,7 @@ abbrev pub next_by : Option Wished → List Round → Option Wished
 next_by None rounds = first_request rounds
 next_by (Some one) rounds = Some one
 
--- The next event to feed in this state of a call of `turn`.
+-- The next event to feed in this state of a call of `turn`, which processes one device event.
 abbrev pub next_of : Table → Option Wished
 next_of at = next_by at.first at.rounds
 
@@ -84,7 +86,7 @@ at_place place change [] = []
 at_place zero change (round ∷ rounds) = change round ∷ rounds
 at_place (suc place) change (round ∷ rounds) = round ∷ at_place place change rounds
 
--- The polling rounds after the office's answer to an event. Only the round that requested the
+-- The polling rounds after the event engine's answer to an event. Only the round that requested the
 -- event, in its slot, gets the answer.
 abbrev pub answered_for : Option ℕ → Result Answer Refusal → List Round → List Round
 answered_for None answer rounds = rounds
@@ -100,16 +102,17 @@ abbrev pub place_of : Option Wished → Option ℕ
 place_of None = None
 place_of (Some one) = one.place
 
--- The state of a call of `turn` after the office answered the next event with the given answer and
--- notifications.
+-- The state of a call of `turn`, which processes one device event, after the next event. The event
+-- engine gave this answer and these notifications for the event.
 abbrev pub table_after : Table → Result Answer Refusal → List Note → Table
 table_after at answer notes = table None (reported (place_of (next_of at)) answer notes at.rounds)
 
--- The office's notifications of an event that was fed after the events `earlier`.
+-- The event engine's notifications of an event that was fed after the events `earlier`.
 abbrev pub notes_of : (past : History) → List Answered → Answered → List Note
 notes_of past earlier one = notes_after (history_with past earlier) one.at one.event one.result
 
--- The state of a call of `turn` after it fed a list of events.
+-- The state of a call of `turn` (which processes one device event) after the call fed a list of
+-- events.
 abbrev pub table_with : (past : History) → Table → List Answered → Table
 table_with past from [] = from
 table_with past from (one ∷ earlier) =
@@ -168,8 +171,9 @@ came_from place (Some device) piece = Some (wished (Some place) (event.Bytes dev
 abbrev pub brought : ℕ → List ℕ → List Round → Table
 brought place piece rounds = table (came place (slice_get rounds place) piece) rounds
 
--- The state at the start of a call of `turn`. Awaited bytes and a timer event are fed first. A
--- connection or its end only changes the event that the device's polling round requests.
+-- The state at the start of a call of `turn` for one device event. Awaited bytes and a timer event
+-- are fed first. A connection or its end only changes the event that the device's polling round
+-- requests.
 abbrev pub opened : DeviceEvent → List Round → Table
 opened (Connected place) rounds = table None (at_place place joined rounds)
 opened (Received place piece) rounds = brought place piece rounds

@@ -33,8 +33,8 @@ use Rattle.office_program.specs.declared.entering.progress.Progress.{Progress}
 use Rattle.office_program.specs.Entering.Course.{Asked, Came, EntersLine, IsAskedAt, IsCameOf, IsShown, TakesLine, progress_after, reply_text}
 use Rattle.office_program.specs.Entering.Lines.{Reporting}
 
--- The text that reports the office's answer to the last event. It has the notifications and the
--- answer, or the number of the refusal.
+-- The text that reports the event engine's answer to the last event. It has the notifications and
+-- the answer, or the number of the refusal.
 abbrev pub reported_text : {B : Type 0} → Office B → Result Answer Refusal → List ℕ
 reported_text office (Ok given) = accepted_text given (notes_in office) (outgoing_in office)
 reported_text office (Err why) = refused_line why
@@ -47,8 +47,8 @@ ReportsFault Bad number Failed old new = GotPart (bad_line number) old new
 ReportsFault Memory number Failed old new = Appends old new []
 ReportsFault _ number _ old new = ⊥
 
--- True if the event was fed to the office at timestamp `at` and the answer was printed. If the
--- write failed, a part of the answer was printed.
+-- True if the event was fed to the event engine at timestamp `at` and the answer was printed. If
+-- the write failed, a part of the answer was printed.
 pub record IsAsked {B : Type 0} (ledger : B → Ledger) (past : History) (at : ℕ) (e : Event)
     (progress : Progress) (before after : Failures) (had holds : Option (List ℕ))
     (office : Office B) (result : Result Progress Error) : Type 0 where
@@ -60,8 +60,8 @@ pub record IsAsked {B : Type 0} (ledger : B → Ledger) (past : History) (at : �
   pub text : GotText result (reply_text past one.at one.event one.result) had holds
   pub next : IfOk result (λ next. next ≡ progress_after progress (Asked one))
 
--- The contract of feeding one event and printing the answer. It promises `IsAsked` for any history
--- of the office before the event.
+-- The contract of feeding one event and printing the answer. `IsAsked` states the result, whatever
+-- events the event engine accepted before.
 abbrev pub AsksAt : {B W : Type 0} → stores.Ghosts B → writers.Ghosts W → (at : ℕ) → Event
     → Progress → (old new : Office B) → (had holds : W) → Result Progress Error → Type 0
 AsksAt b w at e progress old new had holds result = After b.ledger old new (λ past.
@@ -85,8 +85,8 @@ pub record HasCome {B : Type 0} (ledger : B → Ledger) (reports : Reporting) (e
   pub shown : IsShown reports (facts_of past) entry came
   pub takes : TakesLine {E = Error} ledger past progress begun now office result came
 
--- The contract of processing one parsed input line with the timestamp `at`. It promises `HasCome`
--- for any history of the office and any reading of the clock.
+-- The contract of processing one parsed input line with the timestamp `at`. `HasCome` states the
+-- result, whatever events the event engine accepted before and whatever time the clock returns.
 abbrev pub EntersAt : {B W : Type 0} → stores.Ghosts B → writers.Ghosts W → Reporting → Entry
     → Progress → (at : ℕ) → (old new : Office B) → (had holds : W) → Result Progress Error → Type 0
 EntersAt b w reports entry progress at old new had holds result = (moments later : Option (List ℕ))
@@ -95,7 +95,7 @@ EntersAt b w reports entry progress at old new had holds result = (moments later
     (round_state (w.contents had) moments (failures_of b.ledger old))
     (round_state (w.contents holds) later (failures_of b.ledger new)) new result)
 
--- True if the request was fed to the office, or the reason why it was not fed was printed.
+-- True if the request was fed to the event engine, or the reason why it was not fed was printed.
 pub record HasAsked {B : Type 0} (ledger : B → Ledger) (request : Request) (past : History)
     (progress : Progress) (begun now : RoundState) (office : Office B)
     (result : Result Progress Error) : Type 0 where
@@ -103,8 +103,8 @@ pub record HasAsked {B : Type 0} (ledger : B → Ledger) (request : Request) (pa
   pub comes : IsCameOf (entry.Ask request) came
   pub takes : TakesLine {E = Error} ledger past progress begun now office result came
 
--- The contract of feeding the request of an input line with the timestamp `at`. It promises
--- `HasAsked` for any history of the office and any reading of the clock.
+-- The contract of feeding the request of an input line with the timestamp `at`. `HasAsked` states
+-- the result, whatever events the event engine accepted before and whatever time the clock returns.
 abbrev pub AsksTimed : {B W : Type 0} → stores.Ghosts B → writers.Ghosts W → Request → Progress
     → (at : ℕ) → (old new : Office B) → (had holds : W) → Result Progress Error → Type 0
 AsksTimed b w request progress at old new had holds result = (moments later : Option (List ℕ))

@@ -29,7 +29,7 @@ use Rattle.office_program.specs.declared.entering.entries.Entry.TheVariants as e
 use Rattle.office_program.specs.Entering.Course as course
 use Rattle.office_program.specs.Entering.Lines.{IsBad, IsEntry, MayAsk, Reporting}
 
--- ---- The result of looking up a request in the store
+-- The result of looking up a request in the store.
 
 -- True if the store was only queried. Its records, and the records that a crash may leave, are
 -- unchanged.
@@ -72,7 +72,7 @@ abbrev pub KnowsRequest : (old new : Ledger) → Asked → Known → Type 0
 KnowsRequest old new asked what =
     (facts : List Fact) → old.holds facts → new.is_clean → IsKnown facts asked what
 
--- ---- The result of checking an input line
+-- The result of checking an input line.
 
 -- True for the result of checking an input line. The result is the stored state of its request, the
 -- faulty rows of its point list, or that the line is bad.
@@ -156,7 +156,7 @@ abbrev pub ChecksLine : Reporting → (caller : Option (List ℕ)) → Line → 
 ChecksLine reports caller line old new had holds result = (facts : List Fact) → old.holds facts
     → new.is_clean → IsChecked reports caller line facts had holds result
 
--- ---- The results of checking all lines of an input, with the latest line first
+-- The results of checking all lines of an input, with the latest line first.
 
 -- A checked input line, with its result.
 pub record Looked : Type 0 where
@@ -169,7 +169,7 @@ abbrev pub lines_with : List Looked → (rest : List Line) → List Line
 lines_with [] rest = rest
 lines_with (one ∷ earlier) rest = lines_with earlier (one.line ∷ rest)
 
--- True if each checked line has the result of checking the line against the records.
+-- True if each checked line has the result of checking the line against the store's records.
 abbrev pub AreLooks : Reporting → (caller : Option (List ℕ)) → List Fact → List Looked → Type 0
 AreLooks reports caller facts [] = Unit {0}
 AreLooks reports caller facts (one ∷ earlier) =
@@ -217,15 +217,15 @@ abbrev pub ChecksText : Reporting → (caller : Option (List ℕ)) → (text : L
 ChecksText reports caller text old new had holds status = (facts : List Fact) → old.holds facts
     → new.is_clean → Checks reports caller (speaking_lines text) facts status had holds
 
--- True if the input was checked over a store that records the history `past`, and the store still
--- records `past` afterwards.
+-- True if the input was checked over a store that has the records of the accepted events `past`.
+-- The store still has these records afterwards.
 pub record LooksOver (reports : Reporting) (caller text : List ℕ) (new : Ledger)
     (had holds : Option (List ℕ)) (status : ExitStatus) (past : History) : Type 0 where
   pub checks : Checks reports (named caller) (speaking_lines text) (facts_of past) status had holds
   pub stand : BooksStand new past
 
--- The contract of the command that checks an input. It promises `LooksOver` for any history that
--- the store records, if the command used no wrong result of the store.
+-- The contract of the command that checks an input, for any accepted events that the store records.
+-- If the command used no wrong result of the store, then `LooksOver` states the result.
 abbrev pub ChecksOver : {B : Type 0} → (B → Ledger) → Reporting → (caller text : List ℕ)
     → (books back : B) → (had holds : Option (List ℕ)) → ExitStatus → Type 0
 ChecksOver ledger reports caller text books back had holds status =

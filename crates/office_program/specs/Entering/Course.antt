@@ -1,5 +1,5 @@
 -- The progress of entering an input: the outcome and the text of each line, and the state of the
--- office after it.
+-- office (the event engine) after it.
 --
 -- Lists of processed lines have the latest line first.
 use Rattle.std.specs.Prelude.{◌≡◌, ◌⊎◌, ◌||◌, ℕ, max, true, false, List, [], ◌∷◌, ◌++◌, codes, Option, Some, None, Result, Ok, Err, IfOk, is_err}
@@ -39,15 +39,15 @@ use Rattle.office_program.specs.Entering.Doubts.{doubt_in, doubt_of}
 use Rattle.office_program.specs.Entering.Lines.{IsBad, IsEntry, MayAsk, Reporting}
 use Rattle.office_program.specs.Entering.Reading.{AsksShown, IsShownFor}
 
--- ---- The outcome of one input line, with its text and its timestamp
+-- The outcome of one input line, with its text and its timestamp.
 
--- The outcome of an input line that is not bad. `Asked`: its request was fed to the office and
--- answered. Otherwise no request was fed:
+-- The outcome of an input line that is not bad. `Asked`: its request was fed to the event engine
+-- and answered. Otherwise no request was fed:
 --
 -- - `Faulty`: the line's point list has faulty rows;
 -- - `Doubted`: the line's entry by hand would record more energy than the meter's power limit
 --   allows, namely `mwh`;
--- - `Undecided`: the office could not answer a query that the line needs, because of a failure;
+-- - `Undecided`: the engine could not answer a query that the line needs, because of a failure;
 -- - `Unread`: the meter's counter can't be read.
 pub data Came : Type 0 where
   Asked : Answered → Came
@@ -78,8 +78,8 @@ IsShown reports facts (entry.Read read) (Doubted at request mwh) =
 IsShown reports facts (entry.Read read) (Unread at tried) = IsShownFor reports facts read None
 IsShown reports facts _ _ = Unit {0}
 
--- True if the input line has a parsed form that may have the outcome `came`, when the history of
--- the office is `past`.
+-- True if the input line has a parsed form that may have the outcome `came`, when the event engine
+-- has accepted the events `past`.
 pub record Comes (reports : Reporting) (caller : Option (List ℕ)) (past : History) (text : List ℕ)
     (came : Came) : Type 0 where
   pub entry : Entry
@@ -87,23 +87,24 @@ pub record Comes (reports : Reporting) (caller : Option (List ℕ)) (past : Hist
   pub comes : IsCameOf entry came
   pub shown : IsShown reports (facts_of past) entry came
 
--- The history of the office after an input line with this outcome. Only a newly accepted request
--- adds to the history.
+-- The event engine's accepted events after an input line with this outcome. Only a newly accepted
+-- request adds an event.
 abbrev pub with_came : History → Came → History
 with_came past (Asked one) = with_answer past one.at one.event one.result
 with_came past _ = past
 
--- True if the office answered the request, and the request's entry is not doubted: its energy is
--- within what the meter's power limit allows.
+-- True if the event engine answered the request, and the request's entry is not doubted: its energy
+-- is within what the meter's power limit allows.
 pub record IsAskedAndAnswered (past : History) (before after : Failures) (one : Answered) : Type 0
   where
     pub undoubted : doubt_in (facts_of past) one.at one.event ≡ None
     pub answer : IsAnswer past one.at one.event before after one.result
 
--- True if an input line had the outcome that the definitions give for the records before the line.
+-- True if an input line had the outcome that the definitions give for the store's records before
+-- the line.
 --
--- A request has the defined answer or was refused because of a failure. A doubted entry satisfies
--- the definition of a doubt, and an undecided line had a failure. The failure counts change
+-- A request has the defined answer or was refused because of a failure. An entry that is reported
+-- as doubted needs a confirmation. An undecided line had a failure. The failure counts change
 -- accordingly.
 abbrev pub IsCameAnswered : History → (before after : Failures) → Came → Type 0
 IsCameAnswered past before after (Asked one) = IsAskedAndAnswered past before after one
@@ -113,8 +114,8 @@ IsCameAnswered past before after (Doubted at request mwh) =
 IsCameAnswered past before after (Undecided at request why) = IsOutside ⊥ before after why
 IsCameAnswered past before after (Unread at read) = after ≡ before
 
--- The text that reports the office's answer to an event, as in a script. It has the notifications
--- and `ok`, or the number of the refusal.
+-- The text that reports the event engine's answer to an event, as in a script. It has the
+-- notifications and `ok`, or the number of the refusal.
 abbrev pub reply_text : History → (at : ℕ) → Event → Result Answer Refusal → List ℕ
 reply_text past at e (Ok given) =
     accepted_text given (notes_after past at e (Ok given)) (outgoing_after past at e (Ok given))
@@ -124,8 +125,8 @@ reply_text past at e (Err why) = refused_line why
 abbrev pub faults_text : List FaultyRow → List ℕ
 faults_text rows = flat_map fault_line rows ++ refused_line Limit
 
--- The text that reports a doubted entry by hand, with the energy in mWh that the entry would
--- record.
+-- The text that reports a doubted entry (one that needs a confirmation), with the energy in mWh
+-- that the entry would record.
 abbrev pub doubted_line : (mwh : ℕ) → List ℕ
 doubted_line mwh = codes "doubted " ++ decimal mwh ++ codes "\n"
 
@@ -167,8 +168,8 @@ progress_after progress (Doubted at request mwh) = record { latest = at; refused
 progress_after progress (Undecided at request why) = record { latest = at; refused = true }
 progress_after progress (Unread at read) = record { latest = at; refused = true }
 
--- True if the office processed the input line with the outcome `came`. The outcome determines the
--- office's new history, its answer, the failure counts and the timestamp.
+-- True if the event engine processed the input line with the outcome `came`. The outcome determines
+-- the events that the engine has accepted, its answer, the failure counts and the timestamp.
 pub record Takes {B : Type 0} (ledger : B → Ledger) (past : History) (latest : ℕ)
     (begun now : RoundState) (office : Office B) (came : Came) : Type 0 where
   pub stands : Stands ledger (with_came past came) office
@@ -184,8 +185,8 @@ pub record TakesLine {B E : Type 0} (ledger : B → Ledger) (past : History) (pr
     pub text : GotText result (came_text past came) begun.printed now.printed
     pub next : IfOk result (λ next. next ≡ progress_after progress came)
 
--- True if the input line made no request. Then the office, the clock and the failure counts are
--- unchanged.
+-- True if the input line made no request. Then the event engine, the clock and the failure counts
+-- are unchanged.
 pub record IsUntouched {B : Type 0} (begun now : RoundState) (old new : Office B) : Type 0 where
   pub office : new ≡ old
   pub moments : now.moments ≡ begun.moments
@@ -210,7 +211,7 @@ EntersLine ledger reports caller line past progress begun now old new (Err Faile
     × GotPart (bad_line line.number) begun.printed now.printed)
     ⊎ (IsUntouched begun now old new × Appends begun.printed now.printed [])
 
--- ---- The outcomes of several input lines, with the latest line first
+-- The outcomes of several input lines, with the latest line first.
 
 -- A processed input line with its outcome.
 pub record Taken : Type 0 where
@@ -223,7 +224,7 @@ abbrev pub lines_with : List Taken → (rest : List Line) → List Line
 lines_with [] rest = rest
 lines_with (one ∷ earlier) rest = lines_with earlier (one.line ∷ rest)
 
--- The history of the office after a list of input lines.
+-- The events that the event engine has accepted after a list of input lines.
 abbrev pub history_with : History → List Taken → History
 history_with past [] = past
 history_with past (one ∷ earlier) = with_came (history_with past earlier) one.came
@@ -264,8 +265,8 @@ text_after past (one ∷ earlier) =
 
 -- True if the input lines in `taken` were processed in order.
 --
--- Each line has the defined outcome after the earlier lines, at its timestamp. The office is in the
--- state after all lines.
+-- Each line has the defined outcome after the earlier lines, at its timestamp. The event engine is
+-- in the state after all lines.
 pub record AreTaken {B : Type 0} (ledger : B → Ledger) (reports : Reporting)
     (caller : Option (List ℕ)) (past : History) (first : ℕ) (begun now : RoundState)
     (office : Office B) (taken : List Taken) : Type 0 where

@@ -1,8 +1,8 @@
--- The entries by hand that need a confirmation, because their energy is more than the meter's
--- ceiling (its greatest power) allows since the meter's last entry.
+-- The manual entries that need a confirmation, because their energy is more than the meter's
+-- ceiling (its greatest power) allows since its last entry.
 --
--- An entry by hand can't be voided later. So a doubted entry is recorded only if its line ends with
--- the mark ` !`.
+-- A manual entry can't be cancelled later. So such an entry is recorded only if its input line ends
+-- with the mark ` !`.
 use Rattle.std.specs.Prelude.{◌≡◌, ◌⊎◌, ℕ, ◌-◌, ◌*◌, nat_lt, nat_le, Bool, not, ◌&&◌, List, Option, Some, None, is_some, Result, Ok, if◌then◌else◌}
 use Rattle.std.specs.Option.{option_and_then}
 use Rattle.energy_core.specs.Account.{moment_of, reached}
@@ -28,8 +28,8 @@ use Rattle.office_core.specs.Taking.{failures_of}
 use Rattle.office_core.specs.declared.office.Office.{Office}
 use Rattle.office_program.specs.Entering.Marks.{is_marked}
 
--- ---- A doubted entry at one meter. `up_to` is the value that a counter without rollovers would
--- have at the time of the entry.
+-- A meter's manual entry that needs a confirmation. `up_to` is the value that a counter without
+-- rollovers would have at the time of the entry.
 
 -- True if the entry is later than the meter's last entry, and does not decrease the counter.
 abbrev pub goes_on : Installation → (moment up_to : ℕ) → Bool
@@ -46,30 +46,31 @@ is_within_ceiling row moment up_to =
 abbrev pub energy_by : Installation → (up_to : ℕ) → ℕ
 energy_by row up_to = up_to * unit_of row.last.sf - value_of row.last
 
--- The energy that a doubted entry would record, in mWh.
+-- The energy that a manual entry would record, in mWh, if the entry needs a confirmation.
 --
 -- `None` if the energy is within what the meter's ceiling (its greatest power) allows. Also `None`
--- if the office refuses the entry anyway, because it is not later or decreases the counter.
+-- if the office (the event engine) refuses the entry anyway, because it is not later or decreases
+-- the counter.
 abbrev pub doubted_up_to : Installation → (moment up_to : ℕ) → Option ℕ
 doubted_up_to row moment up_to =
     if goes_on row moment up_to && not (is_within_ceiling row moment up_to)
     then Some (energy_by row up_to)
     else None
 
--- The energy that a doubted entry would record at the meter `row`, in mWh, or `None` if the entry
--- is not doubted.
+-- The energy in mWh that a manual entry would record at the meter `row`. `None` if the entry needs
+-- no confirmation.
 abbrev pub doubted_by : Installation → Entry → Option ℕ
 doubted_by row e = doubted_up_to row (moment_of e) (reached row.opening.range e)
 
--- ---- The doubted entry in a request
+-- The manual entry in a request that needs a confirmation.
 
--- The energy in mWh that the command's entry would record at the meter, if the entry is doubted.
--- `None` if the entry is not doubted, or the command makes no entry.
+-- The energy in mWh that the command's entry would record at the meter, if the entry needs a
+-- confirmation. `None` if it needs none, or the command makes no entry.
 abbrev pub doubted_at : (at : ℕ) → Command → Installation → Option ℕ
 doubted_at at c row = option_and_then (λ made. doubted_by row made.entry) (made_by at row.last c)
 
 -- The energy in mWh that the command's entry would record at the register's open meter (the one
--- that is not closed), if the entry is doubted. Otherwise `None`.
+-- that is not closed). `None` if the entry needs no confirmation.
 abbrev pub doubted_in : List Fact → (at : ℕ) → Command → (register : Option (List ℕ)) → Option ℕ
 doubted_in facts at c register =
     option_and_then (doubted_at at c) (option_and_then (open_at facts) register)
@@ -80,32 +81,33 @@ abbrev pub repeat_in : List Fact → Asked → Option Repeat
 repeat_in facts asked =
     option_and_then (λ caller. repeat_of facts caller asked.number asked.request) asked.caller
 
--- The energy in mWh that a request would record, if its entry is doubted (needs a confirmation).
+-- The energy in mWh that a request would record, if its manual entry needs a confirmation.
 --
 -- `None` if the request's key is stored, its line has the mark ` !`, or its entry is within the
--- meter's ceiling. The stored bytes of the request include the mark.
+-- meter's ceiling (its greatest power). The stored bytes of the request include the mark.
 abbrev pub doubt_of : List Fact → (at : ℕ) → Asked → Option ℕ
 doubt_of facts at asked =
     if is_some (repeat_in facts asked) then None
     else if is_marked asked.request then None
     else doubted_in facts at asked.command (corrected_at asked.command)
 
--- The energy in mWh that an event would record, if the event is a request with a doubted entry.
--- Otherwise `None`.
+-- The energy in mWh that an event would record, if the event is a request whose entry needs a
+-- confirmation. Otherwise `None`.
 abbrev pub doubt_in : List Fact → (at : ℕ) → Event → Option ℕ
 doubt_in facts at (event.Asked asked) = doubt_of facts at asked
 doubt_in facts at _ = None
 
--- ---- The office's answer to the query whether an entry is doubted
+-- The event engine's answer to the query whether an entry needs a confirmation.
 
--- True if the history of the office is still `past`, since a query records nothing. The office
--- answered whether an entry is doubted, or refused the query because of a failure.
+-- True if the event engine answered whether an entry needs a confirmation, or refused the query
+-- because of a failure. Its accepted events are still `past`, since a query records nothing.
 pub record IsDoubtReported {B : Type 0} (ledger : B → Ledger) (past : History) (before after : Failures)
     (office : Office B) (doubt : Option ℕ) (result : Result (Option ℕ) Refusal) : Type 0 where
   pub stands : Stands ledger past office
   pub reported : ((result ≡ Ok doubt) × (after ≡ before)) ⊎ FailsOutside ⊥ before after result
 
--- True if the office answered whether an entry is doubted, from the records of all accepted events.
+-- True if the event engine answered whether an entry needs a confirmation, from the records of all
+-- accepted events.
 abbrev pub ReportsDoubt : {B : Type 0} → (B → Ledger) → (old new : Office B)
     → Result (Option ℕ) Refusal → (List Fact → Option ℕ) → Type 0
 ReportsDoubt ledger old new result doubt = After ledger old new (λ past.

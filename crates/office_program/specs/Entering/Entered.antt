@@ -1,5 +1,5 @@
 -- The result of entering an input: its lines are processed in order, up to the first bad line. Each
--- line makes a request to the office.
+-- line makes a request to the office (the event engine).
 use Rattle.std.specs.Prelude.{◌≡◌, ◌⊎◌, ℕ, List, [], ◌∷◌, ◌++◌, Option, if◌then◌else◌}
 use Rattle.std.specs.Io.KnownBytes.{Appends}
 use Rattle.std.specs.declared.io.Write as writers
@@ -80,8 +80,8 @@ IsEnd reports lines past first taken status had holds =
     ⊎ IsStoppedReported reports lines past taken status had holds
     ⊎ IsBrokenOff reports lines past taken status had holds
 
--- The state after the lines were entered into an office with the history `past`. No line has a
--- timestamp before `first`.
+-- The state after the lines were entered into an event engine that had accepted the events `past`.
+-- No line has a timestamp before `first`.
 pub record EntersLines {B : Type 0} (ledger : B → Ledger) (reports : Reporting)
     (caller : Option (List ℕ)) (lines : List Line) (first : ℕ) (begun now : RoundState)
     (office : Office B) (status : ExitStatus) (past : History) : Type 0 where
@@ -89,8 +89,8 @@ pub record EntersLines {B : Type 0} (ledger : B → Ledger) (reports : Reporting
   pub are : AreTaken ledger reports caller past first begun now office taken
   pub ends : IsEnd reports lines past first taken status begun.printed now.printed
 
--- The contract of entering an input. It promises `EntersLines` for any history of the office, and
--- names the clock and the writer before and after the input.
+-- The contract of entering an input. `EntersLines` states the result, whatever events the event
+-- engine accepted before.
 abbrev pub EntersTextOf : {B C W : Type 0} → stores.Ghosts B → clocks.Ghosts C → writers.Ghosts W
     → Reporting → (caller : Option (List ℕ)) → (text : List ℕ) → (first : ℕ) → (old new : Office B)
     → (before after : C) → (had holds : W) → ExitStatus → Type 0
@@ -98,8 +98,8 @@ EntersTextOf b c w reports caller text first old new before after had holds stat
     After b.ledger old new (EntersLines b.ledger reports caller (speaking_lines text) first
     (desk_of b c w old before had) (desk_of b c w new after holds) new status)
 
--- True if the input was entered into an office that was opened for the input. The timestamp of each
--- line is at least the timestamp at which the office was opened.
+-- True if the input was entered into an event engine that was opened for the input. The timestamp
+-- of each line is at least the timestamp at which the engine was opened.
 abbrev pub Enters : {B : Type 0} → (B → Ledger) → Reporting → (caller : Option (List ℕ))
     → (text : List ℕ) → (later had holds : Option (List ℕ)) → ExitStatus
     → (following : History) → (since : Option (List ℕ)) → (opened left : Office B) → Type 0
@@ -108,8 +108,8 @@ Enters ledger reports caller text later had holds status following since opened 
     (round_state had since (failures_of ledger opened))
     (round_state holds later (failures_of ledger left)) left status following
 
--- True if the office was opened and the input was entered. If opening the office was refused, only
--- the refusal was printed.
+-- True if the event engine was opened and the input was entered. If opening the engine was refused,
+-- only the refusal was printed.
 abbrev pub ReportsEntering : {B : Type 0} → (B → Ledger) → (past : History) → Reporting
     → (caller text : List ℕ) → (moments later : Option (List ℕ)) → (books back : B)
     → (had holds : Option (List ℕ)) → ExitStatus → Type 0
@@ -118,8 +118,8 @@ ReportsEntering ledger past reports caller text moments later books back had hol
     ⊎ WithOffice ledger past moments back
     (Enters ledger reports (named caller) text later had holds status)
 
--- The contract of the command that enters an input. It promises `ReportsEntering` for any history
--- that the store records, and names the clock and the writer before and after.
+-- The contract of the command that enters an input, for any accepted events that the store records.
+-- `ReportsEntering` states the result.
 abbrev pub EntersOver : {B C W : Type 0} → stores.Ghosts B → clocks.Ghosts C → writers.Ghosts W
     → Reporting → (caller text : List ℕ) → (books back : B) → (before after : C) → (had holds : W)
     → ExitStatus → Type 0

@@ -38,11 +38,12 @@ pub record Reporting : Type 1 where
   pub files : List ℕ → Option (List ℕ) → Type 0
   pub counters : Device → Register → Option Shown → Type 0
 
--- The possible results of reading files and counters by an implementation of `Surroundings`.
+-- The possible results of reading files and counters, for an implementation of the trait
+-- `Surroundings`.
 abbrev pub reporting_of : {F : Type 0} → surroundings.Ghosts F → F → Reporting
 reporting_of f files = record { files = f.reports files; counters = f.shows files }
 
--- ---- The request in a line of a script
+-- The request in a line of a script.
 
 -- True if an input line can request the command. Only commands that start polls can't be requested.
 abbrev pub is_request : Command → Bool
@@ -87,7 +88,7 @@ wanted_in marked (line.Event number e) = wanted_of marked number e
 wanted_in marked (line.List number list) = wanted_list marked number list
 wanted_in marked _ = wanted.Nothing
 
--- ---- The parsed form of an input line
+-- The parsed form of an input line.
 
 -- The request for this command, with the bytes of the request that the store keeps.
 abbrev pub asked_by : (caller : Option (List ℕ)) → (number : ℕ) → (request : List ℕ) → Command
@@ -166,7 +167,7 @@ MayAsk (Ask asked) request = request ≡ asked
 MayAsk (Read read) request = (raw : ℕ) × (sf : ℤ) × (request ≡ asked_at read raw sf)
 MayAsk (Faulty rows) request = ⊥
 
--- True if the line names a file that does not exist.
+-- True if the input line names a file that does not exist.
 abbrev pub LacksFile : Reporting → (text : List ℕ) → Type 0
 LacksFile reports text =
     (named : FileLine) × IsFileLine (words_of text) named × reports.files named.name None
@@ -182,7 +183,7 @@ abbrev pub IsBad : Reporting → (text : List ℕ) → Type 0
 IsBad reports text =
     LacksFile reports text ⊎ (IsNoFileLine (words_of text) × IsNoRead text × IsNoRequest text)
 
--- ---- The result of parsing an input line. If memory runs out, nothing is known of the line.
+-- The result of parsing an input line. If memory runs out, nothing is claimed about the line.
 
 -- True if an `Ok` result is the parsed form of the script's line, and the result `Bad` means that
 -- the line requests nothing. If memory ran out, nothing is claimed about the line.

@@ -1,5 +1,5 @@
--- An input line that installs a meter at the present reading of its counter. The line has `@read`
--- in place of RAW and SF.
+-- An input line that installs a meter at the present reading of its counter. The line has the
+-- placeholder `@read` instead of the counter's raw value and scale factor.
 use Rattle.std.specs.Prelude.{◌≡◌, ℕ, ℤ, Bool, true, not, List, [], ◌∷◌, Option, Some, None, codes, if◌then◌else◌}
 use Rattle.std.specs.Str.{bytes_eq}
 use Rattle.office_events.specs.declared.commands.Command.{Command}
@@ -32,10 +32,9 @@ IsReadLine words line = Spell words (read_form line)
 abbrev pub IsNoReadLine : (words : List (List ℕ)) → Type 0
 IsNoReadLine words = (line : ReadLine) → IsReadLine words line → ⊥
 
--- ---- The number, register and command of a line with `@read`, a placeholder for the counter's
--- reading
+-- The number, register and command of a line with `@read`, a placeholder for the counter's reading.
 
--- The number of the request in the line.
+-- The number of the request in an input line with `@read`.
 abbrev pub number_of : ReadLine → ℕ
 number_of (read.Install number register meter ceiling range) = number
 number_of (read.Exchange number register last rolls meter ceiling range) = number
@@ -79,7 +78,8 @@ asked_at read raw sf = record {
   command = command_at read.line raw sf;
 }
 
--- ---- The text of an input line with `@read`. An entry by hand may end with the mark ` !`.
+-- The text of an input line with `@read`. A manual entry may end with the mark ` !`, which confirms
+-- the entry.
 
 -- True if the line may end with or without the mark ` !` (a confirmation), as `marked` says. An
 -- installation needs no confirmation. An exchange may need one, because it makes an entry by hand.
@@ -97,14 +97,14 @@ pub record IsRead (text : List ℕ) (line : ReadLine) : Type 0 where
 abbrev pub IsNoRead : (text : List ℕ) → Type 0
 IsNoRead text = (line : ReadLine) → IsRead text line → ⊥
 
--- ---- The parser of a line with `@read` as a function of the words, from left to right
+-- The parser of a line with `@read` as a function of the words, from left to right.
 
 -- The words after the first word, if the first word is `@read`. Otherwise `None`.
 abbrev pub read_word : List (List ℕ) → Option (List (List ℕ))
 read_word [] = None
 read_word (word ∷ words) = if bytes_eq word (codes "@read") then Some words else None
 
--- The installation that the words after `install` form, or `None` if they form no installation.
+-- The meter installation that the words after `install` form, or `None` if they form none.
 abbrev pub install_said : (number : ℕ) → List (List ℕ) → Option ReadLine
 install_said number words =
     first_value AnyName words >>= λ register.
@@ -115,7 +115,7 @@ install_said number words =
     end_of_words range.1 >>= λ none.
     Some (read.Install number register.0 meter.0 ceiling.0 range.0)
 
--- The exchange that the words after `exchange` form, or `None` if they form no exchange.
+-- The exchange of meters that the words after `exchange` form, or `None` if they form none.
 abbrev pub exchange_said : (number : ℕ) → List (List ℕ) → Option ReadLine
 exchange_said number words =
     first_value AnyName words >>= λ register.
@@ -136,12 +136,13 @@ line_said number verb words =
     else if bytes_eq verb (codes "exchange") then exchange_said number words
     else None
 
--- Parses a line with `@read` from its number and the words after the number. `None` if these words
--- are no such line.
+-- Parses an input line with `@read` (a placeholder for the counter's reading) from its number and
+-- the words after the number. `None` if these words are no such line.
 abbrev pub verb_said : (number : ℕ) → List (List ℕ) → Option ReadLine
 verb_said number [] = None
 verb_said number (verb ∷ words) = line_said number verb words
 
--- Parses a line with `@read` from all its words. `None` if they are no such line.
+-- Parses an input line with `@read` (a placeholder for the counter's reading) from all its words.
+-- `None` if the words are no such line.
 abbrev pub read_said : List (List ℕ) → Option ReadLine
 read_said words = first_value Number words >>= λ number. verb_said number.0 number.1

@@ -71,64 +71,64 @@ AsksShown reports facts read request =
     (shown : Shown) × IsShownFor reports facts read (Some shown)
     × (request ≡ asked_at read shown.raw shown.sf)
 
--- ---- The office's answer to the query for the counter's reading
+-- The event engine's answer to the query for the counter's reading.
 
--- True if the office found the reading (or that there is none) and the store did not fail, or if
--- the office refused the query because of a failure.
+-- True if the office (the event engine) found the reading, or found that there is none, and the
+-- store did not fail. Also true if the engine refused the query because of a failure.
 abbrev pub HasShown : Reporting → List Fact → ReadRequest → (before after : Failures)
     → Result (Option Shown) Refusal → Type 0
 HasShown reports facts read before after (Ok found) =
     IsShownFor reports facts read found × (after ≡ before)
 HasShown reports facts read before after (Err why) = IsOutside ⊥ before after why
 
--- True if the history of the office is still `past`, since a query records nothing. The office
--- found the reading for the line, or refused the query because of a failure.
+-- True if the event engine found the reading for the line, or refused the query because of a
+-- failure. Its accepted events are still `past`, since a query records nothing.
 pub record IsFilled {B : Type 0} (ledger : B → Ledger) (reports : Reporting) (read : ReadRequest)
     (past : History) (before after : Failures) (office : Office B)
     (result : Result (Option Shown) Refusal) : Type 0 where
   pub stands : Stands ledger past office
   pub reported : HasShown reports (facts_of past) read before after result
 
--- The contract of finding the counter's reading for an input line. It promises `IsFilled` for any
--- history of the office before the query.
+-- The contract of finding the counter's reading for an input line. `IsFilled` states the result,
+-- whatever events the event engine accepted before.
 abbrev pub Fills : {B : Type 0} → (B → Ledger) → Reporting → ReadRequest → (old new : Office B)
     → Result (Option Shown) Refusal → Type 0
 Fills ledger reports read old new result = After ledger old new (λ past.
     IsFilled ledger reports read past (failures_of ledger old) (failures_of ledger new) new result)
 
--- ---- The register, the device and the reading of a counter, looked up one by one
+-- The register, the device and the reading of a counter, looked up one by one.
 
 -- True for the reading of the register's counter, or for `None` if the counter can't be read.
 abbrev pub IsCounterFor : Reporting → List Fact → (register : Option (List ℕ)) → Option Shown → Type 0
 IsCounterFor reports facts register (Some shown) = IsCounterReported reports facts register (Some shown)
 IsCounterFor reports facts register None = IsNotShown reports facts register
 
--- True if the office found the counter's reading (or that there is none) and the store did not
--- fail, or if the office refused the query because of a failure.
+-- True if the event engine found the counter's reading, or found that there is none, and the store
+-- did not fail. Also true if it refused the query because of a failure.
 abbrev pub HasCounter : Reporting → List Fact → (register : Option (List ℕ))
     → (before after : Failures) → Result (Option Shown) Refusal → Type 0
 HasCounter reports facts register before after (Ok found) =
     IsCounterFor reports facts register found × (after ≡ before)
 HasCounter reports facts register before after (Err why) = IsOutside ⊥ before after why
 
--- True if the history of the office is still `past`, since a query records nothing. The office
--- found the counter's reading, or refused the query because of a failure.
+-- True if the event engine found the counter's reading, or refused the query because of a failure.
+-- Its accepted events are still `past`, since a query records nothing.
 pub record IsReadThere {B : Type 0} (ledger : B → Ledger) (reports : Reporting)
     (register : Option (List ℕ)) (past : History) (before after : Failures) (office : Office B)
     (result : Result (Option Shown) Refusal) : Type 0 where
   pub stands : Stands ledger past office
   pub reported : HasCounter reports (facts_of past) register before after result
 
--- The contract of reading the counter of a register by its name. It promises `IsReadThere` for any
--- history of the office before the query.
+-- The contract of reading the counter of a register by its name. `IsReadThere` states the result,
+-- whatever events the event engine accepted before.
 abbrev pub ReadsThere : {B : Type 0} → (B → Ledger) → Reporting → (register : Option (List ℕ))
     → (old new : Office B) → Result (Option Shown) Refusal → Type 0
 ReadsThere ledger reports register old new result = After ledger old new (λ past.
     IsReadThere ledger reports register past (failures_of ledger old) (failures_of ledger new) new
     result)
 
--- The contract of reading the counter of a register that was looked up. It promises `IsReadThere`
--- for any history of the office, and for any name under which the store records this register.
+-- The contract of reading the counter of a register that was looked up. `IsReadThere` states the
+-- result, for any name under which the store records this register.
 abbrev pub ReadsAt : {B : Type 0} → (B → Ledger) → Reporting → Register → (old new : Office B)
     → Result (Option Shown) Refusal → Type 0
 ReadsAt ledger reports counter old new result = (register : Option (List ℕ)) → After ledger old new

@@ -1,4 +1,4 @@
--- Retries of requests. The office stores the response to each accepted request.
+-- Retries of requests. The office (the event engine) stores the response to each accepted request.
 --
 -- So a request acts once, and an input that is entered twice acts once.
 use Rattle.std.specs.Prelude.{◌≡◌, ◌⊎◌, ℕ, List, [], ◌∷◌, ◌++◌, Option, Result, Ok, IsOk}
@@ -24,7 +24,7 @@ pub record IsSameRequest (asked again : Asked) : Type 0 where
   pub request : again.request ≡ asked.request
 
 -- The theorem that if an accepted request is retried, then the retry is answered as done and does
--- not act again. The office may have accepted other events between the request and the retry.
+-- not act again. The event engine may have accepted other events between the request and the retry.
 abbrev pub RequestsAreRepeated : Type 0
 RequestsAreRepeated = (past more : History) (at then : ℕ) (asked again : Asked)
     → AreAccepted (more ++ Fed at (event.Asked asked) ∷ past) → IsSameRequest asked again
@@ -48,8 +48,8 @@ abbrev pub HaveActed : List Taken → Type 0
 HaveActed [] = Unit {0}
 HaveActed (one ∷ earlier) = HasActed one.came × HaveActed earlier
 
--- True for the answer to a retry: the request was done earlier, the store failed, or the office had
--- stopped after a failure. A retry never fails for lack of memory outside the store.
+-- True for the answer to a retry: the request was done earlier, the store failed, or the event
+-- engine had stopped after a failure. A retry never fails for lack of memory outside the store.
 abbrev pub IsRepeated : Result Answer Refusal → Type 0
 IsRepeated result =
     ((kind : CommandKind) × (result ≡ Ok (answer.Again kind)))
@@ -67,8 +67,8 @@ abbrev pub HaveRepeated : List Taken → Type 0
 HaveRepeated [] = Unit {0}
 HaveRepeated (one ∷ earlier) = HasRepeated one.came × HaveRepeated earlier
 
--- True if an office with the history `past` processed all lines of the input, and accepted each
--- request.
+-- True if an event engine that had accepted the events `past` processed all lines of the input, and
+-- accepted each request.
 pub record HasEntered (reports : Reporting) (caller : Option (List ℕ)) (lines : List Line)
     (past : History) (taken : List Taken) : Type 0 where
   pub whole : lines ≡ lines_with taken []
@@ -78,8 +78,8 @@ pub record HasEntered (reports : Reporting) (caller : Option (List ℕ)) (lines 
   pub answered : AreAnswered past before after taken
   pub acted : HaveActed taken
 
--- True if the first lines of the input are processed again later. The office may have accepted
--- other events after the input was entered first.
+-- True if the first lines of the input are processed again later. The event engine may have
+-- accepted other events after the input was entered first.
 pub record EntersAgain (reports : Reporting) (caller : Option (List ℕ)) (lines : List Line)
     (following later : History) (again : List Taken) : Type 0 where
   pub more : History
@@ -94,8 +94,8 @@ pub record EntersAgain (reports : Reporting) (caller : Option (List ℕ)) (lines
 
 -- True if the lines that are entered again have no effect.
 --
--- The history of the office is unchanged, and each line is answered as a retry or refused because
--- of a failure.
+-- The event engine accepts no new event, and each line is answered as a retry or refused because of
+-- a failure.
 pub record ActsNoMore (later : History) (again : List Taken) : Type 0 where
   pub same : history_with later again ≡ later
   pub repeated : HaveRepeated again

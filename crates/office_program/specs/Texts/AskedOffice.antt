@@ -1,5 +1,5 @@
--- The result of opening an office for queries. Opening uses the clock's time, or the latest
--- timestamp in the store if that timestamp is later.
+-- The result of opening an office (the event engine) for queries. Opening uses the clock's time, or
+-- the latest timestamp in the store if that timestamp is later.
 use Rattle.std.specs.Prelude.{ℕ, List, ◌∷◌, Option, Result, IfOk, IfErr}
 use Rattle.std.specs.declared.io.Write as writers
 use Rattle.mb_wire.specs.declared.sockets.clock.Clock as a_clock
@@ -18,23 +18,23 @@ use Rattle.mb_wire.specs.Sockets.Clocks as clocks
 use Rattle.office_program.specs.Texts.EndTexts.{IsReported}
 use Rattle.office_program.specs.declared.texts.opened_office.Unopened.{Unopened}
 
--- True if the office was opened for queries. The office is in the state after the opening, and each
--- poll that was pending in the store has the outcome `lost`.
+-- True if the event engine was opened for queries. The engine is in the state after the opening,
+-- and each poll that was pending in the store has the outcome `lost`.
 pub record OpensToAsk {B : Type 0} (ledger : B → Ledger) (past : History)
     (moments later : Option (List ℕ)) (office : Office B) : Type 0 where
   pub reported : ℕ
   pub timed : clocks.ReportsMoment moments later reported
   pub stands : Stands ledger (Opened (asking_moment past reported) ∷ past) office
 
--- True if the office was opened for queries as `OpensToAsk` describes. This is promised only if no
--- wrong result of the store was used.
+-- True if the event engine was opened for queries as `OpensToAsk` describes. This is promised only
+-- if no wrong result of the store was used.
 abbrev pub OpensToAskWhereClean : {B : Type 0} → (B → Ledger) → (past : History)
     → (moments later : Option (List ℕ)) → Office B → Type 0
 OpensToAskWhereClean ledger past moments later office =
     (ledger (books_in office)).is_clean → OpensToAsk ledger past moments later office
 
--- True if the office was not opened, because of the timestamp or a failure. The store is in its
--- state before the call, and the reason was printed.
+-- True if the event engine was not opened, because of the timestamp or a failure. The store is in
+-- its state before the call, and the reason was printed.
 pub record ReportsUnasked (past : History) (moments later : Option (List ℕ)) (old new : Ledger)
     (status : ExitStatus) (had holds : Option (List ℕ)) : Type 0 where
   pub reported : ℕ
@@ -43,8 +43,8 @@ pub record ReportsUnasked (past : History) (moments later : Option (List ℕ)) (
   pub refused : IsNotOpened past (asking_moment past reported) old new why
   pub printed : IsReported (refused_line why) Refused status had holds
 
--- True if the office was not opened and the reason was printed, as `ReportsUnasked` describes. This
--- is promised only if no wrong result of the store was used.
+-- True if the event engine was not opened and the reason was printed, as `ReportsUnasked`
+-- describes. This is promised only if no wrong result of the store was used.
 abbrev pub ReportsUnaskedWhereClean : {B : Type 0} → (B → Ledger) → (past : History)
     → (moments later : Option (List ℕ)) → (books : B) → (had holds : Option (List ℕ))
     → Unopened B → Type 0
@@ -52,15 +52,16 @@ ReportsUnaskedWhereClean ledger past moments later books had holds unopened =
     (ledger unopened.books).is_clean → ReportsUnasked past moments later (ledger books)
     (ledger unopened.books) unopened.status had holds
 
--- True if on `Ok` the office was opened for queries, whatever history the store records.
+-- True if on `Ok` the event engine was opened for queries, whatever accepted events the store
+-- records.
 abbrev pub OpensToAskOver : {B C : Type 0} → stores.Ghosts B → a_clock.Ghosts C → (books : B)
     → (before after : C) → Result (Office B) (Unopened B) → Type 0
 OpensToAskOver b c books before after result =
     (past : History) → BooksStand (b.ledger books) past
     → IfOk result (OpensToAskWhereClean b.ledger past (c.moments before) (c.moments after))
 
--- True if on an error the office was not opened and the reason was printed, whatever history the
--- store records.
+-- True if on an error the event engine was not opened and the reason was printed, whatever accepted
+-- events the store records.
 abbrev pub RefusesToAskOver : {B C W : Type 0} → stores.Ghosts B → a_clock.Ghosts C
     → writers.Ghosts W → (books : B) → (before after : C) → (had holds : W)
     → Result (Office B) (Unopened B) → Type 0

@@ -1,4 +1,4 @@
--- The result of opening an office over a store at the clock's time.
+-- The result of opening an office (the event engine) over a store at the clock's time.
 use Rattle.std.specs.Prelude.{ℕ, List, ◌∷◌, Option, Result, IfOk, IfErr, MatchResult}
 use Rattle.std.specs.declared.io.Write as writers
 use Rattle.mb_wire.specs.declared.sockets.clock.Clock as a_clock
@@ -18,8 +18,8 @@ use Rattle.office_program.specs.Texts.EndTexts.{IsReported}
 use Rattle.office_program.specs.Texts.Passing.{Lasts}
 use Rattle.office_program.specs.declared.texts.opened_office.Unopened.{Unopened}
 
--- True if the office was opened. The office is in the state after the opening, and each poll that
--- was pending in the store has the outcome `lost`.
+-- True if the event engine was opened. The engine is in the state after the opening, and each poll
+-- that was pending in the store has the outcome `lost`.
 pub record Opens {B : Type 0} (ledger : B → Ledger) (past : History)
     (moments later : Option (List ℕ))
     (office : Office B) : Type 0 where
@@ -27,15 +27,15 @@ pub record Opens {B : Type 0} (ledger : B → Ledger) (past : History)
   pub timed : clocks.ReportsMoment moments later at
   pub stands : Stands ledger (Opened at ∷ past) office
 
--- True if the office was opened as `Opens` describes. This is promised only if no wrong result of
--- the store was used.
+-- True if the event engine was opened as `Opens` describes. This is promised only if no wrong
+-- result of the store was used.
 abbrev pub OpensWhereClean : {B : Type 0} → (B → Ledger) → (past : History)
     → (moments later : Option (List ℕ)) → Office B → Type 0
 OpensWhereClean ledger past moments later office =
     (ledger (books_in office)).is_clean → Opens ledger past moments later office
 
--- True if the office was not opened, because of the timestamp or a failure. The store is in its
--- state before the call, and the reason was printed.
+-- True if the event engine was not opened, because of the timestamp or a failure. The store is in
+-- its state before the call, and the reason was printed.
 pub record ReportsUnopened (past : History) (moments later : Option (List ℕ)) (old new : Ledger)
     (status : ExitStatus)
     (had holds : Option (List ℕ)) : Type 0 where
@@ -45,8 +45,8 @@ pub record ReportsUnopened (past : History) (moments later : Option (List ℕ)) 
   pub refused : IsNotOpened past at old new why
   pub reported : IsReported (refused_line why) Refused status had holds
 
--- True if the office was not opened and the reason was printed, as `ReportsUnopened` describes.
--- This is promised only if no wrong result of the store was used.
+-- True if the event engine was not opened and the reason was printed, as `ReportsUnopened`
+-- describes. This is promised only if no wrong result of the store was used.
 abbrev pub ReportsWhereClean : {B : Type 0} → (B → Ledger) → (past : History)
     → (moments later : Option (List ℕ)) → (books : B) → (had holds : Option (List ℕ))
     → Unopened B → Type 0
@@ -54,15 +54,15 @@ ReportsWhereClean ledger past moments later books had holds unopened =
     (ledger unopened.books).is_clean → ReportsUnopened past moments later (ledger books)
     (ledger unopened.books) unopened.status had holds
 
--- True if on `Ok` the office was opened, whatever history the store records.
+-- True if on `Ok` the event engine was opened, whatever accepted events the store records.
 abbrev pub OpensOver : {B C : Type 0} → stores.Ghosts B → a_clock.Ghosts C → (books : B)
     → (before after : C) → Result (Office B) (Unopened B) → Type 0
 OpensOver b c books before after result =
     (past : History) → BooksStand (b.ledger books) past
     → IfOk result (OpensWhereClean b.ledger past (c.moments before) (c.moments after))
 
--- True if on an error the office was not opened and the reason was printed, whatever history the
--- store records.
+-- True if an error implies that the event engine was not opened and that the reason was printed.
+-- The store may contain any accepted events.
 abbrev pub RefusesOver : {B C W : Type 0} → stores.Ghosts B → a_clock.Ghosts C → writers.Ghosts W
     → (books : B) → (before after : C) → (had holds : W) → Result (Office B) (Unopened B) → Type 0
 RefusesOver b c w books before after had holds result =
@@ -70,8 +70,8 @@ RefusesOver b c w books before after had holds result =
     → IfErr result (ReportsWhereClean b.ledger past (c.moments before) (c.moments after) books
     (w.contents had) (w.contents holds))
 
--- True if the time zone of the store is unchanged, whether the office is opened or not. If the
--- store is clean after the call (no wrong result of it was used), then it was clean before the
+-- True if the time zone of the store is unchanged, whether the event engine is opened or not. If
+-- the store is clean after the call (no wrong result of it was used), then it was clean before the
 -- call.
 abbrev pub LastsInside : {B : Type 0} → (B → Ledger) → (books : B)
     → Result (Office B) (Unopened B) → Type 0

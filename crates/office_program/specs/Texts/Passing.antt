@@ -1,4 +1,5 @@
--- The properties of a store that opening an office preserves, whatever the store returned.
+-- The properties of a store that opening an office (the event engine) preserves, whatever the store
+-- returned.
 use Rattle.std.specs.Prelude.{◌≡◌}
 use Rattle.office_books.specs.Ledgers.{Ledger}
 

@@ -50,8 +50,8 @@ pub record RangePrints (zone : Zone) (past : History) (register : Option (List �
   pub is : IsRangedReport zone past register form reply text
   pub means : meant ≡ meant_by reply
 
--- True if the office printed the report from its complete history, or a part of the report if a
--- write failed.
+-- True if the office (the event engine) printed the report from all accepted events, or a part of
+-- the report if a write failed.
 abbrev pub ReportsRange : {B W : Type 0} → stores.Ghosts B → writers.Ghosts W
     → (register : Option (List ℕ)) → ReportForm → (old new : Office B) → (had holds : W)
     → ExitStatus → Type 0

@@ -56,8 +56,8 @@ pub record ReportPrints (zone : Zone) (past : History) (register : Option (List 
   pub is : IsReport zone past register reply text
   pub means : meant ≡ meant_by reply
 
--- True if the office printed the report from its complete history, or a part of the report if a
--- write failed.
+-- True if the office (the event engine) printed the report from all accepted events, or a part of
+-- the report if a write failed.
 abbrev pub ReportsDays : {B W : Type 0} → stores.Ghosts B → writers.Ghosts W
     → (register : Option (List ℕ)) → (old new : Office B) → (had holds : W) → ExitStatus → Type 0
 ReportsDays b w register old new had holds status = After b.ledger old new
@@ -65,8 +65,8 @@ ReportsDays b w register old new had holds status = After b.ledger old new
     (failures_of b.ledger old) (failures_of b.ledger new))
     status (w.contents had) (w.contents holds))
 
--- True if the office was only queried, so its history is unchanged. It answered or refused the
--- query.
+-- True if the event engine was only queried, and answered or refused the query. Its accepted events
+-- are unchanged.
 pub record Asks {B : Type 0} (ledger : B → Ledger) (old new : Office B) : Type 0 where
   pub reply : Result (Unit {0}) Refusal
   pub only : OnlyAsks ledger old new reply

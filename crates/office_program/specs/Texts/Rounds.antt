@@ -51,8 +51,8 @@ pub record PollsRound {B : Type 0} (ledger : B → Ledger) (device : Option (Lis
   pub round : one.Rounds ledger device past (without_cause through printed) office done
   pub reported : IsRefusalReported done result printed through.ended.printed
 
--- The contract of a polling round of one device. It promises `PollsRound` for any history of the
--- office, and names the link, the clock and the writer before and after the round.
+-- The contract of a polling round of one device. `PollsRound` states the result, whatever events
+-- the office (the event engine) accepted before.
 abbrev pub PollsRoundOver : {L B C W : Type 0} → links.Ghosts L → stores.Ghosts B → clocks.Ghosts C
     → writers.Ghosts W → (device : Option (List ℕ)) → (from to : L) → (old new : Office B)
     → (before after : C) → (had holds : W) → Result (Unit {0}) RoundFault → Type 0

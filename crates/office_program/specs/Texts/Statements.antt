@@ -37,7 +37,7 @@ use Rattle.office_core.specs.declared.office.Office.{Office}
 use Rattle.script_text.specs.AnswerText.{refused_line}
 use Rattle.office_program.specs.Texts.EndTexts.{ReportsEnd}
 
--- ---- The statement of one meter
+-- The statement of one meter, against which its bill is checked.
 
 -- The statement of a meter with this name and opening (the record that installs the meter). It has
 -- the meter's entries, its energy in mWh, and the counts of its rejected readings.
@@ -52,19 +52,21 @@ reported_of zone range facts meter opening = record {
   held = held_within zone range (holds_of facts meter);
 }
 
--- The statement of the meter with this name.
+-- The statement (a report to check a bill) of the meter with this name.
 abbrev pub statement_of : Zone → DayRange → List Fact → (meter : List ℕ) → MeterStatement
 statement_of zone range facts meter = reported_of zone range facts meter (opening_of facts meter)
 
--- The statements of the meters that were installed in the range, in the order of installation.
+-- The statements (reports to check a bill) of the meters that were installed in the range of days,
+-- in the order of installation.
 abbrev pub statements_of : Zone → DayRange → List Fact → List Installation → List MeterStatement
 statements_of zone range facts rows =
     map (λ row. statement_of zone range facts row.opening.meter)
     (filter (was_installed zone range) rows)
 
--- ---- The office's answers to queries for one meter
+-- The event engine's answers to queries for one meter.
 
--- The tally of the meter's entries in the range of days, or `None` if no meter has the name.
+-- The tally (the first and last entry, and the corrections) of the meter's entries in the range of
+-- days. `None` if no meter has the name.
 abbrev pub tally_in : Zone → DayRange → List Fact → (meter : Option (List ℕ)) → Option EntryTally
 tally_in zone range facts meter =
     option_map (λ opening. tally_of zone range (entries_at facts (Some opening)))
@@ -81,27 +83,27 @@ held_in zone range facts meter =
     option_and_then (λ name. option_map (λ opening. held_within zone range (holds_of facts name))
     (opening_of facts name)) meter
 
--- The statement of the meter, or `None` if no meter has the name.
+-- The statement (a report to check a bill) of the meter, or `None` if no meter has the name.
 abbrev pub statement_in : Zone → DayRange → List Fact → (meter : List ℕ) → Option MeterStatement
 statement_in zone range facts meter =
     option_map (λ opening. reported_of zone range facts meter (Some opening)) (opening_of facts meter)
 
--- True if the office answered a query from the records of all accepted events, or refused the query
--- because of a failure. Lack of memory outside the store is one such failure.
+-- True if the office (the event engine) answered a query from the records of all accepted events,
+-- or refused the query because of a failure. Lack of memory outside the store is one such failure.
 abbrev pub AnswersOf : {B T : Type 0} → (B → Ledger) → (old new : Office B) → Result T Refusal
     → (List Fact → Option T) → Type 0
 AnswersOf ledger old new result found = After ledger old new (λ past.
     IsFound (Unit {0}) (found (facts_of past)) (failures_of ledger old) (failures_of ledger new)
     result)
 
--- ---- The statements of the meters at a register
+-- The statements of the meters at an accounting register.
 
--- True if the records have the installation of each meter in `rows`.
+-- True if the store's records have the installation of each meter in `rows`.
 abbrev pub AreRecorded : List Fact → List Installation → Type 0
 AreRecorded facts rows = All (λ row. is_some (opening_of facts row.opening.meter) ≡ true) rows
 
--- True if the statements of the meters in `rows` were appended to the list of statements, or the
--- office refused a query because of a failure.
+-- True if the statements (reports to check a bill) of the meters in `rows` were appended to a list.
+-- Also true if the event engine refused a query because of a failure.
 abbrev pub IsStated : Zone → DayRange → List Fact → List Installation
     → (before after : List MeterStatement) → (had has : Failures) → Result (Unit {0}) Refusal
     → Type 0
@@ -109,8 +111,8 @@ IsStated zone range facts rows before after had has (Ok done) =
     (after ≡ before ++ statements_of zone range facts rows) × (has ≡ had)
 IsStated zone range facts rows before after had has (Err why) = IsOutside (Unit {0}) had has why
 
--- The contract of appending the statements of the meters in `rows`. It promises `IsStated` for any
--- history of the office before the queries.
+-- The contract of appending the statements (reports to check a bill) of the meters in `rows`.
+-- `IsStated` states the result, whatever events the event engine accepted before.
 abbrev pub States : {B : Type 0} → (B → Ledger) → Zone → DayRange → List Installation
     → (old new : Office B) → (before after : List MeterStatement) → Result (Unit {0}) Refusal
     → Type 0
@@ -118,32 +120,34 @@ States ledger zone range rows old new before after result = After ledger old new
     AreRecorded (facts_of past) rows → IsStated zone range (facts_of past) rows before after
     (failures_of ledger old) (failures_of ledger new) result)
 
--- The statements of all meters at the register, or `None` if no register has the name.
+-- The statements (reports to check a bill) of all meters at the register, or `None` if no register
+-- has the name.
 abbrev pub statements_in : Zone → DayRange → List Fact → (register : Option (List ℕ))
     → Option (List MeterStatement)
 statements_in zone range facts register =
     option_map (statements_of zone range facts) (meters_named facts register)
 
--- The list of the vector's items if the result is `Ok`, otherwise the error.
+-- The items of a vector as a list if the result is `Ok`, otherwise the error.
 abbrev pub items_of : {T E : Type 0} → Result (Vec T Global) E → Result (List T) E
 items_of (Ok rows) = Ok rows.items
 items_of (Err why) = Err why
 
--- ---- The printed text of the statements
+-- The printed text of the statements.
 
--- The text of the statements, or only the refusal if the statements are refused.
+-- The text of the meters' statements (reports to check a bill), or only the refusal if the
+-- statements are refused.
 abbrev pub statement_or_not : StatementForm → Result (List MeterStatement) Refusal → List ℕ
 statement_or_not form (Ok rows) = statement_text form rows
 statement_or_not form (Err why) = refused_line why
 
--- The exit status of the command. If the statements are refused, the status is `Refused`, otherwise
--- `Fine`.
+-- The exit status of the command that prints statements. If the statements are refused, the status
+-- is `Refused`, otherwise `Fine`.
 abbrev pub meant_by : Result (List MeterStatement) Refusal → ExitStatus
 meant_by (Ok rows) = Fine
 meant_by (Err why) = Refused
 
--- The text and the exit status of the statements. The statements are refused if no register has the
--- name, or because of a failure.
+-- The text and the exit status of the meters' statements (reports to check a bill). The statements
+-- are refused if no register has the name, or because of a failure.
 pub record StatementPrints (zone : Zone) (past : History) (register : Option (List ℕ))
     (form : StatementForm) (before after : Failures) (text : List ℕ) (meant : ExitStatus)
     : Type 0 where
@@ -153,8 +157,8 @@ pub record StatementPrints (zone : Zone) (past : History) (register : Option (Li
   pub is : text ≡ statement_or_not form reply
   pub means : meant ≡ meant_by reply
 
--- True if the office printed the statements from its complete history, or a part of the statements
--- if a write failed.
+-- True if the event engine printed the statements from all accepted events, or a part of the
+-- statements if a write failed.
 abbrev pub PrintsStatement : {B W : Type 0} → stores.Ghosts B → writers.Ghosts W → Zone
     → (register : Option (List ℕ)) → StatementForm → (old new : Office B) → (had holds : W)
     → ExitStatus → Type 0

@@ -5,8 +5,8 @@ use crate::device_rounds::stage::Stage;
 use office_events::{Answer, Command, Event, Name, Note, Refusal, StartRound};
 use poll_core::Closing;
 
-/// The state of a device's polling round (one poll for each Modbus read of its plan). The office's
-/// answers and notifications determine it.
+/// The state of a device's polling round (one poll for each Modbus read of its plan). The event
+/// engine's answers and notifications determine it.
 #[derive(Drop)]
 pub struct Round {
     pub device: Option<Name>,
@@ -17,8 +17,8 @@ pub struct Round {
     pub started: u64,
     /// The number of Modbus reads in the plan.
     pub planned: u64,
-    /// The counts of the round's ended polls by outcome. They are kept until the device connects
-    /// again.
+    /// The counts of the round's ended polls by outcome. These counts are kept until the device
+    /// connects again.
     pub sum: Sum,
 }
 
@@ -72,16 +72,16 @@ impl Round {
         }
     }
 
-    /// Ends the polling round, because the connection to its device ended. If the office processed
-    /// the connection, the round requests the event `Gone` next.
+    /// Ends the polling round, because the connection to its device ended. If the office (the event
+    /// engine) processed the connection, the round requests the event `Gone` next.
     pub fn leave(&mut self, closing: Closing)
         ensures { self.new ≡ rounds.leaving closing self.old }
     {
         self.stage = self.stage.left(closing);
     }
 
-    // Adds the polls that the office's answer reports as started. If the answer reports none, or
-    // there are too many pending polls, the round ends early.
+    // Adds the polls that the event engine's answer reports as started. If the answer reports none,
+    // or there are too many pending polls, the round ends early.
     fn start(&mut self, answer: Answer)
         ensures { self.new ≡ rounds.started_by answer self.old }
     {
@@ -99,8 +99,8 @@ impl Round {
         }
     }
 
-    /// Changes the stage of the polling round according to the office's answer to an event of the
-    /// round.
+    /// Changes the stage of the polling round according to the event engine's answer to an event of
+    /// the round.
     pub fn answer(&mut self, answer: Result<Answer, Refusal>)
         ensures { self.new ≡ rounds.answered answer self.old }
     {
@@ -128,7 +128,8 @@ impl Round {
         }
     }
 
-    /// Updates the polling round by the office's notifications, which report the outcomes of polls.
+    /// Updates the polling round by the event engine's notifications, which report the outcomes of
+    /// polls.
     pub fn apply_notes(&mut self, notes: &[Note])
         ensures { self.new ≡ rounds.heard notes.now self.old }
     {

@@ -13,8 +13,8 @@ pub fn find_requesting(rounds: &[Round]) -> Option<usize>
     rounds.iter().position(|round| round.stage.has_request())
 }
 
-/// Updates all polling rounds by the office's notifications. Each round uses only the notifications
-/// of its own polls.
+/// Updates all polling rounds by the event engine's notifications. Each round uses only the
+/// notifications of its own polls.
 pub fn apply_notes_to_all(rounds: &mut [Round], notes: &[Note])
     ensures { rounds.new ≡ map (heard notes.now) rounds.old }
 {

@@ -1,8 +1,10 @@
-//! The events of the devices that an office polls, as input of the function `turn`.
+//! The events of the devices that an office (the event engine) polls, as input of the function
+//! `turn`.
 use office_events::Piece;
 use poll_core::Closing;
 
-/// An event of the device in a slot, or a timer event. An event for an empty slot has no effect.
+/// An event of the device in a slot (a table index), or a timer event. An event for an empty slot
+/// has no effect.
 #[derive(Drop)]
 pub enum DeviceEvent {
     /// The device in the slot has connected.

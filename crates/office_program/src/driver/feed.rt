@@ -1,4 +1,5 @@
-//! Feeds one event to an office, and passes the office's answer to the polling rounds.
+//! Feeds one event to an office (the event engine), and passes the engine's answer to the polling
+//! rounds.
 ghost use Rattle.std.specs.Prelude.{◌≡◌};
 ghost use Rattle.office_program.specs.Passing.{Lasts};
 ghost use Rattle.office_program.specs.Driver.Turns as turns;
@@ -10,8 +11,8 @@ use office_books::Books;
 use office_core::Office;
 use office_events::{Answer, Event, Observer, Refusal};
 
-// Passes the office's answer to the polling round in slot `place`, which requested the event. If
-// `place` is `None`, no round requested it.
+// Passes the event engine's answer to the polling round in slot `place`, which requested the event.
+// If `place` is `None`, no round requested it.
 fn answer_for(rounds: &mut [Round], place: Option<usize>, answer: Result<Answer, Refusal>)
     ensures { rounds.new ≡ answered_for place answer rounds.old }
 {
@@ -22,7 +23,7 @@ fn answer_for(rounds: &mut [Round], place: Option<usize>, answer: Result<Answer,
     }
 }
 
-/// Feeds one event to the office. `place` is the slot of the polling round that requested the
+/// Feeds one event to the event engine. `place` is the slot of the polling round that requested the
 /// event, or `None` if no round did.
 ///
 /// Shows the event to the observer, and passes the answer and the notifications to the rounds.

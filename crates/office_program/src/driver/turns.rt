@@ -1,5 +1,5 @@
-//! Processes one device event: feeds it to the office, and then feeds the events that the polling
-//! rounds request.
+//! Processes one device event: feeds it to the office (the event engine), and then feeds the events
+//! that the polling rounds request.
 ghost use Rattle.std.specs.Prelude.{◌≡◌, ℕ, List, Some, None, slice_get};
 ghost use Rattle.office_program.specs.Passing.{Lasts};
 ghost use Rattle.office_program.specs.Driver.Turns.{at_place, brought, came, came_from, opened, table, wished};
@@ -102,8 +102,8 @@ fn waiting_at(rounds: &[Round], place: usize) -> Option<Option<Name>>
     None
 }
 
-// Feeds bytes of a device to the office, if the device's polling round is waiting for responses.
-// Drops the bytes otherwise, since no poll expects them.
+// Feeds bytes of a device to the event engine, if the device's polling round is waiting for
+// responses. Drops the bytes otherwise, since no poll expects them.
 fn take_bytes<B: Books, V: Observer>(
     rounds: &mut [Round],
     place: usize,
@@ -125,7 +125,7 @@ fn take_bytes<B: Books, V: Observer>(
     }
 }
 
-/// Feeds a device event to the office, and then the events that the polling rounds request.
+/// Feeds a device event to the event engine, and then the events that the polling rounds request.
 ///
 /// The polling round in the first slot comes first. The call ends when no round requests an event,
 /// or after 256 requested events. All events have the timestamp `at`, in seconds since 1970-01-01

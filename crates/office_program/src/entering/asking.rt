@@ -27,8 +27,8 @@ use std::alloc::Global;
 use std::io::{self, Write};
 use sun_points::Sink;
 
-// Prints the office's answer to the last event. If the event was accepted, prints its notifications
-// and `ok`. Otherwise prints `refused N`.
+// Prints the event engine's answer to the last event. If the event was accepted, prints its
+// notifications and `ok`. Otherwise prints `refused N`.
 fn print_reply<B: Books, W: Write>(
     office: &Office<B>,
     reply: Result<Answer, Refusal>,
@@ -43,7 +43,7 @@ fn print_reply<B: Books, W: Write>(
     }
 }
 
-// Feeds a request to the office at timestamp `at`, and prints the office's answer.
+// Feeds a request to the event engine at timestamp `at`, and prints the engine's answer.
 fn ask_at<B: Books, W: Write>(
     office: &mut Office<B>,
     progress: Progress,
@@ -78,8 +78,8 @@ fn print_doubt<W: Write>(mwh: u128, output: &mut W) -> io::Result<()>
     output.take_text(doubted_line(mwh).bytes())
 }
 
-// Prints that an entry by hand is doubted: it would record more energy than the meter's power limit
-// allows. Returns the progress of the input after the entry's line.
+// Prints that a manual entry needs a confirmation: it would record more energy than the meter's
+// power limit allows. Returns the progress of the input after the entry's line.
 fn print_doubted<W: Write>(mwh: u128, at: u64, output: &mut W) -> io::Result<Progress>
     ensures { ReportsWhyNot (course.doubted_line mwh) at
         (W.contents output.old) (W.contents output.new) result }
@@ -90,8 +90,8 @@ fn print_doubted<W: Write>(mwh: u128, at: u64, output: &mut W) -> io::Result<Pro
     }
 }
 
-// Prints the refusal of a query that an input line needs, for example whether its entry is doubted.
-// Returns the progress of the input after the line.
+// Prints the refusal of a query that an input line needs, for example whether its manual entry
+// needs a confirmation. Returns the progress of the input after the line.
 fn print_undecided<W: Write>(why: Refusal, at: u64, output: &mut W) -> io::Result<Progress>
     ensures { ReportsWhyNot (refused_line why) at
         (W.contents output.old) (W.contents output.new) result }
@@ -121,8 +121,8 @@ fn moment<C: Clock>(progress: Progress, clock: &mut C) -> u64
     progress.latest.max(reported)
 }
 
-// Feeds a request to the office and prints the office's answer. If the request's entry needs a
-// confirmation, prints the doubted energy and feeds nothing.
+// Feeds a request to the event engine and prints the engine's answer. If the request's manual entry
+// needs a confirmation, prints the energy that the entry would record and feeds nothing.
 fn ask<B: Books, W: Write>(
     office: &mut Office<B>,
     progress: Progress,
@@ -144,7 +144,7 @@ fn ask<B: Books, W: Write>(
 }
 
 // Reads the meter's counter for a line with `@read`, a placeholder for the reading. Then feeds the
-// line's request to the office as `ask` does.
+// line's request to the event engine as `ask` does.
 fn read_and_ask<B: Books, F: NamedFiles, W: Write>(
     office: &mut Office<B>,
     progress: Progress,
@@ -192,8 +192,9 @@ fn print_list_faults<W: Write>(
     }
 }
 
-// Feeds the request of an input line to the office. If the line's point list has faulty rows,
-// prints these rows instead. If its entry needs a confirmation, prints the doubted energy instead.
+// Feeds the request of an input line to the event engine. If the line's point list has faulty rows,
+// prints these rows instead. If its manual entry needs a confirmation, prints the entry's energy
+// instead.
 fn enter_entry<B: Books, C: Clock, F: NamedFiles, W: Write>(
     office: &mut Office<B>,
     progress: Progress,
@@ -233,8 +234,8 @@ fn print_one_fault<W: Write>(fault: LineFault, number: u64, output: &mut W) -> E
     }
 }
 
-/// Processes one input line. Feeds its request to the office and prints the answer, or prints why
-/// the line makes no request.
+/// Processes one input line. Feeds its request to the event engine and prints the answer, or prints
+/// why the line makes no request.
 pub(crate) fn enter_line<B: Books, C: Clock, F: NamedFiles, W: Write>(
     alloc: Global,
     office: &mut Office<B>,

@@ -143,8 +143,8 @@ fn is_refused(look: &Look) -> bool
     }
 }
 
-// Prints the result of checking an input line. Returns true if the line is bad or faulty, or if its
-// request would be refused.
+// Prints the result of checking an input line. Returns true if the line is bad, its point list has
+// faulty rows, or its request would be refused.
 fn show<W: Write>(look: &Look, number: u64, output: &mut W) -> Result<bool, ExitStatus>
     ensures shows { IsShown number look.now (W.contents output.old) (W.contents output.new) result }
     ensures fails { IfErr result (λ status. status ≡ ExitStatus.Failed) }
@@ -155,8 +155,8 @@ fn show<W: Write>(look: &Look, number: u64, output: &mut W) -> Result<bool, Exit
     }
 }
 
-// Checks an input line and prints the result. Returns true if the line is bad or faulty, or if its
-// request would be refused.
+// Checks an input line and prints the result. Returns true if the line is bad, its point list has
+// faulty rows, or its request would be refused.
 fn check_line<B: Books, F: NamedFiles, W: Write>(
     alloc: Global,
     books: &mut B,

@@ -1,4 +1,4 @@
-//! Decides whether an entry by hand needs a confirmation. An entry needs one if its energy is more
+//! Decides whether a manual entry needs a confirmation. An entry needs one if its energy is more
 //! than the meter's ceiling (its greatest power) allows since the last entry.
 ghost use Rattle.std.specs.Prelude.{◌≡◌, ◌≤◌, ◌+◌, ◌*◌, ◌^◌};
 ghost use Rattle.std.specs.Option.{option_and_then};
@@ -26,7 +26,7 @@ fn turned(row: &Installation, raw: u64, rolls: u64) -> u128
 }
 
 // Returns true if an entry is later than the meter's last entry and does not decrease the counter.
-// The office refuses any other entry, so it needs no confirmation.
+// The office (the event engine) refuses any other entry, so it needs no confirmation.
 fn goes_on(row: &Installation, moment: u64, up_to: u128) -> bool
     ensures { result ≡ spec.goes_on row.now moment up_to }
 {
@@ -61,7 +61,7 @@ fn doubted_up_to(row: &Installation, moment: u64, up_to: u128) -> Option<u128>
 }
 
 // Returns the energy, in mWh, that the command's entry would record at the meter `row`, if the
-// entry is doubted. Otherwise returns `None`.
+// entry needs a confirmation. Otherwise returns `None`.
 fn doubted_at(at: u64, command: &Command, row: &Installation) -> Option<u128>
     requires { IsSound row.now }
     ensures { result ≡ spec.doubted_at at command.now row.now }
@@ -84,8 +84,9 @@ fn doubted_at(at: u64, command: &Command, row: &Installation) -> Option<u128>
     }
 }
 
-// Returns the result of `doubted_at` for an open meter, or `None` for a closed meter. Also returns
-// `None` for a meter with numbers out of range, which the store never returns.
+// Returns the energy that a manual entry would record at an open meter, as `doubted_at` does, or
+// `None` for a closed meter. Also returns `None` for a meter with numbers out of range, which the
+// store never returns.
 fn doubted_if_open(at: u64, command: &Command, row: &Installation) -> Option<u128>
     ensures { IsSound row.now
         → result ≡ option_and_then (spec.doubted_at at command.now) (if_open row.now) }
@@ -97,8 +98,8 @@ fn doubted_if_open(at: u64, command: &Command, row: &Installation) -> Option<u12
     }
 }
 
-// Returns the accounting register of the entry by hand that a command makes. Returns `None` if the
-// command makes no such entry, or the register's name is invalid.
+// Returns the accounting register (a named counter) of the manual entry that a command makes.
+// Returns `None` if the command makes no such entry, or the register's name is invalid.
 fn corrected_at(command: &Command) -> Option<Name>
     ensures { result ≡ history.corrected_at command.now }
 {
@@ -119,7 +120,7 @@ fn corrected_at(command: &Command) -> Option<Name>
 }
 
 // Returns the energy, in mWh, that the command's entry would record at the register's open meter,
-// if the entry is doubted. Otherwise returns `None`.
+// if the entry needs a confirmation. Otherwise returns `None`.
 fn doubted_in<B: Books>(
     office: &mut Office<B>,
     at: u64,
@@ -141,9 +142,9 @@ fn doubted_in<B: Books>(
     }
 }
 
-/// Returns the energy, in mWh, that a request would record, if its entry is doubted: above what the
-/// meter's ceiling (its greatest power) allows. Otherwise returns `None`. The office is only
-/// queried.
+/// Returns the energy, in mWh, that a request would record, if its manual entry needs a
+/// confirmation: the energy is above what the meter's ceiling (its greatest power) allows.
+/// Otherwise returns `None`. The event engine is only queried.
 pub(crate) fn doubt_of<B: Books>(
     office: &mut Office<B>,
     at: u64,

@@ -1,4 +1,4 @@
-//! Parses an input line into a request. The request is fed to the office later.
+//! Parses an input line into a request. The request is fed to the office (the event engine) later.
 ghost use Rattle.std.specs.Prelude.{◌≡◌, Some, IfOk};
 ghost use Rattle.script_text.specs.LineWords.Words.{words_of};
 ghost use Rattle.office_program.specs.Entering.FileLines.{seen_line};

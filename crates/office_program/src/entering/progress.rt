@@ -11,8 +11,8 @@ pub(crate) struct Progress {
     /// The timestamp of the latest input line that needed a timestamp, in seconds since 1970-01-01
     /// UTC.
     ///
-    /// Such a line made a request, or made none because of a doubted entry, a failed query or a
-    /// counter that can't be read.
+    /// Such a line made a request. Or it made none, because its entry needs a confirmation, a query
+    /// failed or a counter can't be read.
     pub(crate) latest: u64,
     /// True if any line was refused or made no request.
     pub(crate) refused: bool,

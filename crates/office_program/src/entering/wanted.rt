@@ -1,5 +1,5 @@
-//! Finds the request in a line of a script. In an input, the first word of a line is the request's
-//! number instead of a timestamp.
+//! Finds the request in a line of a script. In an input of requests, the first word of a line is
+//! the request's number instead of a timestamp.
 ghost use Rattle.std.specs.Prelude.{◌≡◌};
 ghost use Rattle.office_program.specs.Entering.Lines as lines;
 

@@ -13,10 +13,10 @@ use office_core::Office;
 use std::alloc::Global;
 use std::io::Write;
 
-/// Opens an office over a store for queries.
+/// Opens an event engine over a store for queries.
 ///
 /// Opening uses the clock's time, or the latest timestamp in the store if that timestamp is later.
-/// So a clock that was set back prevents no query. If opening the office is refused, the function
+/// So a clock that was set back prevents no query. If opening the engine is refused, the function
 /// prints `refused N`.
 pub fn open_office_to_ask<B: Books, C: Clock, W: Write>(
     alloc: Global,

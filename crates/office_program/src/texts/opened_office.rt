@@ -11,15 +11,15 @@ use office_core::Office;
 use std::alloc::Global;
 use std::io::Write;
 
-/// A store over which no office could be opened, with the exit status of the command.
+/// A store over which no event engine could be opened, with the exit status of the command.
 #[derive(Drop)]
 pub struct Unopened<B> {
     pub books: B,
     pub status: ExitStatus,
 }
 
-/// Opens an office over a store at the clock's time. If opening the office is refused, the function
-/// prints `refused N`.
+/// Opens an event engine over a store at the clock's time. If opening the engine is refused, the
+/// function prints `refused N`.
 pub fn open_office<B: Books, C: Clock, W: Write>(
     alloc: Global,
     books: B,

@@ -30,8 +30,8 @@ fn print_rest<W: Write>(reported: Result<(), Refusal>, rows: &mut ReportRows<'_,
 /// Prints the energy of an accounting register on the days of a range, by period, in a unit and a
 /// format.
 ///
-/// If the office refuses the query, only `refused N` is printed. If `register` is `None`, no
-/// register has the name.
+/// If the office (the event engine) refuses the query, only `refused N` is printed. If `register`
+/// is `None`, no register has the name.
 pub fn report_range<B: Books, W: Write>(
     office: &mut Office<B>,
     register: &Option<Name>,

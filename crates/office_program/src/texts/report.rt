@@ -28,8 +28,8 @@ fn print_last<W: Write>(reported: Result<(), Refusal>, count: u64, output: &mut 
 /// Prints the energy of an accounting register by civil day, one line for each day, and then the
 /// number of days.
 ///
-/// If the office refuses the query, only `refused N` is printed. If `register` is `None`, no
-/// register has the name.
+/// If the office (the event engine) refuses the query, only `refused N` is printed. If `register`
+/// is `None`, no register has the name.
 pub fn report_days<B: Books, W: Write>(
     office: &mut Office<B>,
     register: &Option<Name>,

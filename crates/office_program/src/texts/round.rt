@@ -1,4 +1,4 @@
-//! Polls a device once, and prints the office's reports of the polling round.
+//! Polls a device once, and prints the event engine's reports of the polling round.
 ghost use Rattle.std.specs.Prelude.{◌≡◌, Err};
 ghost use Rattle.office_program.specs.Passing.{AreAtMost, AreTakes, CountsFailures, Lasts};
 ghost use Rattle.office_program.specs.Texts.Rounds as rounds;
@@ -32,8 +32,8 @@ fn print_cause<W: Write>(done: Result<(), RoundFault>, output: &mut W) -> Result
 /// Polls a device once over a new link: one poll for each Modbus read of the device's plan. Prints
 /// the polling round as `round_over` does.
 ///
-/// If the office refused an event, `refused N` is printed last. If `device` is `None`, no device
-/// has the name.
+/// If the office (the event engine) refused an event, `refused N` is printed last. If `device` is
+/// `None`, no device has the name.
 pub fn poll_round<L: Link, B: Books, C: Clock, W: Write>(
     alloc: Global,
     link: &mut L,
@@ -56,8 +56,8 @@ pub fn poll_round<L: Link, B: Books, C: Clock, W: Write>(
 
 /// Returns the exit status of the command for the result of its polling round.
 ///
-/// The status is `Refused` if the office refused an event. It is `Failed` if the link or the output
-/// failed, or the round used all its reads of the link.
+/// The status is `Refused` if the event engine refused an event. It is `Failed` if the link or the
+/// output failed, or the round used all its reads of the link.
 pub fn round_status(done: Result<(), RoundFault>) -> ExitStatus
     ensures { result ≡ rounds.round_status done }
 {

@@ -1,4 +1,5 @@
-//! Prints the statements of the meters at an accounting register on a range of days.
+//! Prints the statements of the meters at an accounting register on a range of days. A statement is
+//! a report on one meter, to check a bill.
 ghost use Rattle.std.specs.Prelude.{◌∷◌, []};
 ghost use Rattle.office_core.specs.Asking.{OnlyAsks};
 ghost use Rattle.office_program.specs.Texts.Reports.{Asks};
@@ -89,7 +90,8 @@ fn held<B: Books>(
     }
 }
 
-// Returns the statement of a meter on a range of days.
+// Returns the statement of a meter on a range of days: the numbers against which its bill is
+// checked.
 fn meter_statement<B: Books>(
     office: &mut Office<B>,
     zone: &Zone,
@@ -118,7 +120,8 @@ fn meter_statement<B: Books>(
     }
 }
 
-// Appends the statement of a meter, if the meter was installed in the range of days.
+// Appends the statement (a report to check a bill) of a meter to a list, if the meter was installed
+// in the range of days.
 fn add_statement<B: Books>(
     rows: &mut Vec<MeterStatement>,
     office: &mut Office<B>,
@@ -142,7 +145,8 @@ fn add_statement<B: Books>(
     }
 }
 
-// Appends the statement of each meter in the list that was installed in the range of days.
+// Appends the statement (a report to check a bill) of each listed meter that was installed in the
+// range of days.
 fn add_statements<B: Books>(
     rows: &mut Vec<MeterStatement>,
     office: &mut Office<B>,
@@ -163,8 +167,8 @@ fn add_statements<B: Books>(
     Ok(())
 }
 
-// Returns the statements of the meters at an accounting register that were installed in the range
-// of days.
+// Returns the statements (reports to check a bill) of the meters at an accounting register that
+// were installed in the range of days.
 fn statements<B: Books>(
     alloc: Global,
     office: &mut Office<B>,
@@ -192,11 +196,11 @@ fn statements<B: Books>(
 /// days.
 ///
 /// The meters come in the order of installation. The statement of a meter has its counter at its
-/// first and last entry in the range, its energy in the range, its corrections, and its number of
-/// rejected readings.
+/// first and last entry in the range, and its energy in the range. It also has the meter's
+/// corrections and its number of rejected readings.
 ///
-/// If the office refuses a query, only `refused N` is printed. If `register` is `None`, no register
-/// has the name.
+/// If the office (the event engine) refuses a query, only `refused N` is printed. If `register` is
+/// `None`, no register has the name.
 pub fn report_statement<B: Books, W: Write>(
     alloc: Global,
     office: &mut Office<B>,

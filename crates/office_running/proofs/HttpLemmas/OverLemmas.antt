@@ -37,7 +37,7 @@ pub append_whole : (text : List ℕ) (status : ExitStatus) (had holds : List ℕ
 append_whole text status had holds fine (inl reported) = reported.1
 append_whole text status had holds fine (inr failed) = absurd (let e : Fine ≡ Failed = sym fine ∙ failed.0 in cc e)
 
--- ---- The sums of days over several files.
+-- Lemmas on the energy of days, summed up over several database files.
 
 module _ {B : Type 0} (ledger : B → Ledger) (a b : Office B) (zone : Zone) (earlier : EarlierDays) (register : List ℕ) (form : ReportForm) where
   abbrev asked : Span
@@ -99,7 +99,7 @@ module _ {B : Type 0} (ledger : B → Ledger) (a b : Office B) (zone : Zone) (ea
     puts = tt;
   }
 
-  -- ---- The response with the energy report.
+  -- Lemmas on the response with the energy report.
 
   write_as : (answer reported : Result (Unit {0}) Refusal) (body report from to : List ℕ) → reported ≡ answer → OnOk answer (body ≡ report)
       → to ≡ with_energy_reply reported body from → to ≡ with_energy_reply answer report from

@@ -70,7 +70,7 @@ both_ask names at ledger a b c first next = record {
   zone = next.zone ∙ first.zone;
 }
 
--- ---- Requests that `office_http` serves.
+-- Lemmas on requests whose route the crate `office_http` has.
 
 may_of : (may : Bool) (bytes : List ℕ) (head_state : HeadState) → IsRunRoute may bytes head_state None → may ≡ true
 may_of true bytes head_state is = refl
@@ -108,7 +108,7 @@ one_asks names ledger at old new request asked may asks lasts = record {
   zone = lasts.zone;
 }
 
--- ---- Queries of `sunreg run` leave the program's state unchanged.
+-- Lemmas: queries of `sunreg run` leave the program's state unchanged.
 
 pub queries_nothing : {B : Type 0} (ledger : B → Ledger) (office : Office B) → OnlyQueries ledger office office
 queries_nothing ledger office = record { stands = λ past stands. stands; clean = λ clean. clean; zone = refl }
@@ -158,7 +158,7 @@ response_queries ledger old new context route Open responds = absurd responds
 response_queries ledger old new context route (Replied text) responds = route_queries {E = AllocError} ledger old new context route [] text.items (Ok tt) responds
 response_queries ledger old new context route Failed responds = route_queries ledger old new context route [] responds.0 (Err responds.1) responds.2
 
--- ---- Responses with many quarter hours.
+-- Lemmas on responses with many quarter hours.
 
 -- If the store has the meter, and the call tried to begin the streamed response with its quarter
 -- hours, then `MayBeginRows` holds. The client got the first chunk, or the program only queried its
@@ -199,7 +199,7 @@ pub of_request : {B : Type 0} (ledger : B → Ledger) (old new : Office B) (tabl
 of_request ledger old new table request meter before after None asks may = may
 of_request ledger old new table request meter before after (Some response) asks may = record { meter = meter; asks = asks; begins = may }
 
--- ---- The response to a request.
+-- Lemmas on the response to a request.
 
 office_serves : {B : Type 0} (names : List (List ℕ)) (ledger : B → Ledger) (at : ℕ) (old new : Office B) (table : Table) (request : List ℕ)
     (before after : Option RemainingRows) (rejects : Bool) (response : ClientResponse) → IsFor names request None

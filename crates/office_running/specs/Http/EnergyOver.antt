@@ -25,8 +25,8 @@ use Rattle.run_http.specs.RegisterReplies.{with_energy_reply}
 
 -- The response reports the days of all files of the store, the latest file first. There is no
 -- report if the current file has no such register, or the store or memory failed. There is also no
--- report if the program refuses all events since an earlier failure, or if a quarter hour within
--- the report's range is out of order.
+-- report if the program refuses all events after a failure, or if quarter hours of the range are
+-- out of order.
 abbrev pub ReportsOver : Zone → (facts : List Fact) → (files : List (List Fact))
     → (register : List ℕ) → ReportForm → (before after : Failures)
     → Result (Unit {0}) Refusal → (text : List ℕ) → Type 0

@@ -10,14 +10,14 @@ use Rattle.office_http.specs.declared.messages.head.head.HeadState.TheVariants.{
 use Rattle.run_http.specs.declared.answer.ClientResponse.{ClientResponse}
 use Rattle.run_http.specs.declared.answer.ClientResponse.TheVariants as reply
 
--- True if the bytes hold a complete head with the method POST. The request is then a command.
+-- True if the bytes hold a complete HTTP head with the method POST. Each POST is a command.
 abbrev pub is_command_in : (bytes : List ℕ) → HeadState → Bool
 is_command_in bytes Open = false
 is_command_in bytes TooLarge = false
 is_command_in bytes NoHead = false
 is_command_in bytes (Whole at) = bytes_eq (span_bytes bytes at.method) (codes "POST")
 
--- The result says whether the bytes hold the head of a command.
+-- The result is true if the bytes hold a complete HTTP head of a command (a POST).
 pub record IsCommand (bytes : List ℕ) (result : Bool) : Type 0 where
   pub head_state : HeadState
   pub looks : Looks bytes head_state
@@ -30,21 +30,21 @@ has_acted reply.Open = false
 has_acted (reply.Replied text) = starts_with (λ a b. a == b) text.items (codes "HTTP/1.1 200 ")
 has_acted reply.Failed = false
 
--- The bytes that remain of the limit `most` after `taken` bytes. Without a limit, 2^64 - 1 bytes
--- remain.
+-- The bytes that may still be stored: the limit `most` less the `taken` bytes. Without a limit,
+-- 2^64 - 1 bytes remain.
 abbrev pub room_of : (most : Option ℕ) → (taken : ℕ) → ℕ
 room_of None taken = 18446744073709551615
 room_of (Some most) taken = most - taken
 
--- The result says whether the bytes are a command with more than `left` bytes, which is how many
--- bytes may still be stored.
+-- The result is true if the bytes are a command with more than `left` bytes. `left` is the number
+-- of bytes that may still be stored.
 pub record Lacks (left : ℕ) (bytes : List ℕ) (result : Bool) : Type 0 where
   pub is_command : Bool
   pub finds : IsCommand bytes is_command
   pub is : result ≡ (is_command && nat_lt left (length bytes))
 
--- The result says whether the port rejects a request. It rejects a command that exceeds the bytes
--- that may still be stored, and any command while a file of the store is missing.
+-- The result is true if the HTTP server rejects the request: a command that exceeds the bytes that
+-- may still be stored, or any command while a file of the store is missing.
 pub record Rejects (left : ℕ) (is_lost : Bool) (bytes : List ℕ) (result : Bool) : Type 0 where
   pub is_command : Bool
   pub finds : IsCommand bytes is_command
@@ -57,8 +57,8 @@ pub record Counts (left later : ℕ) (bytes : List ℕ) (reply : ClientResponse)
   pub finds : IsCommand bytes is_command
   pub is : later ≡ if is_command && has_acted reply then left - length bytes else left
 
--- The result says whether a response acknowledges a command. A response does so exactly if the
--- request is a command and the response has status 200.
+-- The result is true if the response acknowledges a command: the request is a command and the
+-- response has status 200.
 pub record Acknowledges (bytes : List ℕ) (reply : ClientResponse) (result : Bool) : Type 0 where
   pub is_command : Bool
   pub finds : IsCommand bytes is_command

@@ -1,14 +1,15 @@
--- A stored response, which is sent again only to an equal request, and unchanged.
+-- Defines when the HTTP server answers from its cache: a cached response is sent only to an equal
+-- request, and unchanged.
 use Rattle.std.specs.Prelude.{◌≡◌, ℕ, true, List, Option, Some, None}
 use Rattle.std.specs.Str.{bytes_eq}
 use Rattle.office_running.specs.declared.http.repeats.Replied.{Replied}
 
--- The stored pair `it` has this request and this response.
+-- The cache entry `it` has this request and this response.
 pub record IsOf (request reply : List ℕ) (it : Replied) : Type 0 where
   pub request_is : it.request.items ≡ request
   pub reply_is : it.reply.items ≡ reply
 
--- The request is equal to the stored request, and the response is the stored response.
+-- The request is equal to the request of the cache entry, and the response is the cached response.
 pub record IsSame (it : Replied) (request reply : List ℕ) : Type 0 where
   pub same : bytes_eq it.request.items request ≡ true
   pub reply_is : reply ≡ it.reply.items

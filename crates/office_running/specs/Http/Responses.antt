@@ -103,11 +103,11 @@ RespondsByRoute ledger old new context route Failed =
     (text : List ℕ) × (fault : AllocError)
     × RepliesRoute ledger old new context route [] text (Err fault)
 
--- ---- Responses with many quarter hours, which are sent in chunks.
+-- Definitions on responses with many quarter hours, which are sent in chunks.
 
--- The effect of beginning a streamed response with `text`: `after` has the rows of later chunks. If
--- the program refused the query, there is no response yet. If memory ran out, the response is
--- `Failed`.
+-- The effect of beginning a streamed response with the bytes `text`. `after` has the rows of later
+-- chunks. If the program refused the query, there is no response yet. If memory ran out, the
+-- response is `Failed`.
 abbrev pub IsBegunWith : (text : Vec ℕ Global) → Result (Result RemainingRows Refusal) AllocError
     → (before after : Option RemainingRows) → Option ClientResponse → Type 0
 IsBegunWith text (Ok (Ok left)) before after response =
@@ -133,7 +133,7 @@ pub record BeginsRows {B : Type 0} (ledger : B → Ledger) (old new : Office B)
   pub is : IsBegunWith text result before after (Some response)
 
 -- Either the call begins a streamed response with the quarter hours of a meter, or it only queries
--- the store. In the second case, the caller makes the response.
+-- the store. In the second case, the caller builds the response.
 abbrev pub MayBeginRows : {B : Type 0} → (B → Ledger) → (old new : Office B)
     → (meter : Option (List ℕ)) → (from till : ℕ) → (reply : List Share → List ℕ)
     → (before after : Option RemainingRows) → Option ClientResponse → Type 0
@@ -152,7 +152,7 @@ pub record BeginsRoute {B : Type 0} (ledger : B → Ledger) (old new : Office B)
   pub begins : BeginsRows ledger old new meter from till (with_rows []) before after response
 
 -- Either the call begins a streamed response of a route with quarter hours, or it only queries the
--- store. In the second case, the caller makes the response.
+-- store. In the second case, the caller builds the response.
 abbrev pub MayBeginRoute : {B : Type 0} → (B → Ledger) → (old new : Office B) → RunRoute
     → (before after : Option RemainingRows) → Option ClientResponse → Type 0
 MayBeginRoute ledger old new route before after None =
@@ -170,7 +170,7 @@ pub record BeginsAll {B : Type 0} (ledger : B → Ledger) (old new : Office B) (
       before after response
 
 -- Either the call begins a streamed response with all quarter hours of a meter, or it only queries
--- the store. In the second case, the caller makes the response.
+-- the store. In the second case, the caller builds the response.
 abbrev pub MayBeginAll : {B : Type 0} → (B → Ledger) → (old new : Office B) → Table
     → (request : List ℕ) → (before after : Option RemainingRows) → Option ClientResponse → Type 0
 MayBeginAll ledger old new table request before after None =
@@ -178,9 +178,10 @@ MayBeginAll ledger old new table request before after None =
 MayBeginAll ledger old new table request before after (Some response) =
     BeginsAll ledger old new table request before after response
 
--- ---- The response to a request.
+-- Definitions on the response to a request.
 
--- The client gets status 503, which rejects a command, or nothing if memory ran out.
+-- The client gets status 503, because the server rejects a command. If memory ran out, the client
+-- gets nothing.
 abbrev pub IsUnavailable : ClientResponse → Type 0
 IsUnavailable Open = ⊥
 IsUnavailable (Replied text) =
@@ -204,8 +205,8 @@ BeginsResponse ledger old new context route before after response =
     BeginsRoute ledger old new route before after response
     ⊎ ((after ≡ before) × RespondsWhole ledger old new context route response)
 
--- The program executes a request for which the crate `office_http` has the route. Before that, the
--- program may only query its store.
+-- The program executes a request whose route the crate `office_http` has. Before that, the program
+-- may only query its store.
 pub record Executes {B : Type 0} (ledger : B → Ledger) (at : ℕ) (old new : Office B)
     (request : List ℕ) (response : ClientResponse) : Type 0 where
   pub mid : Office B
@@ -213,8 +214,8 @@ pub record Executes {B : Type 0} (ledger : B → Ledger) (at : ℕ) (old new : O
   pub asks : Asks ledger at mid new request response
   pub lasts : Lasts ledger mid new
 
--- The response to a request for which the crate `office_http` has the route. If `rejects` is true,
--- the request is a rejected command: it changes nothing and gets status 503.
+-- The response to a request whose route the crate `office_http` has. If `rejects` is true, the
+-- request is a rejected command: it changes nothing and gets status 503.
 abbrev pub RespondsToOffice : {B : Type 0} → (B → Ledger) → (at : ℕ) → (old new : Office B)
     → Table → (request : List ℕ) → (before after : Option RemainingRows) → (rejects : Bool)
     → ClientResponse → Type 0
@@ -233,8 +234,8 @@ pub record ExecutesUnlessRejected {B : Type 0} (ledger : B → Ledger) (at : ℕ
   pub tests : Rejects left is_lost request rejects
   pub responds : RespondsToOffice ledger at old new table request before after rejects response
 
--- The response to a request, by the route of `sunreg run` that matches it. If none matches, the
--- program executes the request, or rejects it as a command that may not be stored.
+-- The response to a request by its route of `sunreg run`. A request without such a route is
+-- executed, or rejected if it is a command that may not be stored.
 abbrev pub RespondsBy : {B : Type 0} → (B → Ledger) → HttpPort → (old new : Office B)
     → (request : List ℕ) → RunContext → Option RunRoute
     → (before after : Option RemainingRows) → ClientResponse → Type 0
@@ -253,15 +254,15 @@ pub record RespondsTo {B : Type 0} (ledger : B → Ledger) (port : HttpPort) (ol
   pub finds : IsFor (texts context.names.now) request route
   pub responds : RespondsBy ledger port old new request context route before after response
 
--- The client gets the stored response of the port, whose request is equal to this one.
+-- The client gets a cached response, whose request is equal to this client's request.
 abbrev pub IsStored : Option stored.Replied → (request : List ℕ) → ClientResponse → Type 0
 IsStored stored request Open = ⊥
 IsStored stored request (Replied text) = WasReplied stored request text.items
 IsStored stored request Failed = ⊥
 
--- The client gets the stored response to an equal request, without a query to the store, or the
--- response that the program makes for this request. Only a request for energy gets a stored
--- response, so the program executes every command.
+-- The client gets the cached response to an equal request, without a query to the store, or a new
+-- response. The cache has only responses to queries for energy, so the program executes every
+-- command.
 abbrev pub RespondsAgain : {B : Type 0} → (B → Ledger) → HttpPort → (old new : Office B)
     → (request : List ℕ) → RunContext → (before after : Option RemainingRows) → ClientResponse
     → Type 0
@@ -270,8 +271,8 @@ RespondsAgain ledger port old new request context before after response =
     × IsStored port.repeats.latest request response)
     ⊎ RespondsTo ledger port old new request context before after response
 
--- The program made the response to this request or had it stored, and did nothing else to its
--- store. So nothing but the request of this client can change the store.
+-- The program built the response to this request or had it in its cache, and did nothing else to
+-- its store. So only this client's request can have changed the store.
 pub record Answers {B : Type 0} (ledger : B → Ledger) (port : HttpPort) (old new : Office B)
     (request : List ℕ) (context : RunContext) : Type 0 where
   pub after : Option RemainingRows

@@ -16,8 +16,8 @@ use Rattle.run_http.specs.StatusRoute.{with_reply}
 use Rattle.run_http.specs.Texts.SiteText.{with_site}
 use Rattle.run_http.specs.declared.texts.site.SiteLine.{SiteLine}
 
--- The line of an accounting register with its latest meter in the current and earlier database
--- files, if it has a meter.
+-- The entry for an accounting register in `/site`, with its latest meter in the current and earlier
+-- database files, if it has a meter.
 abbrev pub line_of : Register → Option LatestMeter → SiteLine
 line_of register None =
     record { row = record { register = register; meter = None }; earlier = None }
@@ -26,17 +26,18 @@ line_of register (Some reported) = record {
   earlier = reported.earlier;
 }
 
--- The line of an accounting register with the latest of its meters in the current and earlier
--- database files. `earlier` are its meters in earlier database files.
+-- The entry for an accounting register in `/site`, with the latest of its meters in the current and
+-- earlier database files. `earlier` are its meters in earlier database files.
 abbrev pub line_after : (earlier : List Installation) → SiteRow → SiteLine
 line_after earlier row = line_of row.register (latest_meter earlier row.meter)
 
--- The line of an accounting register with its latest meter in the current and the earlier database
--- files.
+-- The entry for an accounting register in `/site`, with its latest meter in the current and the
+-- earlier database files.
 abbrev pub line_over : List EarlierRegister → SiteRow → SiteLine
 line_over earlier row = line_after (earlier_meters earlier row.register.name) row
 
--- The lines of all accounting registers, or the reason why the program refused the query.
+-- The entries for all accounting registers in `/site`, or the reason why the program refused the
+-- query.
 abbrev pub IsReported : List EarlierRegister → Result (Vec SiteRow Global) Refusal
     → Result (Vec SiteLine Global) Refusal → Type 0
 IsReported earlier (Ok rows) (Ok lines) = lines.items ≡ map (line_over earlier) rows.items

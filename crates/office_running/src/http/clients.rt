@@ -27,8 +27,8 @@ pub(crate) struct Client {
     over: bool,
 }
 
-// Returns the part of `piece` that fits into the buffer of a request. A buffer of `MOST_ROOM` bytes
-// suffices for any request.
+// Returns the part of the input `piece` that fits into the buffer of a request. A buffer of
+// `MOST_ROOM` bytes suffices for any request.
 fn fitting<'p>(request: &[u8], piece: &'p [u8]) -> &'p [u8] {
     let room = MOST_ROOM.saturating_sub(request.len());
     piece.get(..room).unwrap_or(piece)

@@ -25,7 +25,7 @@ pub struct EarlierFiles<'a> {
     pub registers: &'a [EarlierRegister],
 }
 
-// Writes the energy report on these days. Fails only if memory runs out.
+// Writes the lines of the energy report for these days. Fails only if memory runs out.
 fn write_days(days: &[DayTotal], form: &ReportForm, output: &mut Vec<u8>) -> Result<(), AllocError>
     ensures { OnOk result (output.new.items
         ≡ output.old.items ++ report_text form.now days.now) }

@@ -1,4 +1,4 @@
-//! The HTTP port of `sunreg run`, and its connections.
+//! The HTTP server of `sunreg run`, with its listening socket and its connections.
 ghost use Rattle.std.specs.Prelude.{◌≡◌, ◌⊎◌, false, true};
 ghost use Rattle.office_http.specs.Messages.Hosts.{texts};
 ghost use Rattle.office_running.specs.Http.Clients.{OnlyQueries, ServesClients};
@@ -36,12 +36,12 @@ use std::mem;
 // of the main loop are usually reached earlier.
 const MOST_PIECES: u32 = 64;
 
-/// The event token of the listening socket. The token of a connection is its slot number, which is
-/// lower.
+/// The event token of the listening socket. The token of a connection is its index among the
+/// connections, which is lower.
 pub const PORT_TOKEN: usize = MOST_CLIENTS;
 
 /// A listening socket and up to 64 connections. The event loop marks the connections that are
-/// ready, and serves one slot after the other.
+/// ready, and the server serves one after the other.
 #[derive(Drop)]
 pub struct HttpPort {
     alloc: Global,
@@ -50,9 +50,9 @@ pub struct HttpPort {
     router: Router<Route>,
     client_slots: ClientSlots,
     connections: Vec<Option<Client>>,
-    /// The limits on responses that this iteration of the main loop has not used up yet.
+    /// The limits on responses that remain in this pass of the event loop.
     share: TurnShare,
-    /// The slot that is served first in this iteration of the main loop.
+    /// The index of the connection that is served first in this pass of the event loop.
     first: usize,
     room: KeptRoom,
     repeats: Repeats,
@@ -72,9 +72,9 @@ fn size_of(asked: &ClientResponse) -> usize {
 }
 
 impl HttpPort {
-    /// Makes a port without connections. The caller must have registered the listening socket with
-    /// the token [`PORT_TOKEN`]. The port accepts `clients` connections at the same time, at most
-    /// 64. Fails if memory runs out.
+    /// Makes an HTTP server without connections. The caller must have registered the listening
+    /// socket with the token [`PORT_TOKEN`]. The server accepts `clients` connections at the same
+    /// time, at most 64. Fails if memory runs out.
     pub fn new(
         alloc: Global,
         listener: TcpListener,
@@ -105,15 +105,16 @@ impl HttpPort {
         self.share = TurnShare::whole();
     }
 
-    /// Returns the slot that is served first, which follows the slot that was answered last.
+    /// Returns the slot (index) of the connection that is served first. It follows the slot that
+    /// was answered last.
     pub fn first(&self) -> usize
         ensures { result ≡ self.now.first }
     {
         self.first
     }
 
-    // Subtracts a response from the limits of this iteration of the main loop. The next iteration
-    // then begins with the next slot.
+    // Subtracts a response from the limits of this pass of the event loop. The next pass then
+    // begins with the next connection.
     fn record_reply(&mut self, slot: usize, bytes: usize, milliseconds: u64) {
         self.share = self.share.after(bytes, milliseconds);
         self.first = place_at(slot, 1);
@@ -128,7 +129,7 @@ impl HttpPort {
         mem::replace(&mut self.is_full, false)
     }
 
-    /// Drops the stored response for repeated requests. The caller must do so when the content of
+    /// Drops the cached response for repeated requests. The caller must do so when the content of
     /// the store may have changed.
     pub fn forget_replies(&mut self) {
         self.repeats.forget();
@@ -183,7 +184,7 @@ impl HttpPort {
         self.waiting
     }
 
-    // Drops the connection in a slot, and frees the slot.
+    // Drops the connection at this index, and frees its place.
     fn drop_client(&mut self, slot: usize) {
         if slot < MOST_CLIENTS && slot < self.connections.len() {
             self.client_slots.free_slot(slot);
@@ -202,8 +203,8 @@ impl HttpPort {
         }
     }
 
-    // Returns whether a new connection can get a slot. The slot is free, or its client got the
-    // response, or its client has sent no request for a second.
+    // Returns whether a new connection can get a slot (one of up to 64 places for connections). The
+    // slot is free, or its client got the response, or its client has sent no request for a second.
     fn has_room(&self, time: u64) -> bool {
         let Some(slot) = choose_slot(&self.client_slots.places) else {
             return false;
@@ -217,7 +218,7 @@ impl HttpPort {
         }
     }
 
-    // Assigns a slot to a new connection.
+    // Assigns one of the up to 64 slots for connections to a new connection.
     fn admit(&mut self, mut stream: TcpStream, registry: &Registry, time: u64) {
         let Some(admission) = self.client_slots.admit(time, CLIENT_SECONDS) else {
             return;
@@ -232,14 +233,15 @@ impl HttpPort {
         }
     }
 
-    // Drops the earlier connection of a slot.
+    // Drops the earlier connection in a slot for connections.
     fn vacate_slot(&mut self, slot: usize) {
         if slot < self.connections.len() {
             self.connections[slot] = None;
         }
     }
 
-    /// Accepts the connections that wait at the listening socket, as many as can get a slot.
+    /// Accepts the connections that wait at the listening socket, as many as the server may serve
+    /// at once.
     pub fn accept(&mut self, registry: &Registry, time: u64) {
         for _connection in 0..MOST_CLIENTS {
             if !self.waiting || !self.has_room(time) {
@@ -255,9 +257,9 @@ impl HttpPort {
         }
     }
 
-    // Executes a request that no route of `sunreg run` matches. Rejects a command if the limit for
-    // stored commands is reached or a file of the store is missing. `rows` receives the rows that
-    // later chunks send.
+    // Executes a request for one of the routes that `serve` and `run` share, if no route of `sunreg
+    // run` alone matches. Rejects a command if the limit for stored commands is reached or a file
+    // of the store is missing. `rows` receives the rows that later chunks send.
     fn execute<B: Books>(
         &self,
         request: &[u8],
@@ -299,8 +301,8 @@ impl HttpPort {
         }
     }
 
-    // Returns the stored response if the request asks for energy, is equal to the stored request,
-    // and nothing was recorded since. Otherwise makes a new response. So no command gets a stored
+    // Returns the cached response if the request asks for energy, is equal to the cached request,
+    // and nothing was recorded since. Otherwise makes a new response. So no command gets a cached
     // response.
     #[tactic(auto, using(crate::proofs::HttpLemmas::ServingClients::nobody_asks))]
     fn reply_again<B: Books>(
@@ -325,8 +327,8 @@ impl HttpPort {
         asked
     }
 
-    // Stores a response about energy for repeated requests. A command drops the stored response,
-    // since it may change the energy.
+    // Caches a response about energy for repeated requests. A command drops the cached response,
+    // since the command may change the energy.
     fn keep_reply(&mut self, names: &[&str], request: &[u8], asked: &ClientResponse) {
         if is_command(request) {
             self.repeats.forget();
@@ -357,7 +359,8 @@ impl HttpPort {
         }
     }
 
-    // Returns whether the connection in a slot is served in this iteration of the main loop.
+    // Returns whether the server serves the connection in a slot in this iteration of the main
+    // loop.
     fn has_turn(&self, slot: usize) -> bool {
         match self.connections.get(slot) {
             Some(connection) => {
@@ -367,7 +370,8 @@ impl HttpPort {
         }
     }
 
-    // Removes the connection from its slot, if the connection is served now.
+    // Removes the connection from its place in the list of connections, if the connection is served
+    // now.
     fn take_ready(&mut self, slot: usize) -> Option<Client> {
         if self.has_turn(slot) && slot < self.connections.len() {
             return self.connections[slot].take();
@@ -375,8 +379,8 @@ impl HttpPort {
         None
     }
 
-    // Writes as much of the response as the socket accepts, and returns the connection to its slot
-    // unless the connection has ended.
+    // Writes as much of the response as the socket accepts, and returns the connection to the list
+    // of connections unless it has ended.
     fn return_client(&mut self, slot: usize, mut client: Client, time: u64) {
         client.write_reply(time);
         if client.is_over() {
@@ -397,18 +401,17 @@ impl HttpPort {
         }
     }
 
-    // Lets the next iteration of the main loop begin with this slot if the response in this slot
-    // has more rows. Responses then end one after the other, and no client waits for all other
-    // responses.
+    // Lets the next iteration of the main loop begin with this connection if its response has more
+    // rows. Responses then end one after the other, and no client waits for all other responses.
     fn keep_first(&mut self, slot: usize, has_more: bool) {
         if has_more {
             self.first = slot;
         }
     }
 
-    // Updates the limits after a response: those of this iteration of the main loop, and that for
-    // stored commands. A request that may void (withdraw) an entry cuts off all streamed responses,
-    // because it may change their rows.
+    // Updates the limits after a response: those of this iteration of the main loop, and the limit
+    // for stored commands. A request that may void (withdraw) an entry cuts off all streamed
+    // responses, because the request may change their rows.
     fn count_reply(
         &mut self,
         slot: usize,
@@ -491,8 +494,8 @@ impl HttpPort {
         }
     }
 
-    // Sends chunks of a response while the socket accepts them and the limits of this iteration
-    // allow more.
+    // Sends chunks of a response while the socket accepts them and the limits of this iteration of
+    // the main loop allow more.
     fn send_pieces<R: std::rt::Clock, B: Books>(
         &mut self,
         rt: &R,
@@ -532,7 +535,7 @@ impl HttpPort {
     }
 
     /// Serves the connection in a slot, if the connection is ready and the limits of this iteration
-    /// allow it.
+    /// of the main loop allow it.
     #[tactic(auto, using(crate::proofs::HttpLemmas::ServingClients::nobody_asks))]
     pub fn attend<R: RunSystem, B: Books>(
         &mut self,

@@ -20,7 +20,7 @@ use std::alloc::{AllocError, Global};
 const PIECE_SECONDS: u64 = 900_000;
 
 // Returns the response whose first chunk was written. Returns `None` if the program refused the
-// query; the caller then makes a complete response.
+// query; the caller then builds a complete response.
 fn begun_answer(
     text: Vec<u8>,
     begun: Result<Result<RemainingRows, Refusal>, AllocError>,

@@ -8,7 +8,7 @@ use office_http::messages::{HeadState, parse_head};
 use run_http::ClientResponse;
 
 /// The number of bytes of commands that may still be stored. The store records each executed
-/// command permanently, and reads all of them whenever it is opened.
+/// command permanently, and reads all commands whenever it is opened.
 #[derive(Clone, Copy, PartialEq, Eq)]
 pub struct KeptRoom {
     left: u64,
@@ -74,7 +74,7 @@ impl KeptRoom {
     }
 
     /// Subtracts an executed command from the remaining bytes, by the length of its complete
-    /// request. The store records less: no head, and no retry.
+    /// request. The store records less, because it has no HTTP heads and no repeated requests.
     pub fn count(&mut self, request: &[u8], reply: &ClientResponse)
         ensures { Counts self.old.left self.new.left request.now reply.now }
     {

@@ -1,9 +1,9 @@
 //! The time at which a request is served: for timeouts, and for the store's records.
 
-/// The time at which a request is served, as the program's own time and as a timestamp.
+/// The time at which a request is served, as the time of the run's own clock and as a timestamp.
 #[derive(Clone, Copy)]
 pub struct Now {
-    /// The program's own time in seconds since 1970-01-01 UTC, which measures timeouts.
+    /// The time of the run's own clock in seconds since 1970-01-01 UTC, which measures timeouts.
     pub time: u64,
     /// The timestamp for the store's records, in seconds since 1970-01-01 UTC.
     pub moment: u64,

@@ -14,7 +14,7 @@ pub(crate) const MOST_CALLS: u32 = 16;
 pub enum Went {
     /// Some bytes were read or written, or the call was interrupted.
     On,
-    /// The socket has no input or no room for output now.
+    /// The socket has no input, or no room for output, at present.
     Waits,
     /// The connection has ended or failed.
     Over,

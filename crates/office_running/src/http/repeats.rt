@@ -1,21 +1,21 @@
-//! Stores a response, and returns it again for an equal request until the store records something.
+//! Caches a response, and returns it again for an equal request until the store records something.
 ghost use Rattle.std.specs.Prelude.{◌≡◌, IfSome, None};
 ghost use Rattle.office_running.specs.Http.Repeats as repeats;
 
 use std::alloc::Global;
 
-// The most bytes of a stored response. An energy report by month is shorter.
+// The most bytes of a cached response. An energy report by month is shorter.
 const MOST_BYTES: usize = 65_536;
 
-/// A request and the response to it.
+/// The cached pair of a request and the response to the request.
 #[derive(Drop)]
 pub(crate) struct Replied {
     pub(crate) request: Vec<u8>,
     pub(crate) reply: Vec<u8>,
 }
 
-/// The latest response about energy. The energy of an accounting register is summed over all its
-/// rows, and many clients with equal queries would repeat that sum.
+/// The cache with the latest response about energy. The energy of an accounting register is summed
+/// over all its rows, and many clients with equal queries would repeat that sum.
 #[derive(Drop)]
 pub(crate) struct Repeats {
     pub(crate) latest: Option<Replied>,
@@ -35,14 +35,14 @@ fn copied(alloc: Global, request: &[u8], reply: &[u8]) -> Option<Replied>
 }
 
 impl Repeats {
-    /// Makes the state without a stored response.
+    /// Makes an empty response cache.
     pub(crate) fn new() -> Repeats
         ensures { result.latest ≡ None }
     {
         Repeats { latest: None }
     }
 
-    /// Replaces the stored response. Only a response with status 200 and at most 64 KiB is stored,
+    /// Replaces the cached response. Only a response with status 200 and at most 64 KiB is cached,
     /// and only if memory suffices.
     pub(crate) fn keep(&mut self, alloc: Global, request: &[u8], reply: &[u8])
         ensures { IfSome self.new.latest (λ it. repeats.IsOf request.now reply.now it) }
@@ -54,14 +54,14 @@ impl Repeats {
         };
     }
 
-    /// Drops the stored response.
+    /// Drops the cached response.
     pub(crate) fn forget(&mut self)
         ensures { self.new.latest ≡ None }
     {
         self.latest = None;
     }
 
-    /// Returns a copy of the stored response if the request is equal to the stored request, byte
+    /// Returns a copy of the cached response if the request is equal to the cached request, byte
     /// for byte. Returns `None` otherwise, or if memory runs out.
     pub(crate) fn again(&self, alloc: Global, request: &[u8]) -> Option<Vec<u8>>
         ensures { IfSome result (λ reply.

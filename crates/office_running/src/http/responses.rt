@@ -1,4 +1,4 @@
-//! Makes the response of each route of `sunreg run`.
+//! Builds the response of each route of `sunreg run`.
 ghost use Rattle.std.specs.List.{find};
 ghost use Rattle.office_books.specs.Facts.{is_named};
 ghost use Rattle.office_running.specs.Http.Responses.{BeginsResponse, IsUnavailable, RepliesDays};
@@ -40,7 +40,7 @@ fn reply_days<B: Books>(
     }
 }
 
-// Appends the response of a route.
+// Appends the complete response of a route to an output buffer.
 fn reply_route<B: Books>(
     alloc: Global,
     text: &mut Vec<u8>,

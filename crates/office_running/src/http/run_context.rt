@@ -1,9 +1,9 @@
-//! The data besides the store from which HTTP responses are made.
+//! The data besides the store from which the server builds HTTP responses.
 use crate::http::energy_over::EarlierFiles;
 use crate::http::moments::Now;
 use run_http::status::{DeviceLack, RunMonitor};
 
-/// What a response is made from besides the store.
+/// The data besides the store from which the server builds responses.
 ///
 /// `names` are further host names that requests may name. `monitor` has the counts and the device
 /// states, and `lacks` what the devices lacked at the start.

@@ -11,8 +11,8 @@ use office_events::{Installation, Refusal};
 use run_http::{SiteLine, write_site_reply};
 use std::alloc::{AllocError, Global};
 
-// Returns the line of an accounting register with the latest of its meters in the current and
-// earlier database files. `earlier` are its meters in earlier database files.
+// Returns the entry for an accounting register in `/site`, with the latest of its meters in the
+// current and earlier database files. `earlier` are its meters in earlier database files.
 fn line_after(earlier: &[Installation], row: &SiteRow) -> SiteLine
     ensures { result ≡ site.line_after earlier.now row.now }
 {
@@ -31,8 +31,8 @@ fn line_after(earlier: &[Installation], row: &SiteRow) -> SiteLine
     }
 }
 
-// Returns the lines of accounting registers, each with its latest meter in the current and earlier
-// database files.
+// Returns the entries for accounting registers in `/site`, each with its latest meter in the
+// current and earlier database files.
 fn lines_over(
     alloc: Global,
     earlier: &[EarlierRegister],
@@ -48,7 +48,8 @@ fn lines_over(
     Ok(lines)
 }
 
-// Returns the lines of all accounting registers, or the reason why the program refused the query.
+// Returns the entries for all accounting registers in `/site`, or the reason why the program
+// refused the query.
 fn current_part(
     alloc: Global,
     earlier: &[EarlierRegister],
@@ -65,7 +66,7 @@ fn current_part(
     }
 }
 
-// Writes the response with the lines of the accounting registers, or an error response if the
+// Writes the response with the entries for the accounting registers, or an error response if the
 // program refused the query.
 fn append_answer(
     alloc: Global,

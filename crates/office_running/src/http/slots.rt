@@ -1,12 +1,12 @@
-//! The slots of the HTTP port's connections.
+//! The slots of the HTTP server: up to 64 places for client connections.
 ghost use Rattle.std.specs.Prelude.{◌<◌};
 
 use crate::http::clients::Client;
 use run_schedule::{ClientSlots, MOST_CLIENTS, TurnShare};
 use std::alloc::{AllocError, Global};
 
-/// Returns whether the connection in a slot is ready for input or output and may be served now. If
-/// `may_reply` is false, only a connection that already has a response may be served.
+/// Returns whether a connection is ready for input or output and may be served now. If `may_reply`
+/// is false, only a connection that already has a response may be served.
 pub(crate) fn is_ready(connection: &Option<Client>, may_reply: bool) -> bool {
     match connection {
         Some(client) => client.ready && (may_reply || client.has_reply()),
@@ -14,9 +14,9 @@ pub(crate) fn is_ready(connection: &Option<Client>, may_reply: bool) -> bool {
     }
 }
 
-/// Returns whether the connection in a slot is served with the remaining limits of this iteration
-/// of the main loop. New responses and further rows wait if a limit is used up. A chunk that is
-/// being sent always continues.
+/// Returns whether a connection is served with the remaining limits of this iteration of the main
+/// loop. New responses and further rows wait if a limit is used up. A chunk that is being sent
+/// always continues.
 pub(crate) fn is_attended(connection: &Option<Client>, share: TurnShare) -> bool {
     match connection {
         Some(client) => {
@@ -27,7 +27,7 @@ pub(crate) fn is_attended(connection: &Option<Client>, share: TurnShare) -> bool
     }
 }
 
-/// Returns how many bytes of its response the connection in a slot has in memory.
+/// Returns how many bytes of its response a connection has in memory.
 pub(crate) fn held_bytes(connection: &Option<Client>) -> usize {
     match connection {
         Some(client) => client.held_bytes(),
@@ -35,7 +35,7 @@ pub(crate) fn held_bytes(connection: &Option<Client>) -> usize {
     }
 }
 
-/// Returns whether the response of the connection in a slot has rows still to be sent.
+/// Returns whether the response of a connection has rows still to be sent.
 pub(crate) fn has_rows_left(connection: &Option<Client>) -> bool {
     match connection {
         Some(client) => client.rows.is_some(),
@@ -43,8 +43,7 @@ pub(crate) fn has_rows_left(connection: &Option<Client>) -> bool {
     }
 }
 
-/// Returns whether the client in a slot got its complete response, so that the connection may be
-/// dropped.
+/// Returns whether a client got its complete response, so that its connection may be dropped.
 pub(crate) fn is_done(connection: &Option<Client>, time: u64) -> bool {
     match connection {
         Some(client) => client.is_done(time),
@@ -52,8 +51,8 @@ pub(crate) fn is_done(connection: &Option<Client>, time: u64) -> bool {
     }
 }
 
-/// Makes the slots of a port. The first `clients` slots are open to connections, and the later
-/// slots are closed.
+/// Makes the slots (places for connections) of an HTTP server. The first `clients` slots are open
+/// to connections, and the later slots are closed.
 pub(crate) fn open_slots(clients: usize) -> ClientSlots {
     let mut client_slots = ClientSlots::new();
     for slot in clients..MOST_CLIENTS {
@@ -62,7 +61,7 @@ pub(crate) fn open_slots(clients: usize) -> ClientSlots {
     client_slots
 }
 
-/// Records in a slot whether its client waits for a response or got its response.
+/// Records whether the client of a connection waits for a response or got its response.
 pub(crate) fn record_state(client_slots: &mut ClientSlots, slot: usize, client: &Client)
     requires { slot < 64 }
 {
@@ -76,7 +75,7 @@ pub(crate) fn record_state(client_slots: &mut ClientSlots, slot: usize, client: 
     }
 }
 
-/// Makes one empty slot for each possible connection.
+/// Makes one empty slot (place) for each possible connection.
 pub(crate) fn empty_slots(alloc: Global) -> Result<Vec<Option<Client>>, AllocError> {
     let mut connections = Vec::new(alloc);
     for _place in 0..MOST_CLIENTS {

@@ -15,7 +15,7 @@ use Rattle.office_store.proofs.Committed.{untouched}
 use Rattle.office_store.proofs.GoingLemmas as going
 use Rattle.office_store.proofs.Following.{none_recorded, one_recorded}
 
--- When a transaction begins, it has written no record.
+-- When a transaction begins, the list of the records that it has written is empty.
 pub begun : (a : State) → Goes {X = Unit {0}} {E = RowFault} a a (Ok tt) (RecordsAll [])
 begun a = going.nothing_done a tt (RecordsAll []) none_recorded
 
@@ -27,8 +27,8 @@ came fs i f a b c lt is one two =
     subst (λ (l : List Fact). Goes {X = Unit {0}} {E = RowFault} a c (Ok tt) (RecordsAll l)) (sym more)
     (going.goes_then a b c tt (Ok tt) (RecordsAll (take i fs)) (Records f) (RecordsAll (take i fs ++ f ∷ [])) one two (λ content mid after all here. one_recorded (take i fs) f content mid after all here))
 
--- If a failed transaction satisfies the contract `Commits`, then the contract also holds for a
--- result with another error.
+-- If a transaction failed and satisfies its contract `Commits`, the contract also holds with
+-- another error in the transaction's result.
 pub commit_failed : {X Y D : Type 0} (T : RowFault → Type 0) (a b : State) (e : D) (r : Result Y RowFault) (Makes : Content → Content → Type 0) → Commits {X = X} a b (Err e) Makes → IsErrAnd r T → Commits a b r Makes
 commit_failed T a b e (Ok y) Makes one is = absurd is
 commit_failed T a b e (Err d) Makes one is = record { ok = λ clean content has. tt; err = one.err; survives = one.survives }
@@ -42,7 +42,7 @@ pub left_off : {S X Y D : Type 0} (g : Ghosts S) (old : Held S) (mid end : State
 left_off g old mid end Makes T e (Ok y) done undone crash is = absurd is
 left_off g old mid end Makes T e (Err d) done undone crash is = going.given_up g old mid end Makes e d done undone crash
 
--- If `check_open` fails, no transaction begins and the store is unchanged.
+-- If the check that the database is open fails, no transaction begins, and the store is unchanged.
 pub not_begun : {S X : Type 0} (T : RowFault → Type 0) (g : Ghosts S) (zone : List ℕ) (old new : Held S) (fs : List Fact) (r : Result X RowFault) → (fs ≢ []) → (HasCleanDisk (state g new) → KeepsCommit (state g old) (state g new))
     → Survives (state g old) (state g new) (λ _. ⊥) → IsErrAnd r T → BooksFacts g zone fs old new r
 not_begun T g zone old new fs (Ok x) some kept quiet is = absurd is

@@ -1,5 +1,5 @@
--- Proofs about a meter's rows of `intervals` after a void subtracted energy from quarter hours and
--- added other energy.
+-- Proofs about a meter's rows of `intervals` (energy by quarter hour) after a false reading was
+-- voided (cancelled), which subtracts and adds energy.
 use Rattle.std.proofs.Common.{◌≡◌, ℕ, ◌-◌, ◌≤◌, ◌<◌, ◌==◌, ◌&&◌, not, Bool, true, false, cond, inl, inr, List, [], ◌∷◌, ◌++◌, map, filter, bytes_eq, nat_le, nat_lt, refl, sym, ap, subst, ◌∙◌, arith, eqb-true, IsPermutation}
 use Rattle.std.specs.List.{list_any, AllByRecursion}
 use Rattle.std.proofs.lemmas.Bool.{cases_Bool, cond-true, cond-false, and_parts}
@@ -21,8 +21,6 @@ use Rattle.office_store.proofs.Booked.{AreApart, AreRowsOf, has_start, itself, b
 use Rattle.office_store.proofs.Passing.{map_agree, any_agree, any_map, filter_edited, filter_spared, all_passing}
 use Rattle.office_store.specs.Voids.Withdrawal.{lowered, without_share, without_shares, HasShare, HaveShares, TakesShares, starts_from, DropsRows}
 use Rattle.office_store.specs.Bookings.Corrections.{gone_from}
-
--- ---- energy that is subtracted from a meter's quarter hours
 
 less_start : (b : Bool) (share row : Share) → (let made : Share = cond b (record { start = row.start; mwh = row.mwh - share.mwh }) row in made.start) ≡ row.start
 less_start true share row = refl
@@ -66,8 +64,8 @@ pub starts_below_without : (bound : ℕ) (shares rows : List Share) → AllByRec
 starts_below_without bound [] rows h = h
 starts_below_without bound (share ∷ shares) rows h = starts_below_without bound shares (journal.without_share share rows) (starts_below_less bound share rows h)
 
--- If all quarter hours start before a bound, and energy of a quarter hour before the bound is
--- added, all still start before the bound.
+-- If all quarter hours in a list start before a bound, adding energy of another such quarter hour
+-- keeps this property of the list.
 below_with : (bound : ℕ) (share : Share) (rows : List Share) → share.start < bound → AllByRecursion (λ (row : Share). row.start < bound) rows → AllByRecursion (λ (row : Share). row.start < bound) (journal.with_share share rows)
 below_with bound share [] low h = (low, tt)
 below_with bound share (row ∷ rows) low h = elim (cases_Bool (row.start == share.start)) [
@@ -80,7 +78,8 @@ pub starts_below_with : (bound : ℕ) (shares rows : List Share) → AllByRecurs
 starts_below_with bound [] rows low h = h
 starts_below_with bound (share ∷ shares) rows low h = starts_below_with bound shares (journal.with_share share rows) low.1 (below_with bound share rows low.0 h)
 
--- If all rows of `intervals` start before the meter's last entry, a void deletes no row.
+-- If all of a meter's rows of `intervals` start before its last entry, a void (the cancellation of
+-- a reading) deletes none of these rows.
 pub none_gone : (opened last : ℕ) (rows : List Share) → opened < last → AllByRecursion (λ (row : Share). row.start < last) rows → rows_until opened last rows ≡ rows
 none_gone opened last rows later low = cond-false (last == opened) [] (filter (λ (row : Share). nat_lt row.start last) rows) (grind (arith, nat_tests, later)) ∙ all_stay rows low
   where
@@ -96,7 +95,7 @@ pub several_therein : (one two rows : List Share) → AreTherein (one ++ two) ro
 several_therein [] two rows h = (tt, h)
 several_therein (share ∷ one) two rows h = let rest = several_therein one two (journal.without_share share rows) h.1 in ((h.0, rest.0), rest.1)
 
--- ---- a meter's rows of the table `intervals`
+-- Lemmas on subtracting and adding energy in a meter's rows of the table `intervals`.
 
 module _ (meter : List ℕ) where
   at_start : (start : ℕ) (share : Share) → is_at meter start (interval_of meter share) ≡ has_start start share
@@ -155,7 +154,8 @@ module _ (meter : List ℕ) where
     have outs (without_share meter share rows) (journal.without_share share shares) (taken_one share rows shares are) therein.1 (small_less share shares small),
   )
 
-  -- ---- rows of `intervals` that a void deletes
+  -- Lemmas on the rows of `intervals` that are deleted when a meter's last reading is voided
+  -- (cancelled).
 
   module _ (from : ℕ) where
     abbrev early : Interval → Bool
@@ -193,7 +193,8 @@ module _ (meter : List ℕ) where
     | inr off ↦ ap (λ n. filter (λ (row : Share). nat_lt row.start n) shares) (cond-false (last == opened) 0 last off) ∙ sym (cond-false (last == opened) [] (filter (λ (row : Share). nat_lt row.start last) shares) off)
   ]
 
-  -- ---- rows of `intervals` for all other meters, which stay unchanged
+  -- If a reading of one meter is voided (cancelled), the rows of `intervals` for all other meters
+  -- stay unchanged.
 
   module _ (other : List ℕ) (off : bytes_eq meter other ≡ false) where
     apart_from : (i : Interval) → is_of other i ≡ true → is_of meter i ≡ false
@@ -226,7 +227,7 @@ module _ (meter : List ℕ) where
     others_dropped from [] = refl
     others_dropped from (i ∷ rows) = kept_step (is_of meter i) (nat_le from (start_of i)) (is_of other i) i (without_where (starts_from meter from) rows) rows refl refl (others_dropped from rows)
 
--- ---- all changes that a void makes to `intervals`
+-- Lemmas on all changes to `intervals` when a meter's reading is voided (cancelled).
 
 module _ (meter : List ℕ) (A B C : List Share) (from : ℕ) (rows : List Interval) where
   abbrev pub less_rows : List Interval

@@ -1,4 +1,4 @@
--- Proofs that queries in sequence find a meter entry and the entries around it.
+-- Proofs that queries in sequence find a meter entry, and the entries before and after this entry.
 use Rattle.std.proofs.Common.{◌≡◌, ℕ, List, Option, Some, Ok, Err, Result, subst, ◌∙◌}
 use Rattle.sqlite.specs.State.{State}
 use Rattle.store_tables.specs.declared.faults.RowFault.{RowFault}
@@ -17,12 +17,12 @@ use Rattle.office_store.specs.Bookings.MeterState.{IsStanding}
 use Rattle.office_store.specs.Bookings.Places.{Answered}
 use Rattle.office_store.specs.Bookings.Surroundings.{HasEntry, StandsBefore, StandsAfter, FindsEntry, FindsBefore, FindsAfter, AreNear, OpenedAt, IsAround}
 
--- If a query changes nothing, the tables keep every property.
+-- If a query changes nothing, every property that the tables had before the query holds after it.
 pub earlier : (P : Content → Type 0) (content after : Content) → after ≡ content → P after → P content
 earlier P content after same holds = subst P same holds
 
 module _ (meter : List ℕ) where
-  -- True if a query found the entry of a meter at an index, or None if the meter has no such entry,
+  -- True if a query found the meter's entry at an index, or None if the meter has no such entry,
   -- and changed nothing.
   abbrev pub Asks : (place : ℕ) → Option EntryRow → Content → Content → Type 0
   Asks place found = Reported entries entry_columns (IsFound (is_entry meter place) IsRow) found
@@ -33,8 +33,8 @@ module _ (meter : List ℕ) where
       reported_less {D = RowFault} a b found entry (Asks place found) (FindsEntry meter place entry)
       (λ content after (reported : Asks place found content after). record { same = reported.same; there = λ rows has. subst (λ (f : Option EntryRow). IsFound (is_entry meter place) IsRow rows f) is (reported.answers rows has) }) goes
 
-  -- If one query finds the last index before `place` without a void, and another query finds the
-  -- meter entry at this index, the result is this entry.
+  -- Queries for the last index before `place` whose entry is not voided (cancelled), and then for
+  -- the entry at this index, together find this entry.
   pub found_before : (place at : ℕ) (a b c : State) (r : Result EntryRow RowFault) → Goes {X = ℕ} {E = RowFault} a b (Ok at) (Reported voids voided_columns (IsBefore meter place) at)
       → Goes b c r (Answered r (FindsEntry meter at)) → Goes a c r (Answered r (FindsBefore meter place))
   found_before place at a b c (Err e) one two = then_failed a b c at e e (Reported voids voided_columns (IsBefore meter place) at) (Answered (Err e) (FindsEntry meter at)) (Answered (Err e) (FindsBefore meter place)) one two
@@ -60,8 +60,8 @@ module _ (meter : List ℕ) where
         there = earlier (HasEntry meter at found) before mid reported.same asked.answers;
       })
 
-  -- If queries in sequence find a meter entry and its nearest valid entries before and after it,
-  -- they together find the neighbours of the entry.
+  -- Three queries together find a meter entry, and the nearest entries before and after it that are
+  -- not voided (cancelled).
   pub nearby : (place : ℕ) (near : Neighbours) (before : Content) (mid : Content) (late : Content) (after : Content) → FindsEntry meter place near.entry before mid → FindsBefore meter place near.before mid late
       → FindsAfter meter place near.next late after → AreNear meter place near before after
   nearby place near before mid late after entry lower higher = record {
@@ -79,8 +79,8 @@ module _ (meter : List ℕ) where
   standing_later : (standing : Standing) (content mid after : Content) → after ≡ mid → IsStanding meter standing content mid → IsStanding meter standing content after
   standing_later standing content mid after same is = record { same = same ∙ is.same; following = is.following; last = is.last; range = is.range }
 
-  -- If queries in sequence find a meter's state, the time of its opening, an entry and its
-  -- neighbours, they together find all data that a void needs.
+  -- Queries for a meter's state, the time of its first entry, and an entry with its neighbours find
+  -- all data for voiding (cancelling) the entry.
   pub around : (place : ℕ) (found : Surroundings) (before : Content) (mid : Content) (late : Content) (after : Content) → IsStanding meter found.standing before mid → OpenedAt meter found.opened mid late
       → AreNear meter place found.near late after → IsAround meter place found before after
   around place found before mid late after standing opened near = record {

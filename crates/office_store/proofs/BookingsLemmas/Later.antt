@@ -1,5 +1,5 @@
--- Proofs that the entry after a voided entry is at most as late as the last timestamp of the
--- meter's counter.
+-- Proofs that the entry after a voided (cancelled) entry is at most as late as the last timestamp
+-- of the meter's counter.
 use Rattle.std.proofs.Common.{◌≡◌, ◌≤◌, ◌<◌, ℕ, ◌==◌, Bool, true, false, cond, inl, inr, List, [], ◌∷◌, Option, Some, None, option_map, refl, sym, ap, subst, ◌∙◌, arith}
 use Rattle.std.specs.Option.{option_or}
 use Rattle.std.specs.List.{AllByRecursion, Contains}
@@ -27,8 +27,8 @@ module _ (range : ℕ) (opening : Last) where
   abbrev at_end : List EntryRow → ℕ
   at_end rows = (last_of opening (entries_in rows)).at
 
-  -- If each entry of a journal may follow the entry before it, the same holds without the latest
-  -- row.
+  -- If each entry in a meter's history may follow the entry before it, the same holds for the
+  -- history without its latest row.
   follow_tail : (row : EntryRow) (rows : List EntryRow) (stands : Bool) → row.stands ≡ stands → AllFollow range opening (entries_in (row ∷ rows)) → AllFollow range opening (entries_in rows)
   follow_tail row rows true is h = (subst (AllFollow range opening) (entries_standing row rows is) h).1
   follow_tail row rows false is h = subst (AllFollow range opening) (entries_struck row rows is) h
@@ -45,8 +45,8 @@ module _ (range : ℕ) (opening : Last) where
   begins_first (row ∷ rows) h =
       let rest = begins_first rows (follow_tail row rows row.stands refl h) in let more = goes_on row rows row.stands refl h in omega (arith, rest, more)
 
-  -- True if the next entry is later than the meter's opening, and no later than the counter's last
-  -- timestamp.
+  -- True if an entry is later than the meter's opening (its first entry), and no later than the
+  -- last timestamp of the meter's counter.
   pub record LiesBetween (next : EntryRow) (rows : List EntryRow) : Type 0 where
     pub later : opening.at < moment_of next.entry
     pub earlier : moment_of next.entry ≤ at_end rows
@@ -84,7 +84,7 @@ module _ (range : ℕ) (opening : Last) where
         seen_past row rows it.0.next next (λ n e. next_lies place rows it.0 n it.1 e (follow_tail row rows row.stands refl h)) (sym it.2 ∙ is) h
   ]
 
--- ---- the quarter hours of a step, which start before the step's end
+-- All quarter hours with energy between two meter entries start before the second entry.
 
 all_starts : (shares : List Share) (till : ℕ) → ((start : ℕ) → Contains (starts_of shares) start → start < till) → AllByRecursion (λ (s : Share). s.start < till) shares
 all_starts shares till each =

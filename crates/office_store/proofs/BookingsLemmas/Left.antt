@@ -1,4 +1,4 @@
--- Proofs about the tables after a meter entry was voided.
+-- Proofs about the tables after a meter entry was voided (cancelled as false).
 use Rattle.std.proofs.Common.{◌≡◌, ◌≢◌, ℕ, ◌+◌, ◌≤◌, ◌<◌, ◌==◌, ◌&&◌, Bool, true, false, cond, inl, inr, List, [], ◌∷◌, ◌++◌, map, filter, Option, Some, None, option_map, bytes_eq, refl, sym, ap, ap₂, subst, ◌∙◌, IsPermutation, arith}
 use Rattle.std.specs.Prelude.{nat_lt, is_some, is_none}
 use Rattle.std.specs.List.{AllByRecursion}
@@ -68,12 +68,13 @@ use Rattle.office_store.proofs.BookingsLemmas.Later.{next_lies, shares_begin}
 use Rattle.office_store.proofs.BookingsLemmas.Rolling as rolling
 
 module _ (f : Fact) (facts : List Fact) (meter : List ℕ) (same_found : (m : List ℕ) → opening_of (f ∷ facts) m ≡ opening_of facts m) (spares : SparesOthers f facts meter) where
-  -- ---- the rows of `entries` after a void
+  -- Lemmas on the rows of `entries` after a meter entry was voided (cancelled).
   module _ (o : Opening) (there : opening_of facts meter ≡ Some o) where
     own_entries : (g : List Fact) → opening_of g meter ≡ Some o → entries_of g meter ≡ entered_rows o (rows_of g o)
     own_entries g found = ap (entries_at g) found
 
-    -- If no entry follows the voided entry, a void changes no row of `entries`.
+    -- If no entry follows the voided (cancelled) entry of a meter, voiding it changes no row of
+    -- `entries`.
     pub entries_kept : (content after : Content) → entered_rows o (rows_of (f ∷ facts) o) ≡ entered_rows o (rows_of facts o) → Edits entry_tree.entries entry_columns (λ rows. rows) content after
         → AreEntries facts content → AreEntries (f ∷ facts) after
     entries_kept content after are e a = record {
@@ -88,7 +89,8 @@ module _ (f : Fact) (facts : List Fact) (meter : List ℕ) (same_found : (m : Li
         own : entries_of facts meter ≡ entries_of (f ∷ facts) meter
         own = own_entries facts there ∙ sym are ∙ sym (own_entries (f ∷ facts) (same_found meter ∙ there))
 
-    -- If a meter entry follows the voided entry, a void changes only the row of the next entry.
+    -- If a meter entry follows the voided (cancelled) entry, voiding changes only this next entry's
+    -- row of `entries`.
     module _ (place rolls : ℕ) where
       abbrev edit : Entered → Entered
       edit e = cond (is_entry meter place e) (with_rollovers rolls e) e
@@ -135,12 +137,10 @@ map_same : {X : Type 0} (xs : List X) → map (λ x. x) xs ≡ xs
 map_same [] = refl
 map_same (x ∷ xs) = ap (λ l. x ∷ l) (map_same xs)
 
--- The row of an entry, with new rollovers if it is the meter's entry at index `place`, and
--- otherwise unchanged.
+-- The row of an entry. If the entry is the meter's entry at index `place`, the row has a new number
+-- of counter rollovers.
 abbrev edited : (meter : List ℕ) → (place rolls : ℕ) → Entered → Entered
 edited meter place rolls e = cond (is_entry meter place e) (with_rollovers rolls e) e
-
--- ---- the energy by quarter hours that a void subtracts and adds
 
 abbrev pub next_out : Option Rejoined → List Share
 next_out None = []
@@ -150,16 +150,16 @@ abbrev pub next_put : Option Rejoined → List Share
 next_put None = []
 next_put (Some joined) = shares_of joined.put
 
--- True if the next valid entry after a voided entry has the rollovers that are counted from the
--- entry before the voided entry. None means no next entry.
+-- True if the entry after a voided (cancelled) entry has the counter rollovers since the entry
+-- before the voided entry. None means that no entry follows.
 abbrev pub HasRolls : (opening : Last) → Around → Option Rejoined → Type 0
 HasRolls opening around None = around.next ≡ None
 HasRolls opening around (Some joined) =
     (next : EntryRow) × (around.next ≡ Some next)
     × (joined.rollover ≡ record { place = next.place; rolls = rolls_of (with_rolls (last_before opening around) next.entry) })
 
--- True if a correction (the changes that a void makes) has exactly the changes that the records
--- require.
+-- True if a correction (the changes that voiding a meter entry makes) has exactly the changes that
+-- the records require.
 pub record IsLeft (facts : List Fact) (o : Opening) (place : ℕ) (made : Correction) : Type 0 where
   pub around : Around
   pub there : row_at place (rows_of facts o) ≡ Some around
@@ -172,8 +172,6 @@ pub record IsLeft (facts : List Fact) (o : Opening) (place : ℕ) (made : Correc
   pub sum : total + energy_out made.out made.next ≡ (installation_of facts o).total + energy_put made.next
   pub last : made.last ≡ stands_at (cond (is_none made.next) (last_before (opened o) around) (installation_of facts o).last) total
   pub from : made.from ≡ gone_from o.at made.last.moment
-
--- ---- the rows of `intervals` after a void
 
 -- True if the energy up to the next meter entry may be added to `intervals`: no row then exceeds
 -- the greatest total of a meter.
@@ -206,8 +204,8 @@ within_sum n (row ∷ rows) h =
     let parts = sum_by-cons (λ (row : Share). row.mwh) row rows in
     (omega (arith, h, parts), within_sum n rows (omega (arith, h, parts)))
 
--- True if a step (the energy between two meter entries) has a positive length and ends at `bound`
--- or earlier.
+-- True if the time between two meter entries is positive, and the second entry is at `bound` or
+-- earlier.
 abbrev IsBefore : ℕ → Step → Type 0
 IsBefore bound step = (step.from < step.till) × (step.till ≤ bound)
 
@@ -275,7 +273,7 @@ module _ (v : VoidedEntry) (facts : List Fact) (lawful : AreLawful (fact.Void v 
   voided_so : IsVoided (installed o) lines v.place around
   voided_so = change (installed o) lines v.place around begun (fits, fitting) left.there
 
-  -- ---- the state and the energy of the meter after a void
+  -- Lemmas on a meter's state and energy after one of its entries was voided (cancelled).
 
   stands_by : (next : Option Rejoined) (l : Last) → HasRolls (opened o) around next → cond (is_none next) last l ≡ cond (is_some around.next) l last
   stands_by None l none = sym (ap (λ (n : Option EntryRow). cond (is_some n) l last) none)
@@ -300,7 +298,7 @@ module _ (v : VoidedEntry) (facts : List Fact) (lawful : AreLawful (fact.Void v 
       ap (λ ls. installed_as place (installation_by o ls)) line_is
       ∙ ap (λ (l : LastRow). settled l false (installed_row facts place o)) (sym last_is)
 
-  -- ---- the entries of the meter after a void
+  -- Lemmas on a meter's rows of `entries` after one of its entries was voided (cancelled).
 
   numbered : AreNumbered rows
   numbered = (stand (installed o) lines begun fitting).places
@@ -348,7 +346,8 @@ module _ (v : VoidedEntry) (facts : List Fact) (lawful : AreLawful (fact.Void v 
       entry_rolled f facts v.meter same_found spares o there joined.rollover.place joined.rollover.rolls content after
       (ap (entered_rows o) rows_are ∙ (ap (λ (n : Option EntryRow). entered_rows o (map (changed_by v.place n last) rows)) next_is ∙ (rolled_rows ∙ same_edit))) e a
 
-  -- ---- the meter's rows of `intervals` after a void
+  -- Lemmas on a meter's rows of `intervals` (energy by quarter hour) after one of its entries was
+  -- voided (cancelled).
   module _ (kept : MetersAreKept) (ranges : InstallationsAreInRange) (lying : RowsLieWithin) (law : SharesAddUp) where
     abbrev old : List Share
     old = rows_of_opening facts o
@@ -383,7 +382,7 @@ module _ (v : VoidedEntry) (facts : List Fact) (lawful : AreLawful (fact.Void v 
         ∙ ap₂ (λ (outs puts : List Share). rows_until o.at ended (with_each puts (without_each outs old))) left.out left.put
         ∙ ap (λ (rest : List Share). rows_until o.at ended (with_each C rest)) (several_taken A B old)
 
-    -- If a meter entry follows the voided entry, a void deletes no row of `intervals`.
+    -- If a meter entry follows the voided (cancelled) entry, voiding deletes no row of `intervals`.
     all_stay : (next : EntryRow) → around.next ≡ Some next → rows_until o.at ended exchanged ≡ exchanged
     all_stay next is =
         let end : ended ≡ (books.last_in (installed o) lines).at = ap (λ (l : Last). l.at) (voided_so.last ∙ ap (λ (n : Option EntryRow). cond (is_some n) (books.last_in (installed o) lines) last) is) in

@@ -1,5 +1,5 @@
--- Proofs about storing one more entry of a meter. The proofs cover the queries, the three writes,
--- and the record that the written rows encode.
+-- Proofs that the queries and the three writes for one more entry of a meter store rows that encode
+-- the record of this entry.
 use Rattle.std.proofs.Common.{◌≡◌, ℕ, ℤ, ◌+◌, Bool, true, false, cond, List, [], ◌∷◌, map, filter, length, Some, Ok, refl, sym, ap, ap₂, subst, ◌∙◌, IsPermutation}
 use Rattle.std.proofs.lemmas.Bool.{cond-true, cond-false}
 use Rattle.sqlite.specs.Order.{Row}
@@ -38,8 +38,8 @@ use Rattle.office_store.specs.declared.bookings.meter_entries.Advance.{Advance}
 use Rattle.office_store.specs.Bookings.Places.{IsSeenIn, StandsThere}
 use Rattle.office_store.specs.Bookings.MeterState.{IsStanding, Advances, EntersEntry, Settles, counter_of, stands_at, settled}
 
--- If three queries find the parts of a meter's state in sequence, they find the state of the meter
--- and change nothing.
+-- If three queries in sequence find the parts of a meter's state, together they find the complete
+-- state and change nothing.
 pub stands : (meter : List ℕ) (it : Standing) (a b c d : Content) → IsNext entry_tree.entries entry_columns (is_of meter) entry_place it.place a b
     → IsSeenIn meter_tree.installations installed_columns (is_meter meter) StandsThere it.last b c → IsSeenIn meter_tree.ranges ranged_columns (is_range_of meter) HasRange it.range c d
     → IsStanding meter it a d
@@ -50,7 +50,7 @@ stands meter it a b c d p q r = record {
   range = λ rows has. r.seen rows (subst (HasRows meter_tree.ranges ranged_columns rows) (sym (q.same ∙ p.same)) has);
 }
 
--- ---- writing the new state of the meter
+-- Lemmas on updating a meter's last entry and total energy in `installations`.
 
 module _ {X : Type 0} (p : X → Bool) (f h : X → X) (keeps : (x : X) → p (f x) ≡ p x) where
   twice_step : (b : Bool) (x : X) → p x ≡ b → cond (p (let y : X = cond b (f x) x in y)) (h (cond b (f x) x)) (cond b (f x) x) ≡ cond b (h (f x)) x
@@ -68,13 +68,11 @@ module _ {X : Type 0} (p : X → Bool) (f h : X → X) (keeps : (x : X) → p (f
     others = λ t off. two.others t off ∙ one.others t off;
   }
 
--- If the entry is a closing, updating the last entry and then marking the meter as closed has the
--- effect of `Settles`.
+-- If an entry closes a meter, updating its last entry and then marking it as closed has the effect
+-- `Settles`: the update of the meter's row.
 pub settles_closed : (meter : List ℕ) (last : LastRow) (content mid after : Content) → Edits meter_tree.installations installed_columns (changed_where (is_meter meter) (moved last)) content mid
     → Edits meter_tree.installations installed_columns (changed_where (is_meter meter) ended) mid after → Settles meter last true content after
 settles_closed meter last content mid after one two = edited_twice (is_meter meter) (moved last) ended (λ i. refl) meter_tree.installations installed_columns content mid after one two
-
--- ---- writing the row of the meter entry
 
 module _ (booked : BookedEntry) (facts : List Fact) (o : Opening) (on : MovesOn booked facts o) (standing : Standing) (advance : Advance) (advances : Advances standing booked.entry advance)
     (last_is : standing.last ≡ last_row (installation_of facts o)) (range_is : standing.range ≡ o.range) where

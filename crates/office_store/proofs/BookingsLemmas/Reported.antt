@@ -1,4 +1,4 @@
--- Proofs that the changes of a void in the tables equal the changes that the records require.
+-- Proofs that voiding (cancelling) a meter entry changes the tables as the records require.
 use Rattle.std.proofs.Common.{◌≡◌, ℕ, ℤ, ◌+◌, ◌≤◌, ◌&&◌, true, false, cond, inl, inr, ◌⊎◌, List, [], ◌∷◌, ◌++◌, map, filter, Option, Some, None, option_map, refl, sym, ap, ap₂, subst, ◌∙◌, IsPermutation, arith, append-nil}
 use Rattle.std.specs.Prelude.{is_none}
 use Rattle.std.specs.List.{AllByRecursion}
@@ -57,7 +57,7 @@ use Rattle.office_store.proofs.MeteringLemmas.Around.{AtRow, IsNextRow, AreStruc
 use Rattle.office_store.proofs.BookingsLemmas.Left.{HasRolls, IsLeft, next_out, next_put}
 use Rattle.office_store.proofs.BookingsLemmas.Rolling as rolling
 
--- ---- a reading and its row of `entries`
+-- Lemmas on a reading of a meter and its row of `entries`.
 
 read_back : (k : EntryKind) (e : Entry) → is_read k e ≡ true → entry.Step (moment_of e) (raw_of e) (rolls_of e) ≡ e
 read_back k e is = by_read (λ k e. entry.Step (moment_of e) (raw_of e) (rolls_of e) ≡ e) (λ at raw rolls. refl) k e is
@@ -68,12 +68,10 @@ read_shape k e is = by_read HasShape (λ at raw rolls. tt) k e is
 read_kind : (k : EntryKind) (e : Entry) → is_read k e ≡ true → is_reading k ≡ true
 read_kind k e is = by_read (λ k e. is_reading k ≡ true) (λ at raw rolls. refl) k e is
 
--- If a journal entry is read from a row of `entries`, it equals the recorded entry.
+-- If an entry of a reading is read from its row of `entries`, it equals the recorded entry.
 reported_entry : (row : stored.EntryRow) (e : Entry) (sf : ℤ) (is : EntryRow) → IsReadingOf row e → row ≡ entry_row sf is → is_read is.kind is.entry ≡ true → e ≡ is.entry
 reported_entry row e sf is reading row_is read =
     reading.step ∙ ap (λ (r : stored.EntryRow). entry.Step r.moment r.raw r.rolls) row_is ∙ read_back is.kind is.entry read
-
--- ---- the steps that a void removes and adds
 
 one_energy : (s : Step) → energy_in (s ∷ []) ≡ s.mwh
 one_energy s = let parts = sum_by-cons (λ (x : Step). x.mwh) s [] in omega (arith, parts)
@@ -87,8 +85,8 @@ one_shares s = append-nil (shares_of s)
 two_shares : (s t : Step) → all_shares (s ∷ t ∷ []) ≡ shares_of s ++ shares_of t
 two_shares s t = ap (λ (l : List Share). shares_of s ++ l) (append-nil (shares_of t))
 
--- True if the new rollovers of the next meter entry, and the energies that the void removes and
--- adds, agree with the records.
+-- True if the next entry's new counter rollovers, and the energies that voiding (cancelling) an
+-- entry removes and adds, agree with the records.
 record NextLeft (o : Opening) (around : Around) (out : Step) (next : Option Rejoined) : Type 0 where
   rolls : HasRolls (opened o) around next
   outs : all_shares (steps_out (installed o) around) ≡ next_out next ++ shares_of out
@@ -135,7 +133,7 @@ module _ (o : Opening) (around : Around) (out : Step) where
         come = ap energy_in write_is ∙ (one_energy come ∙ ap (λ (s : Step). s.mwh) (sym puts));
       }
 
--- ---- all changes that a void makes to `intervals`
+-- Lemmas on all changes that voiding (cancelling) a meter entry makes to `intervals`.
 
 module _ (v : VoidedEntry) (facts : List Fact) (lawful : AreLawful (fact.Void v ∷ facts)) (o : Opening) (there : opening_of facts v.meter ≡ Some o)
     (stand : RowsStand) (change : VoidsChangeTwoRows) (late : 2 ≤ v.place) (zone : List ℕ) (content after_asking : Content) (a : AreOf zone facts content)
@@ -182,8 +180,8 @@ module _ (v : VoidedEntry) (facts : List Fact) (lawful : AreLawful (fact.Void v 
   abbrev before : Last
   before = last_before (opened o) around
 
-  -- The table `voids` has a void for an entry exactly if the meter's journal marks the entry as
-  -- voided.
+  -- The table `voids` has a row for an entry exactly if the meter's history marks the entry as
+  -- voided (cancelled).
   named_at : (place : ℕ) → names v.meter place vs ≡ is_voided place lines
   named_at place = names_are facts v.meter place ∙ ap (λ m. is_voided place (journal_of facts m)) (sym name)
 

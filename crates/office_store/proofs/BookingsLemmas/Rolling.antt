@@ -1,4 +1,4 @@
--- Proofs about the rows of a meter's entries after one entry was voided.
+-- Proofs about the rows of a meter's entries after one entry was voided (cancelled).
 use Rattle.std.proofs.Common.{◌≡◌, ℕ, ℤ, ◌+◌, ◌≤◌, ◌<◌, ◌==◌, ◌&&◌, Bool, true, false, cond, inl, inr, List, [], ◌∷◌, map, length, Option, Some, None, bytes_eq, option_map, refl, sym, ap, ap₂, subst, ◌∙◌, arith, eq-eqb, eqb-true, ne_eqb}
 use Rattle.std.specs.List.{AllByRecursion}
 use Rattle.std.specs.Option.{option_or}
@@ -23,10 +23,8 @@ use Rattle.store_tables.specs.Entries.Rows.{Entered, is_entry, rolled as with_ro
 use Rattle.office_store.specs.Rows.{rolls_of, entry_row, entered, opening_row, scale_after, entered_rows}
 use Rattle.office_store.proofs.MeteringLemmas.Shapes.{IsBelow, below, FoundThere, found_rest, found_there}
 
--- ---- the next meter entry of a journal that is not voided
-
--- True if the next valid entry is the only entry at its index, and its index is greater than
--- `place`.
+-- True if the next entry that is not voided (cancelled) is the only entry at its index, and its
+-- index is greater than `place`.
 pub record IsNextThere (place : ℕ) (next : EntryRow) (rows : List EntryRow) : Type 0 where
   pub each : AllByRecursion (FoundThere next.place next) rows
   pub stands : next.stands ≡ true
@@ -38,7 +36,8 @@ stands_if : (b : Bool) (row next : EntryRow) → row.stands ≡ b → (let o : O
 stands_if true row next is h = (is, same_Some row next h)
 stands_if false row next is h = absurd (let e = h in cc)
 
--- If a row is added to a journal, the next meter entry that is not voided keeps its properties.
+-- If a row is added to a meter's history, the properties of the next entry that is not voided
+-- (cancelled) still hold.
 past : (place : ℕ) (row : EntryRow) (rows : List EntryRow) (o : Option EntryRow) (next : EntryRow) → AreNumbered (row ∷ rows) → place ≤ length rows + 1
     → ((n : EntryRow) → o ≡ Some n → IsNextThere place n rows) → option_or o (if_standing row) ≡ Some next → IsNextThere place next (row ∷ rows)
 past place row rows (Some m) next numbered low before whole =
@@ -82,7 +81,7 @@ next_there place (row ∷ rows) around next numbered h is = elim (cases_Bool (ro
       (ap (λ (a : Around). a.next) passing ∙ is)
 ]
 
--- ---- the counter's scale factor after a meter's entries
+-- Lemmas on the counter's scale factor after a list of meter entries.
 
 sf_kept : (l m : Last) (e : Entry) → l.sf ≡ m.sf → (after l e).sf ≡ (after m e).sf
 sf_kept l m (entry.Step at raw rolls) is = is
@@ -100,7 +99,8 @@ sf_read l kind.Closing (entry.Change at before new sf) is = absurd (cc)
 sf_read l kind.Reset (entry.Change at before new sf) is = absurd (cc)
 sf_read l kind.Rescale (entry.Change at before new sf) is = absurd (cc)
 
--- If a journal row has the index of the voided meter entry, the void marks this row as voided.
+-- If a row in a meter's history has the index of the entry to void (cancel), voiding marks this row
+-- as voided.
 at_void : (place : ℕ) (next : Option EntryRow) (last : Last) (row : EntryRow) → (row.place == place) ≡ true → changed_by place next last row ≡ struck row
 at_void place next last row at = cond-true (row.place == place) (struck row) (cond (is_next next row) (rolled last row) row) at
 
@@ -111,8 +111,8 @@ module _ (o : Opening) where
   abbrev stood : List EntryRow → Last
   stood rows = last_of (opened o) (entries_in rows)
 
-  -- If a meter entry is replaced by an entry with the same scale factor, the scale factor after the
-  -- journal stays the same.
+  -- If an entry of a meter is replaced by an entry with the same scale factor, the scale factor
+  -- after all entries stays the same.
   same_scale : (b : Bool) (row now : EntryRow) (rows rest : List EntryRow) → row.stands ≡ b → now.stands ≡ b → ((l : Last) → (after l now.entry).sf ≡ (after l row.entry).sf)
       → scale_after o rest ≡ scale_after o rows → scale_after o (now ∷ rest) ≡ scale_after o (row ∷ rows)
   same_scale true row now rows rest was is keeps more =
@@ -121,8 +121,8 @@ module _ (o : Opening) where
   same_scale false row now rows rest was is keeps more =
       ap (λ es. (last_of (opened o) es).sf) (entries_struck now rest is) ∙ more ∙ sym (ap (λ es. (last_of (opened o) es).sf) (entries_struck row rows was))
 
-  -- If a reading is voided, the scale factor after the journal stays the same, because readings do
-  -- not set the scale factor.
+  -- If a reading is voided (cancelled), the scale factor after all meter entries stays the same,
+  -- because readings do not set the scale factor.
   struck_scale : (b : Bool) (row : EntryRow) (rows rest : List EntryRow) → row.stands ≡ b → is_read row.kind row.entry ≡ true
       → scale_after o rest ≡ scale_after o rows → scale_after o (struck row ∷ rest) ≡ scale_after o (row ∷ rows)
   struck_scale true row rows rest was read more =
@@ -134,7 +134,8 @@ module _ (o : Opening) where
   rolled_scale true last row rows rest more = same_scale row.stands row (record row { entry = with_rolls last row.entry }) rows rest refl refl (λ l. sf_rolled last l row.entry) more
   rolled_scale false last row rows rest more = same_scale row.stands row row rows rest refl refl (λ l. refl) more
 
-  -- True if a row with the index of the voided entry is a reading.
+  -- True if a row is a reading, provided that it has the index `place` of the voided (cancelled)
+  -- entry.
   abbrev pub IsRead : (place : ℕ) → EntryRow → Type 0
   IsRead place row = row.place ≡ place → is_read row.kind row.entry ≡ true
 
@@ -156,9 +157,10 @@ module _ (o : Opening) where
   same_scales place next last (row ∷ rows) h =
       changed_scale (row.place == place) place next last row rows (map (changed_by place next last) rows) refl h.0 (same_scales place next last rows h.1)
 
-  -- ---- the rows of `entries` after a void
+  -- Lemmas on the rows of `entries` after a meter entry was voided (cancelled).
 
-  -- The edit of `entries` changes each row as the void changes its journal entry.
+  -- When an entry is voided (cancelled), each row of `entries` changes as the corresponding row of
+  -- the meter's history.
   module _ (place : ℕ) (next : Option EntryRow) (last : Last) (edit : Entered → Entered) where
     abbrev pub IsEdited : EntryRow → Type 0
     IsEdited row = (s : ℤ) → entered o.meter (entry_row s (changed_by place next last row)) ≡ edit (entered o.meter (entry_row s row))
@@ -171,7 +173,8 @@ module _ (o : Opening) where
         let scale : scale_after o (ch row ∷ map ch rows) ≡ scale_after o (row ∷ rows) = same_scales place next last (row ∷ rows) h in
         ap₂ ◌∷◌ (ap (λ s. entered o.meter (entry_row s (ch row))) scale ∙ e.0 (scale_after o (row ∷ rows))) (all_edited begin rows h.1 e.1)
 
-  -- If an entry is marked as voided in the journal, its row of `entries` stays unchanged.
+  -- If an entry is marked as voided (cancelled) in the meter's history, its row of `entries` stays
+  -- unchanged.
   struck_or_not : (b : Bool) (last : Last) (row : EntryRow) (s : ℤ) → entry_row s (cond b (struck row) row) ≡ entry_row s row
   struck_or_not true last row s = refl
   struck_or_not false last row s = refl
@@ -179,7 +182,8 @@ module _ (o : Opening) where
   pub none_next : (place : ℕ) (last : Last) (row : EntryRow) → IsEdited place None last (λ e. e) row
   none_next place last row s = ap (entered o.meter) (struck_or_not (row.place == place) last row s)
 
-  -- If a next meter entry exists, a void changes only the row of this entry.
+  -- If an entry follows the voided (cancelled) entry of a meter, voiding changes only the row of
+  -- this next entry in `entries`.
   module _ (place : ℕ) (next : EntryRow) (last : Last) (following : place < next.place) (stands : next.stands ≡ true) (read : is_read next.kind next.entry ≡ true) where
     abbrev pub rolls : ℕ
     rolls = rolls_of (with_rolls last next.entry)

@@ -28,7 +28,8 @@ module _ {X : Type 0} (passes : X → Bool) (shown : X → Row) where
   first_shown row items [] is e = absurd (let f = sym is ∙ ap (λ rs. slice_get rs 0) e in cc)
   first_shown row items (x ∷ found) is e = (x, refl, (let f : Some row ≡ Some (shown x) = sym is ∙ ap (λ rs. slice_get rs 0) e in cc))
 
-  -- If the query of a look-up returns a row, the look-up's answer follows from this row.
+  -- If the query of a look-up (a function that finds one record) returns a row, the function's
+  -- answer follows from this row.
   pub seen_reported : {S A B Q : Type 0} (g : Ghosts S) (old new : Held S) (tree : ℕ) (columns : X → Row) (rows : Q) (items : List Row) (row : Row) (a : A) (b : B)
       (IsRead : X → A → Type 0) (IsSound : X → Type 0) (IsSeen : X → B → Type 0) → ((x : X) → IsRead x a → IsSeen x b)
       → AsksInside {X = Q} {E = Error} g old new (Ok rows) → ReportsAnswer g old new tree columns (Ok rows) (λ xs a. ShowsFirst passes AnyOrder shown xs items)
@@ -45,8 +46,8 @@ module _ {X : Type 0} (passes : X → Bool) (shown : X → Row) where
       })
       (of_answer g old new tree columns (λ xs a. ShowsFirst passes AnyOrder shown xs items) rows asks reports)
 
-  -- If the query of a look-up returns a row, the look-up's answer is the value that the reader
-  -- returns for this row.
+  -- If the query of a look-up (a function that finds one record) returns a row, the reader's value
+  -- of this row is the answer.
   pub read_reported : {S A Q : Type 0} (g : Ghosts S) (old new : Held S) (tree : ℕ) (columns : X → Row) (rows : Q) (items : List Row) (row : Row) (r : Result A RowFault)
       (IsSeen : X → A → Type 0) (IsSound : X → Type 0)
       → AsksInside {X = Q} {E = Error} g old new (Ok rows) → ReportsAnswer g old new tree columns (Ok rows) (λ xs a. ShowsFirst passes AnyOrder shown xs items)

@@ -1,4 +1,4 @@
--- Proofs that the tables encode the record of a void.
+-- Proofs that the tables encode the record of a void, the cancellation of a false meter reading.
 use Rattle.std.proofs.Common.{◌≡◌, ◌≢◌, ◌≤◌, ℕ, List, [], ◌∷◌, map, Some, false, refl, sym, subst, ◌∙◌, arith}
 use Rattle.interval_core.specs.Account.{SharesAddUp}
 use Rattle.meter_journal.specs.Changes.{RowsLieWithin}
@@ -34,8 +34,8 @@ use Rattle.office_store.specs.declared.bookings.surroundings.Surroundings.{Surro
 use Rattle.office_store.proofs.BookingsLemmas.Left.{IsLeft, spares, row_changed, entries_after, intervals_after, energy_others}
 use Rattle.office_store.proofs.BookingsLemmas.Reported.{is_left}
 
--- After the row of a void is inserted and the void's changes are written, the tables encode the
--- record of the void.
+-- After the row of a void (the cancellation of a reading) and the resulting changes are written,
+-- the tables encode the record of the void.
 void_recorded : OtherMetersStay → MetersAreKept → InstallationsAreInRange → RowsStand → RowsLieWithin → SharesAddUp → VoidsChangeTwoRows → (v : VoidedEntry) (found : Surroundings) (made : Correction) → 2 ≤ v.place → Corrects found made
     → (before mid after : Content) → IsAround v.meter v.place found before mid → EntersVoid v.meter v.place v.at made mid after → Records (fact.Void v) before after
 void_recorded others kept_law ranges stand lying law change v found made late corrects before mid after at enters zone facts was lawful =
@@ -81,7 +81,8 @@ void_recorded others kept_law ranges stand lying law change v found made late co
       replies = stay poll_tree.replies reply_columns (map kept (replies_in facts)) mid after (far 16 (λ is. omega (arith, is)) (λ is. omega (arith, is)) (λ is. omega (arith, is)) (λ is. omega (arith, is))) a.replies;
     }
 
--- If the calls that write a void succeed, the tables encode the record of the void.
+-- If the calls that void (cancel) a meter reading succeed, the tables encode the record of the
+-- cancellation.
 pub void_entered : OtherMetersStay → MetersAreKept → InstallationsAreInRange → RowsStand → RowsLieWithin → SharesAddUp → VoidsChangeTwoRows → (v : VoidedEntry) (meter : List ℕ) (found : Surroundings) (made : Correction) → 2 ≤ v.place → meter ≡ v.meter
     → Corrects found made → (before mid after : Content) → IsAround meter v.place found before mid → EntersVoid meter v.place v.at made mid after → Records (fact.Void v) before after
 void_entered others kept_law ranges stand lying law change v meter found made late meter_is corrects before mid after at enters =

@@ -1,4 +1,4 @@
--- Proofs about the sequence of calls that write a void.
+-- Proofs about the sequence of database calls that void (cancel) a meter reading.
 use Rattle.std.proofs.Common.{◌≡◌, ℕ, List, Option, Some, None, Ok, refl, sym, subst}
 use Rattle.sqlite.specs.declared.error.Error.{Error}
 use Rattle.sqlite.specs.State.{State}
@@ -17,7 +17,8 @@ use Rattle.office_store.specs.declared.bookings.corrections.Rejoined.{Rejoined}
 use Rattle.office_store.proofs.BookingsLemmas.Leaving.{completed_alone}
 
 module _ (meter : List ℕ) (next : Option Rejoined) where
-  -- If no meter entry follows the voided entry, a void makes no database call to set rollovers.
+  -- If no meter entry follows the voided (cancelled) reading, voiding makes no database call to set
+  -- the next entry's counter rollovers.
   pub none_rolled : (a : State) → next ≡ None → Goes {X = Unit {0}} {E = RowFault} a a (Ok tt) (RollsNext meter next)
   none_rolled a is =
       subst (λ (n : Option Rejoined). Goes {X = Unit {0}} {E = RowFault} a a (Ok tt) (RollsNext meter n)) (sym is)
@@ -29,8 +30,8 @@ module _ (meter : List ℕ) (next : Option Rejoined) where
   pub none_put : (a : State) → next ≡ None → Goes {X = Unit {0}} {E = RowFault} a a (Ok tt) (PutsNext meter next)
   none_put a is = subst (λ (n : Option Rejoined). Goes {X = Unit {0}} {E = RowFault} a a (Ok tt) (PutsNext meter n)) (sym is) (nothing_done a tt (PutsNext meter None) (λ content. refl))
 
-  -- If a meter entry follows the voided entry, a void makes one database call to set the rollovers
-  -- of this entry.
+  -- If a meter entry follows the voided (cancelled) reading, voiding makes one database call to set
+  -- the counter rollovers of this next entry.
   pub one_rolled : (a b : State) (n : ℕ) (joined : Rejoined) → next ≡ Some joined
       → Steps {X = ℕ} {E = Error} a b (Ok n) (Edits entries entry_columns (changed_where (is_entry meter joined.rollover.place) (rolled joined.rollover.rolls)))
       → Goes {X = Unit {0}} {E = RowFault} a b (Ok tt) (RollsNext meter next)

@@ -1,5 +1,5 @@
--- Proofs about lawful records, each of which the rules accepted: names and numbers are unique, and
--- the tables have a row for each record.
+-- Proofs about records that the rules accepted: names and numbers are unique, and the tables have a
+-- row for each record.
 use Rattle.std.proofs.Common.{◌≡◌, ◌≢◌, ℕ, Ok, Err, string_bytes, ◌+◌, ◌≤◌, ◌<◌, ◌==◌, ◌&&◌, Bool, true, false, cond, not, inl, inr, List, [], ◌∷◌, map, filter, reverse, length, find, Option, Some, None, refl, sym, ap, ap₂, subst, ◌∙◌, IsPermutation, arith, eqb}
 use Rattle.std.specs.List.{AllByRecursion, list_any}
 use Rattle.std.specs.Option.{option_map}
@@ -49,7 +49,7 @@ use Rattle.office_store.proofs.FindingLemmas.ReadRows.{register_found, poll_foun
 use Rattle.store_tables.specs.Failing.{IsRowFault}
 use Rattle.store_tables.proofs.ReadLemmas.{less_sound}
 
--- ---- no duplicates: if no element passes a test, filtering by the test returns no element
+-- If no element of a list passes a test, filtering the list by the test returns an empty list.
 
 pub none_left : {X : Type 0} (p : X → Bool) (xs : List X) → find p xs ≡ None → filter p xs ≡ []
 none_left p [] h = refl
@@ -59,7 +59,8 @@ pub few_step : {X : Type 0} (b : Bool) (x : X) (rest : List X) → (b ≡ true �
 few_step true x rest none few = let e = ap length (none refl) in omega (arith, e)
 few_step false x rest none few = few
 
--- If the rules accepted the records, no two accounting registers have equal names.
+-- If the rules accepted the records, no two accounting registers (named energy counters) have equal
+-- names.
 pub few_registers : (facts : List Fact) (name : List ℕ) → AreLawful facts → length (filter (λ (r : Register). same r.name name) (registers_in facts)) ≤ 1
 few_registers [] name h = omega arith
 few_registers (fact.Device d ∷ facts) name h = few_registers facts name h.1
@@ -124,7 +125,8 @@ few_polls number (p ∷ polls) h =
     (all_weaker _ (λ (q : Poll). (q.number == number) ≡ false) (λ q lt. ne_eqb q.number number (λ e. absurd (omega (arith, lt, e, this)))) polls (below p.number polls h.1 (let n = h.0 in omega (arith, n)))))
     (few_polls number polls h.1)
 
--- ---- the query for devices returns a row for each device, in the order in which they were added
+-- The query for devices returns a row for each device, in the order in which the devices were
+-- added.
 
 pub devices_shown : (facts : List Fact) (rows : List Row) → Shows every (FirstFirst device_place) device_shown (placed added (devices_in facts)) rows
     → rows ≡ map device_shown (reverse (placed added (devices_in facts)))
@@ -139,7 +141,8 @@ devices_read facts vs h =
     (reverse (placed added (devices_in facts))) (reverse (devices_in facts)) vs
     (each_reverse _ (placed added (devices_in facts)) (devices_in facts) (each_placed added (devices_in facts))) h)
 
--- ---- the query for a device's accounting registers returns a row for each of them, in order
+-- The query for a device's accounting registers (named energy counters) returns a row for each of
+-- these registers, in order.
 
 abbrev pub RegisterRowOf : Registered → Register → Type 0
 RegisterRowOf y r = (place : ℕ) × (y ≡ registered place r)
@@ -169,7 +172,7 @@ pub registers_counted : (facts : List Fact) (device : List ℕ) → length (filt
 registers_counted facts device =
     each_length RegisterRowOf _ _ (registers_are facts device) ∙ sym (length-reverse (filter (λ (r : Register). same r.device device) (registers_in facts)))
 
--- ---- the number after the greatest one in the table `polls` is the number of polls plus 1
+-- One more than the greatest number in the table `polls` is the number of recorded polls plus 1.
 
 pub polls_counted : (facts : List Fact) (last : Option ℕ) → AreLawful facts → IsLast every HasNumber poll_number (map started (polls_in facts)) last → next_place last ≡ length (polls_in facts) + 1
 polls_counted facts last lawful h = count (polls_in facts) (numbered facts lawful) h
@@ -214,7 +217,7 @@ pending_read facts vs h =
     each_equal _ vs
     (each_same (λ (y : Started) (p : Poll). y ≡ started p) IsPollOf (λ a b. b ≡ a) (λ y p v is seen. seen p is) (map started (pending_in facts)) (pending_in facts) vs (each_map started (pending_in facts)) h)
 
--- ---- a query by name or number finds the one record that has this name or number
+-- A query by name or number finds the only record that has this name or number.
 
 register_only : (facts : List Fact) (name : List ℕ) (found : Option list_register.Register) → AreLawful facts
     → IsFound (is_register name) IsRegister (placed registered (registers_in facts)) found → IsOnly RegisterRowOf IsRegister (is_register name) (λ (r : Register). same r.name name) (registers_in facts) found
@@ -238,7 +241,7 @@ register_fault facts name row e is h =
     let it = found_sound IsRegister (is_register name) IsReadableRegister (placed registered (registers_in facts)) row h.1 in
     less_sound (HasReadableRegisters facts) (IsReadableRegister it.0) it.2 e (register_found row (Err e) (sym is) it.0 it.1).fault
 
--- ---- at most one row of `polls` has a given number, so a query finds the recorded poll
+-- At most one row of `polls` has a given number, so a query by number finds the recorded poll.
 
 abbrev pub PollRowOf : Started → Poll → Type 0
 PollRowOf y p = y ≡ started p
@@ -281,7 +284,7 @@ no_poll_past facts number lawful past = sym (ap (option_map (poll_row facts)) (n
     none (fact.Outcome e ∷ facts) h = none facts h.1
     none (fact.Reply r ∷ facts) h = none facts h.1
 
--- ---- a query finds the outcome of a poll, because no poll has two outcomes
+-- A query finds the recorded outcome of a poll, because no poll has two outcomes.
 
 abbrev pub EndRowOf : OutcomeRow → EndedPoll → Type 0
 EndRowOf y e = y ≡ outcome_row e

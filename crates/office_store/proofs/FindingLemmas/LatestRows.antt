@@ -1,4 +1,5 @@
--- Proofs that the latest timestamps in the tables equal the latest timestamps of the records.
+-- Proofs that the latest timestamps in the tables equal the latest timestamps of the records that
+-- the tables encode.
 use Rattle.std.proofs.Common.{◌≡◌, ℕ, List, map, Option, unwrap_or, refl, ◌∙◌}
 use Rattle.office_events.specs.declared.facts.Fact.{Fact}
 use Rattle.office_events.specs.declared.facts.HeldReading.{HeldReading}

@@ -1,4 +1,4 @@
--- Proofs about the rows of a device's points and the point list that they encode.
+-- Proofs about the rows of a device's SunSpec points and the point list that these rows encode.
 use Rattle.std.proofs.Common.{◌≡◌, ◌≢◌, ℕ, ◌+◌, ◌≤◌, ◌<◌, ◌==◌, Bool, true, false, ◌&&◌, cond, inl, inr, List, [], ◌∷◌, map, length, get_or, bytes_eq, Option, Some, None, Ok, Err, Result, IsTrue, IsSomeAnd, string_bytes, is_some, refl, sym, ap, ap₂, subst, ◌∙◌, IsPermutation, arith}
 use Rattle.std.specs.List.{AllByRecursion, All, find}
 use Rattle.std.specs.Option.{option_and_then}
@@ -42,7 +42,7 @@ use Rattle.office_store.proofs.FindingLemmas.Each.{each_same, each_equal}
 use Rattle.office_store.proofs.FindingLemmas.Ordered.{Rises, one_order}
 use Rattle.office_store.proofs.FindingLemmas.ReadRows.{fair_if, fair_ok}
 
--- ---- if all points of a list have a property, each row of `points` encodes such a point
+-- If all points of a list have a property, each row of `points` encodes a point with this property.
 
 module _ {X Y : Type 0} (row : ℕ → X → Y) where
   each_on : (P : X → Type 0) (before : ℕ) (xs : List X) → AllByRecursion P xs → AreEach (λ y x. (place : ℕ) × (y ≡ row place x) × P x) (placed_on row before xs) xs
@@ -58,7 +58,7 @@ module _ {X Y : Type 0} (row : ℕ → X → Y) where
     on_rises before [] = tt
     on_rises before (x ∷ xs) = (on_above (key (row (before + 1) x)) (before + 1) xs (let is = keyed (before + 1) x in omega (arith, is)), on_rises (before + 1) xs)
 
--- ---- if a point list obeys the rules, the texts in its rows of `points` can be parsed
+-- If a point list obeys the rules, the texts in its rows of `points` can be parsed.
 
 suits_of : (points : List ListedPoint) (point : ListedPoint) (scale : PointScale) → HasLawfulScale points point scale → Suits point.kind scale
 suits_of points point Unscaled h = tt
@@ -69,7 +69,7 @@ some_there : {X : Type 0} (o : Option X) (P : X → Type 0) → IsSomeAnd o P �
 some_there None P h = absurd h
 some_there (Some x) P h = refl
 
--- If a point's scale names another point, the name is a valid name of a point.
+-- If the scale of a point names another point of the list, this name is a valid point name.
 name_step : (a b : Bool) (p : ListedPoint) (name : List ℕ) (rest : Option ListedPoint) → IsTrue (is_name p.name) → bytes_eq p.name name ≡ b → (is_some rest ≡ true → is_name name ≡ true)
     → is_some (cond (a && b) (Some p) rest) ≡ true → is_name name ≡ true
 name_step true true p name rest named is later h = subst (λ (bytes : List ℕ). is_name bytes ≡ true) ((bytes_eq-Decides p.name name).0 is) named
@@ -92,7 +92,7 @@ all_spelled points l = recursion_from_All IsSpelled points (λ k d below.
           (some_there (scale_point points name) (IsGroup p) (subst (λ (scale : PointScale). HasLawfulScale points p scale) is scaled).1))).0;
     })
 
--- ---- reading one row of `points` returns the point that the row encodes
+-- Reading one row of `points` returns the point that the row encodes.
 
 never : {A : Type 0} (S : Type 0) (Is : A → Type 0) → (S → ⊥) → IsFair S Is (Err Damaged)
 never S Is none = record { read = tt; fault = none }
@@ -134,7 +134,7 @@ point_found a r is x seen =
     subst (IsFair (IsReadablePoint x) (IsPointOf x)) (sym (is ∙ (λ i. point_with (seen.name i) (seen.kind i) (seen.scale i) (seen.row i))))
     (fair_parts x (type_of x.kind) (scale_spelled x.scale) refl refl)
 
--- ---- the query for a device's points returns the rows of its complete point list, in order
+-- The query for a device's points returns the rows of its complete point list, in order.
 
 pub points_shown : (facts : List Fact) (device : List ℕ) (content : Content) (rows : List Row) (a : ArePoints facts content) → Shows (is_point_of device) (FirstFirst point_place) point_shown a.rows rows
     → rows ≡ map point_shown (placed_on (listed device) 0 (points_of facts device))

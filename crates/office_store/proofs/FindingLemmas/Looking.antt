@@ -1,5 +1,5 @@
--- Proofs about a query after `check_open` (which fails if the database was closed), and about
--- several look-ups in sequence.
+-- Proofs about a query after the check that the database is open, and about several queries in
+-- sequence.
 use Rattle.std.proofs.Common.{◌≡◌, ◌⊎◌, inl, inr, ℕ, List, false, Ok, Err, Result, IfOk, IfErr, OnOk, IsErrAnd, IsTrue, refl, sym, subst, ◌∙◌, arith}
 use Rattle.std.specs.List.{AllByRecursion}
 use Rattle.sqlite.specs.Order.{Row}
@@ -21,7 +21,7 @@ use Rattle.office_store.specs.Tables.{AreOf}
 use Rattle.office_store.specs.Holding.{HasFacts, HoldsFacts, OnlyLooks}
 use Rattle.office_store.specs.Finding.Finding.{Finds, OfLawful}
 
--- ---- a look-up changes no record, so a second look-up sees the same records
+-- A look-up (a query for records) changes no record, so a second look-up sees the same records.
 
 module _ {S : Type 0} (g : Ghosts S) (zone : List ℕ) where
   pub holds_on : (old new : Held S) (facts : List Fact) → OnlyLooks g zone old new → HoldsFacts g zone old facts → HoldsFacts g zone new facts
@@ -48,9 +48,11 @@ module _ {S : Type 0} (g : Ghosts S) (zone : List ℕ) where
     goes = λ facts holds clean. still_goes (state g a);
   }
 
--- ---- a query after `check_open` sees the committed rows, and returns the look-up's result
+-- After the check that the database is open succeeded, a query sees the committed rows and returns
+-- the result of the look-up.
 
--- The state of a connection after `check_open` returned Ok. Queries then see the committed rows.
+-- The state of a connection after the check that the database is open succeeded. Queries then see
+-- the committed rows.
 pub record Touched {S : Type 0} (g : Ghosts S) (old mid : Held S) : Type 0 where
   pub mode : mid.in_transaction ≡ false
   pub opened : HasCleanDisk (state g mid) → IsTrue (state g mid).is_open × ((state g mid).now ≡ (state g mid).committed)
@@ -63,8 +65,8 @@ pub record HasSeen {S : Type 0} (g : Ghosts S) (zone : List ℕ) (mid : Held S) 
   pub tables : AreTables (state g mid).now content
   pub are : AreOf zone facts content
 
--- True if the rows of one table determine an answer about the records. If the rows of the records
--- can be read, so can the rows of the table.
+-- True if the rows of one table determine an answer about the records, and the table's rows can be
+-- read whenever the records' rows can.
 pub record IsReported {A X : Type 0} (facts : List Fact) (content : Content) (tree : ℕ) (columns : X → Row) (IsSound : X → Type 0) (Answers : List X → A → Type 0) (Says : List Fact → A → Type 0) (AreSound : List Fact → Type 0) : Type 0 where
   pub rows : List X
   pub there : HasRows tree columns rows content
@@ -93,7 +95,8 @@ module _ {S : Type 0} (g : Ghosts S) (old mid : Held S) where
     goes = λ facts holds clean. went_on (state g old) (state g mid) (λ _. ⊥) clean survives;
   }
 
-  -- If `check_open` fails, the look-up returns its error and runs no query.
+  -- If the check that the database is open fails, the look-up returns the error of the check and
+  -- runs no query.
   pub not_touched : {A : Type 0} (e : Error) (r : Result A RowFault) (Says : List Fact → A → Type 0) (AreSound : List Fact → Type 0)
       → mid.in_transaction ≡ false → (HasCleanDisk (state g mid) → KeepsCommit (state g old) (state g mid)) → Survives (state g old) (state g mid) (λ _. ⊥)
       → (HasCleanDisk (state g mid) → IsStoreError (state g old) (state g mid) e) → IsErrAnd r (λ d. d ≡ Sql e) → Finds g old mid r Says AreSound
@@ -139,14 +142,15 @@ module _ {S : Type 0} (g : Ghosts S) (old mid : Held S) where
                 goes_then (state g old) (state g mid) (state g new) (first.goes facts holds (asks.clean clean)) (went_on (state g mid) (state g new) (λ _. ⊥) clean (asks.survives s.content s.tables));
           }
 
-      -- If a contract permits the fault of the query after `check_open`, it also permits the fault
-      -- for both calls together.
+      -- If a contract permits the error of a query, it permits this error also for a call that
+      -- first checks that the database is open.
       pub since : (zone : List ℕ) (facts : List Fact) → HoldsFacts g zone old facts → HasCleanDisk (state g new) → (Sound : Type 0) (f : RowFault) → IsFault (state g mid) (state g new) Sound f → IsFault (state g old) (state g new) Sound f
       since zone facts holds clean Sound f why =
           let s = seen zone facts holds (asks.clean clean) in
           later_fault (state g old) (state g mid) (state g new) Sound f ((looks_touched zone).goes facts holds (asks.clean clean)) (asks.survives s.content s.tables).counts why
 
-      -- If the query after `check_open` is Ok, its answer is the answer of the look-up.
+      -- If a query returns Ok after the check that the database is open, its answer is the answer
+      -- of the look-up.
       pub asked : {A : Type 0} (a : A) (Says : List Fact → A → Type 0) (AreSound : List Fact → Type 0)
           → (HasCleanDisk (state g new) → (content : Content) → AreTables (state g mid).now content → (zone : List ℕ) (facts : List Fact) → AreOf zone facts content → Says facts a)
           → Finds g old new (Ok a) Says AreSound
@@ -156,7 +160,8 @@ module _ {S : Type 0} (g : Ghosts S) (old mid : Held S) where
         looks = looks_asked;
       }
 
-      -- If the query after `check_open` fails, its error is the fault of the look-up.
+      -- If a query fails after the check that the database is open, the look-up returns the error
+      -- of the query.
       pub not_asked : {A : Type 0} (e : Error) (r : Result A RowFault) (Says : List Fact → A → Type 0) (AreSound : List Fact → Type 0)
           → (HasCleanDisk (state g new) → (content : Content) → AreTables (state g mid).now content → (zone : List ℕ) (facts : List Fact) → AreOf zone facts content → IsStoreError (state g mid) (state g new) e)
           → IsErrAnd r (λ d. d ≡ Sql e) → Finds g old new r Says AreSound
@@ -169,8 +174,8 @@ module _ {S : Type 0} (g : Ghosts S) (old mid : Held S) where
         looks = looks_asked;
       }
 
-    -- If a look-up runs `check_open` and then a query on one table, it satisfies the contract of a
-    -- look-up.
+    -- If a function checks that the database is open and then queries one table, it satisfies the
+    -- contract of a look-up, a query for records.
     pub looked_up : {A X : Type 0} (new : Held S) (tree : ℕ) (columns : X → Row) (IsSound : X → Type 0) (r : Result A RowFault) (Answers : List X → A → Type 0)
         → LooksUp g mid new tree columns IsSound r Answers → (stored : List Fact → List X)
         → ((zone : List ℕ) (facts : List Fact) (content : Content) → AreOf zone facts content → HasRows tree columns (stored facts) content)
@@ -204,7 +209,8 @@ module _ {S : Type 0} (g : Ghosts S) (old mid : Held S) where
       looks = looks_asked new it.asks;
     }
 
-    -- If a look-up runs no query after `check_open`, it satisfies the contract of a look-up.
+    -- If a look-up runs no query after the check that the database is open, it satisfies the
+    -- contract of a look-up.
     pub seen_alone : {A : Type 0} (a : A) (Says : List Fact → A → Type 0) (AreSound : List Fact → Type 0) → ((facts : List Fact) → AreLawful facts → Says facts a) → Finds g old mid (Ok a) Says AreSound
     seen_alone a Says AreSound reports = record {
       answer = λ zone facts holds clean. reports facts (seen zone facts holds clean).are.lawful;

@@ -32,7 +32,7 @@ use Rattle.office_store.specs.Finding.Latest.{greatest, latest_entered}
 use Rattle.office_store.proofs.FindingLemmas.Greatest.{permuted, none_past, at_most, below}
 use Rattle.office_store.proofs.FindingLemmas.Lists.{all_found}
 
--- ---- the timestamps in a meter's journal (its history) are those of the journal's entries
+-- The timestamps in a meter's history are those of its entries.
 
 abbrev moments_in : Journal → List ℕ
 moments_in [] = []
@@ -55,7 +55,7 @@ void_if : (b : Bool) (one other : List EntryRow) (ms : List ℕ) → moments_of 
 void_if true one other ms h k = h
 void_if false one other ms h k = k
 
--- If an entry is voided, the timestamps in the meter's journal (its history) stay unchanged.
+-- If an entry is voided (cancelled), the timestamps in the meter's history stay unchanged.
 void_moments : (opening : Last) (place : ℕ) (rows : List EntryRow) → moments_of (with_void opening place rows) ≡ moments_of rows
 void_moments opening place [] = refl
 void_moments opening place (row ∷ rows) =
@@ -70,8 +70,8 @@ journal_moments opening (Entered k e ∷ lines) = ap (λ ms. moment_of e ∷ ms)
 journal_moments opening (Held reading cause ∷ lines) = journal_moments opening lines
 journal_moments opening (Voided place ∷ lines) = void_moments opening place (rows_of opening lines) ∙ journal_moments opening lines
 
--- ---- if a property holds for all timestamps of a meter's entries, it holds in its rows of
--- `entries`
+-- If a property holds for all timestamps of a meter's entries, it holds for the timestamps in its
+-- rows of `entries`.
 
 module _ (P : ℕ → Type 0) where
   entered_all : (o : Opening) (rows : List EntryRow) → AllByRecursion P (moments_of rows) → P o.at → AllByRecursion (λ e. P (entry_moment e)) (entered_rows o rows)
@@ -90,8 +90,8 @@ module _ (P : ℕ → Type 0) where
   line_out true k e lines h = (λ is. h.0, h.1)
   line_out false k e lines h = (λ is. absurd (let f : false ≡ true = is in cc), h)
 
-  -- If a line of a meter's journal (its history) is a rejected reading or a void, it adds no
-  -- timestamp to those of the meter's entries.
+  -- A rejected reading, or a void (the cancellation of an entry), adds no timestamp to the
+  -- timestamps of a meter's entries.
   other_in : (b : Bool) (line : Line) (lines : Journal) → moments_in (line ∷ lines) ≡ moments_in lines → moments_in (cons_option (cond b (Some line) None) lines) ≡ moments_in lines
   other_in true line lines is = is
   other_in false line lines is = refl
@@ -122,7 +122,7 @@ module _ (P : ℕ → Type 0) where
   journal_back meter (fact.Outcome e ∷ facts) h = journal_back meter facts h
   journal_back meter (fact.Reply r ∷ facts) h = journal_back meter facts h
 
--- ---- the timestamps of all meter entries of the records are those of the meters' journals
+-- The timestamps of all recorded meter entries are the timestamps in the histories of all meters.
 
 some_after : {X : Type 0} (b : Bool) (x : X) (o : Option X) → is_some o ≡ true → is_some (cond b (Some x) o) ≡ true
 some_after true x o h = refl
@@ -155,7 +155,8 @@ module _ (facts : List Fact) (n : ℕ) where
       subst (λ (t : List ℕ). AllByRecursion (λ (b : BookedEntry). same b.meter t ≡ true → Early (moment_of b.entry)) (facts_of.entries_in facts)) (named facts meter o there)
       (journal_back Early o.meter facts (subst (AllByRecursion Early) (journal_moments (opened o) (journal_of facts o.meter)) (entered_back Early o (meters.rows_of facts o) all).0))
 
-  -- No opening or meter entry in the records is later than the latest timestamp in `entries`.
+  -- No meter entry in the records, including the first entry of each meter, is later than the
+  -- latest timestamp in `entries`.
   pub entries_above : AreLawful facts → ((meter : List ℕ) → AllByRecursion (λ e. Early (entry_moment e)) (entries_of facts meter)) → latest_entered facts ≤ n
   entries_above lawful each =
       let es = facts_of.entries_in facts in
@@ -179,12 +180,12 @@ module _ (facts : List Fact) (n : ℕ) where
       (journal_all Early o.meter facts (none_past (λ (b : BookedEntry). moment_of b.entry) (facts_of.entries_in facts) n (omega (arith, h)))))
       (all_found (λ (q : Opening). Early q.at) (λ (q : Opening). same q.meter meter) (openings_in facts) o (none_past (λ (q : Opening). q.at) (openings_in facts) n (omega (arith, h))) there)
 
-  -- The latest timestamp in `entries` is at most the latest timestamp of the openings and meter
-  -- entries in the records.
+  -- The latest timestamp in `entries` is at most the latest timestamp of all meter entries in the
+  -- records, including first entries.
   pub entries_below : (meter : List ℕ) → latest_entered facts ≤ n → AllByRecursion (λ e. Early (entry_moment e)) (entries_of facts meter)
   entries_below meter h = below_found meter (opening_of facts meter) refl h
 
--- ---- the latest timestamp in the table `entries` is the latest of all meters' entries
+-- The latest timestamp in the table `entries` is the latest timestamp of all meters' entries.
 
 all_own : (P : entries.Entered → Type 0) (p : entries.Entered → Bool) (rows : List entries.Entered) → AllByRecursion P (filter p rows) → AllByRecursion (λ e. p e ≡ true → P e) rows
 all_own P p rows h =

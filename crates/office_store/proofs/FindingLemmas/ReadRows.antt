@@ -34,7 +34,8 @@ use Rattle.office_store.specs.Finding.Reading.{device_with, IsDeviceOf, source_f
 use Rattle.office_store.specs.Finding.Sound.{IsReadableDevice, IsReadableRegister, IsReadablePoll}
 use Rattle.office_store.proofs.FindingLemmas.Each.{each_append}
 
--- ---- reading one row: the result has the row's value, or the fault of the row's reader
+-- Lemmas on reading one row: the result is the value that the row encodes, or the error of the
+-- row's reader.
 
 module _ {A B X : Type 0} (row : Row) (shown : X → Row) (Seen : X → A → Type 0) (Is : X → B → Type 0) (S T : X → Type 0) where
   -- If a row can be read, and its value can be converted, the result is the value that the row
@@ -42,7 +43,7 @@ module _ {A B X : Type 0} (row : Row) (shown : X → Row) (Seen : X → A → Ty
   pub reads_then : (a : A) (r : Result B RowFault) → ReadsRow row shown Seen S (Ok a) → ((x : X) → Seen x a → IsFair (T x) (Is x) r) → ReadsRow row shown Is T r
   reads_then a r one fair = record { read = λ x is. (fair x (one.read x is)).read; fault = λ x is. (fair x (one.read x is)).fault }
 
-  -- If a row can't be read, the result is the fault of the row's reader.
+  -- If a row can't be read, the result is the error of the row's reader.
   pub not_read : (e : RowFault) (r : Result B RowFault) → ReadsRow row shown Seen S (Err e) → ((x : X) → T x → S x) → IsErrAnd r (λ d. d ≡ e) → ReadsRow row shown Is T r
   not_read e (Ok b) one sound fails = absurd fails
   not_read e (Err d) one sound fails = record {
@@ -60,7 +61,7 @@ fair_ok Sound Is x is = record { read = is; fault = tt }
 within : (low high n : ℕ) → (low ≤ n) × (n ≤ high) → nat_le low n && nat_le n high ≡ true
 within low high n h = both _ _ (le-leb low n h.0) (le-leb n high h.1)
 
--- ---- reading a row of `devices` returns the device that the row encodes
+-- Reading a row of `devices` returns the device that the row encodes.
 
 device_as : Added → Device
 device_as x = record { name = x.name; unit = x.row.unit; timeout = x.row.timeout; window = x.row.window }
@@ -82,7 +83,8 @@ fair_device x =
 pub device_found : (a : list_device.Device) (r : Result Device RowFault) → r ≡ device_with (string_bytes a.name) a.row → (x : Added) → IsDevice x a → IsFair (IsReadableDevice x) (IsDeviceOf x) r
 device_found a r is x seen = subst (IsFair (IsReadableDevice x) (IsDeviceOf x)) (sym (is ∙ ap₂ device_with seen.name seen.row)) (fair_device x)
 
--- ---- reading a row of `registers` returns the accounting register that the row encodes
+-- Reading a row of `registers` returns the accounting register (a named energy counter) that the
+-- row encodes.
 
 source_back : (s : ScaleSource) → source_from (scale_as s) ≡ s
 source_back (source.Fixed sf) = refl
@@ -110,7 +112,7 @@ pub register_found : (a : list_register.Register) (r : Result Register RowFault)
 register_found a r is x seen =
     subst (IsFair (IsReadableRegister x) (IsRegisterOf x)) (sym (is ∙ (λ i. register_with (seen.name i) (seen.device i) (seen.row i)))) (fair_register x)
 
--- ---- reading a row of `polls` returns the poll that the row encodes
+-- Reading a row of `polls` returns the poll that the row encodes.
 
 span_of : (f : ReadFunction) (a c : ℕ) → 1 ≤ c → c ≤ 125 → a + c ≤ 65536 → ReadSpan
 span_of f a c s w i = record { function = f; address = a; count = c; some = s; few = w; inside = i }
@@ -148,7 +150,7 @@ poll_found a (Ok p) has fair x seen = record {
 }
 poll_found a (Err e) has fair x seen = record { read = tt; fault = subst (IsRowFault (IsReadablePoll x)) (sym fair.0) (λ s. fair.1 (ap is_name seen.device ∙ s.device)) }
 
--- ---- reading several rows one by one returns their values in order
+-- Reading several rows one by one returns their values in order.
 
 at_index : {X : Type 0} (shown : X → Row) (xs : List X) (i : ℕ) (row : Row) → i < length (map shown xs) → row ≡ get_or (map shown xs) i row
     → (x : X) × (row ≡ shown x) × (take (suc i) xs ≡ take i xs ++ x ∷ [])
@@ -165,7 +167,7 @@ at_element shown (x ∷ xs) zero row lt is = (x, is, λ S all. all.0)
 at_element shown (x ∷ xs) (suc i) row lt is = let it = at_element shown xs i row (omega arith) is in (it.0, it.1, λ S all. it.2 S all.1)
 
 module _ {X A : Type 0} (rows : List Row) (shown : X → Row) (Seen : X → A → Type 0) where
-  -- True if `done` has the values of the first `i` rows, in order.
+  -- True if the list `done` has the values of the first `i` rows, in order.
   abbrev pub HasReadSome : ℕ → List A → Type 0
   HasReadSome i done = (xs : List X) → rows ≡ map shown xs → AreEach Seen (take i xs) done
 
@@ -178,7 +180,7 @@ module _ {X A : Type 0} (rows : List Row) (shown : X → Row) (Seen : X → A �
         let it = this_row xs are in
         rw (add-one) (subst (λ l. AreEach Seen l (done ++ a ∷ [])) (sym it.2) (each_append Seen (take i xs) (it.0 ∷ []) done (a ∷ []) (some xs are) (reads.read it.0 it.1, tt)))
 
-    -- If one of several rows can't be read, the result is the fault of this row's reader.
+    -- If one of several rows can't be read, reading all rows returns the error for this row.
     pub unreadable : {T : Type 0} (S : X → Type 0) (items : T → List A) (e : RowFault) (r : Result T RowFault) → ReadsRow row shown Seen S (Err e) → IsErrAnd r (λ d. d ≡ e) → ReadsAll rows shown Seen S items r
     unreadable S items e (Ok v) reads fails = absurd fails
     unreadable S items e (Err d) reads fails = record {
@@ -188,7 +190,7 @@ module _ {X A : Type 0} (rows : List Row) (shown : X → Row) (Seen : X → A �
           subst (IsRowFault (AllByRecursion S xs)) (sym fails) (less_sound (AllByRecursion S xs) (S it.0) (it.2 S) e (reads.fault it.0 it.1));
     }
 
-  -- If each of several rows can be read, the result has the values of all rows.
+  -- If each of several rows can be read, reading all rows returns the values of all rows.
   pub read_all : {T : Type 0} (S : X → Type 0) (items : T → List A) (v : T) (i : ℕ) → i ≡ length rows → HasReadSome i (items v) → ReadsAll rows shown Seen S items (Ok v)
   read_all S items v i end some = record {
     read = λ xs are.

@@ -13,7 +13,7 @@ use Rattle.office_store.specs.Finding.Each.{AreEach}
 use Rattle.office_store.proofs.FindingLemmas.Each.{each_append, each_filter, each_length}
 use Rattle.office_store.proofs.FindingLemmas.Ordered.{Rises, NeverFalls, one_order}
 
--- ---- rows in the order of their keys: reversing a list with falling keys sorts it
+-- Lemmas on rows in the order of their keys: reversing a list with descending keys sorts it.
 
 module _ {X A : Type 0} (Is : X → A → Type 0) where
   pub each_reverse : (xs : List X) (vs : List A) → AreEach Is xs vs → AreEach Is (reverse xs) (reverse vs)
@@ -41,7 +41,7 @@ module _ {X : Type 0} (key : X → ℕ) where
   pub in_turn : (xs found : List X) → Falls xs → IsPermutation xs found → NeverFalls key found → found ≡ reverse xs
   in_turn xs found falls same up = one_order key (reverse xs) found (reverse_rises xs falls) (IsPermutation-trans _ _ _ (IsPermutation-sym _ _ (IsPermutation-reverse xs)) same) up
 
--- ---- rows numbered by index: each row encodes the element at its index
+-- Lemmas on rows that are numbered by index: each row encodes the list element at the row's index.
 
 module _ {X Y : Type 0} (row : ℕ → X → Y) where
   pub each_placed : (xs : List X) → AreEach (λ y x. (place : ℕ) × (y ≡ row place x)) (placed row xs) xs
@@ -57,7 +57,7 @@ module _ {X Y : Type 0} (row : ℕ → X → Y) where
     placed_falls [] = tt
     placed_falls (x ∷ xs) = (few (key (row (length xs + 1) x)) xs (let is = keyed (length xs + 1) x in omega (arith, is)), placed_falls xs)
 
--- ---- if at most one row passes a test, a query returns the element that the row encodes, or None
+-- If at most one row passes a test, a query returns the element that the row encodes, or None.
 
 module _ {X A B : Type 0} (Is : X → A → Type 0) (Seen : X → B → Type 0) (p : X → Bool) (q : A → Bool) where
   -- True if a query found the only element that passes a test, or None because no element passes

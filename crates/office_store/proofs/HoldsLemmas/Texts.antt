@@ -22,7 +22,7 @@ order = (col 1 0, rising) ∷ []
 abbrev pub names : List (List ℕ)
 names = codes "poll" ∷ codes "moment" ∷ codes "raw" ∷ codes "sf" ∷ codes "cause" ∷ []
 
--- ---- the SQL text of `meter_holds`, and what SQLite parses from it
+-- Lemmas on the SQL text of the query `meter_holds`, and what SQLite parses from it.
 
 abbrev pub meter_holds : List ℕ
 meter_holds = codes "SELECT poll, moment, raw, sf, cause FROM holds WHERE meter = ?1 ORDER BY place"
@@ -46,7 +46,7 @@ pub meter_holds_suits : (meter : List ℕ) → Suits books_schema meter_holds (T
 unfolding understood everything
 meter_holds_suits meter = suits_scan 12 meter_holds_tests project order no_limit meter_holds names (Text meter ∷ []) (refl, refl, refl) meter_holds_plain meter_holds_unlisted meter_holds_is refl
 
--- ---- the SQL text of `meter_holds_between`, and what SQLite parses from it
+-- Lemmas on the SQL text of the query `meter_holds_between`, and what SQLite parses from it.
 
 abbrev pub between : List ℕ
 between = codes "SELECT poll, moment, raw, sf, cause FROM holds WHERE meter = ?1 AND moment >= ?2 AND moment < ?3 ORDER BY place"

@@ -1,4 +1,4 @@
--- The rows that the queries on `intervals` and `installations` return.
+-- The rows that the queries on the tables `intervals` and `installations` return.
 use Rattle.std.proofs.Common.{◌≡◌, ◌<◌, ◌≤◌, ◌<ℤ◌, ◌⊎◌, ◌&&◌, nat_lt, inl, inr, pos, ℕ, List, [], ◌∷◌, ◌++◌, map, filter, flat_map, Bool, true, false, bytes_eq, if◌then◌else◌, Ordering, Less, Equal, Greater, is_gt, refl, sym, ap, ap₂, subst, ◌∙◌, arith, IsPermutation}
 use Rattle.std.specs.List.{AllByRecursion, list_all}
 use Rattle.std.specs.Ordering.{ordering_then, int_cmp, MatchOrdering}
@@ -37,13 +37,13 @@ use Rattle.office_store.proofs.IntervalsLemmas.Texts as text
 use Rattle.office_store.proofs.StreamsLemmas.Compared.{all_found, at_least_is, below_is}
 use Rattle.office_store.proofs.StreamsLemmas.Shared.{Reports}
 
--- ---- AND is associative, so the tests of a WHERE clause may be grouped in any way
+-- SQL's AND is associative, so the tests of a WHERE clause may be grouped in any way.
 
 and_first : (a b c : Bool) → a && (b && c) ≡ (a && b) && c
 and_first true b c = refl
 and_first false b c = refl
 
--- ---- the query for a meter's energy returns its rows of `intervals`, ordered by start
+-- The query for a meter's energy returns the meter's rows of `intervals`, ordered by start.
 
 pub of_meter : (meter : List ℕ) (db : Database) (content : Content) (is : List Interval) (rows : List Row) → AreTables db content → HaveIntervals is content
     → IsAnswer (scan 14 text.meter_intervals_tests text.shares_project text.meter_intervals_order no_limit) (overlay db.trees []) (Text meter ∷ []) rows
@@ -68,7 +68,7 @@ of_meter_between meter from till db content is rows has have a =
     db.trees rows is (laid_from false interval_columns (db.trees intervals) (content intervals) is apart.keyed (has.rows intervals there) have) a in
     record { found = it.0; shows = it.2; are = (it.0, it.1, refl); sound = λ sound. all_found IsSoundInterval asked is it.0 it.1.all sound }
 
--- ---- if SQLite sorts rows by two integer columns, the pairs of integers are in order
+-- If SQLite sorts rows by two integer columns, the pairs of integers are in lexicographic order.
 
 ranked : (a b : ℕ) (o p : Ordering) → MatchOrdering o (pos a <ℤ pos b) (pos a ≡ pos b) (pos b <ℤ pos a) → is_gt (ordering_then o p) ≡ false → (a < b) ⊎ ((a ≡ b) × (is_gt p ≡ false))
 ranked a b Less p h le = inl (omega (arith, ints))
@@ -83,7 +83,8 @@ in_both a b c d le =
       | inr same ↦ inr (same.0, in_order c d same.1)
     ]
 
--- ---- the query for an accounting register returns the rows of `intervals` for its meters
+-- The query for an accounting register (a named energy counter) returns the rows of `intervals` for
+-- the register's meters.
 
 map-pairs : {A B C D : Type 0} (f : A → C) (g : B → D) (xs : List A) (ys : List B) → map (λ (p : A × B). (f p.0, g p.1)) (pairs xs ys) ≡ pairs (map f xs) (map g ys)
 map-pairs {A} {B} {C} {D} f g [] ys = refl
@@ -96,7 +97,7 @@ pairs-permutation xs zs ys ws first second =
     IsPermutation-trans _ _ _ (IsPermutation-flat_map (λ x. map (λ y. (x, y)) ys) xs zs first)
     (IsPermutation-flat_map_each (λ x. map (λ y. (x, y)) ys) (λ x. map (λ y. (x, y)) ws) (λ x. IsPermutation-map (λ y. (x, y)) ys ws second) zs)
 
--- True if a list has the energy of the quarter hours in the joined rows that pass a test, in the
+-- True if a list has the energy of the quarter hours in those joined rows that pass a test, in the
 -- order of the rows.
 abbrev AreShown : (passes : Installed × Interval → Bool) → Lying → List Share → Type 0
 AreShown passes lying all =

@@ -22,7 +22,7 @@ use Rattle.office_store.specs.Intervals.Rows.{Interval, interval_columns, is_at,
 use Rattle.office_store.specs.Intervals.StepShares.{raised, with_share, with_shares, AreSmall, EditsIf, BooksShares}
 use Rattle.office_store.proofs.IntervalsLemmas.Kept.{turns_weaker}
 
--- ---- no quarter hour gets more energy than all quarter hours together
+-- No quarter hour gets more energy than all quarter hours together.
 
 within_sum : (shares : List Share) (n : ℕ) → energy_of shares ≤ n → AllByRecursion (λ s. s.mwh ≤ n) shares
 within_sum [] n h = tt
@@ -42,7 +42,7 @@ sound_shares law step forward energy till =
     let sums = within_sum (shares_of step) step.mwh (omega (arith, spread.whole)) in
     all_both _ _ _ (λ s start mwh. record { start = omega (arith, start, till); mwh = omega (arith, mwh, energy) }) (shares_of step) starts sums
 
--- ---- two edits of `intervals` in sequence have the effect of one combined edit
+-- Two edits of `intervals` in sequence have the effect of one combined edit.
 
 edits_then : (May One Two : List Interval → Type 0) (all one two : List Interval → List Interval)
     → ((is : List Interval) → May is → One is × Two (one is) × (two (one is) ≡ all is)) → (x y z : Content) → EditsIf One one x y → EditsIf Two two y z → EditsIf May all x z
@@ -59,7 +59,8 @@ no_edit May content after same = record {
   others = λ t off. ap (λ (f : Content). f t) same;
 }
 
--- ---- adding energy one quarter hour after another has the effect of adding all of it
+-- Adding energy to `intervals` one quarter hour after another has the effect of adding all quarter
+-- hours at once.
 
 raised_small : (meter : List ℕ) (start mwh : ℕ) (is : List Interval) → AreSmall (changed_where (is_at meter start) (raised mwh) is) → AreSmall is
 raised_small meter start mwh [] small = tt
@@ -85,8 +86,6 @@ booked_then meter shares share =
     (λ is small.
     let last = subst AreSmall (sym (with_one_more meter shares share is)) small in
     (small_before meter share (with_shares meter shares is) last, last, with_one_more meter shares share is))
-
--- ---- before the first quarter hour gets energy, the table `intervals` is unchanged
 
 pub nothing_booked : (meter : List ℕ) (a : State) → Steps {X = Unit {0}} {E = Error} a a (Ok tt) (BooksShares meter [])
 nothing_booked meter a = weaker a a (Ok tt) _ _ (turns_weaker _ _ a.now a.now (no_edit AreSmall)) (no_steps a tt)

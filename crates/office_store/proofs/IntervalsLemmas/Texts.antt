@@ -26,7 +26,7 @@ use Rattle.store_tables.proofs.Failures.{Suits, suits_scan}
 use Rattle.store_tables.proofs.Scans.{scan, no_limit, is_param, rising}
 use Rattle.office_store.proofs.StreamsLemmas.Compared.{is_at_least, is_below}
 
--- ---- the SQL text of `add_share`, and what SQLite parses from it
+-- Lemmas on the SQL text of the statement `add_share`, and what SQLite parses from it.
 
 abbrev pub add_share : List ℕ
 add_share = codes "INSERT INTO intervals (meter, start, mwh) VALUES (?1, ?2, ?3) ON CONFLICT (meter, start) DO UPDATE SET mwh = mwh + excluded.mwh"
@@ -55,7 +55,7 @@ pub add_share_plain : IsPlain (understood books_schema add_share)
 unfolding understood everything
 add_share_plain = (refl, refl)
 
--- ---- the SQL text of `insert_row`, and what SQLite parses from it
+-- Lemmas on the SQL text of the statement `insert_row`, and what SQLite parses from it.
 
 abbrev pub insert_row : List ℕ
 insert_row = codes "INSERT INTO intervals (meter, start, mwh) VALUES (?1, ?2, ?3)"
@@ -71,7 +71,7 @@ pub insert_row_plain : IsPlain (understood books_schema insert_row)
 unfolding understood everything
 insert_row_plain = (refl, refl)
 
--- ---- the SQL text of `drop_rows`, and what SQLite parses from it
+-- Lemmas on the SQL text of the statement `drop_rows`, and what SQLite parses from it.
 
 abbrev pub drop_rows : List ℕ
 drop_rows = codes "DELETE FROM intervals WHERE meter = ?1"
@@ -87,7 +87,7 @@ pub drop_rows_plain : IsPlain (understood books_schema drop_rows)
 unfolding understood everything
 drop_rows_plain = (refl, refl)
 
--- ---- the SQL text of `meter_intervals`, and what SQLite parses from it
+-- Lemmas on the SQL text of the query `meter_intervals`, and what SQLite parses from it.
 
 abbrev pub meter_intervals : List ℕ
 meter_intervals = codes "SELECT start, mwh FROM intervals WHERE meter = ?1 ORDER BY start"
@@ -120,7 +120,7 @@ pub meter_intervals_suits : (meter : List ℕ) → Suits books_schema meter_inte
 unfolding understood everything
 meter_intervals_suits meter = suits_scan 14 meter_intervals_tests shares_project meter_intervals_order no_limit meter_intervals names (Text meter ∷ []) (refl, refl, refl) meter_intervals_plain meter_intervals_unlisted meter_intervals_is refl
 
--- ---- the SQL text of `meter_intervals_between`, and what SQLite parses from it
+-- Lemmas on the SQL text of the query `meter_intervals_between`, and what SQLite parses from it.
 
 abbrev pub meter_between : List ℕ
 meter_between = codes "SELECT start, mwh FROM intervals WHERE meter = ?1 AND start >= ?2 AND start < ?3 ORDER BY start"
@@ -145,7 +145,7 @@ unfolding understood everything
 meter_between_suits meter from till =
     suits_scan 14 meter_between_tests shares_project meter_intervals_order no_limit meter_between names (Text meter ∷ Int (pos from) ∷ Int (pos till) ∷ []) (refl, refl, refl) meter_between_plain meter_between_unlisted meter_between_is refl
 
--- ---- the SQL text of `register_intervals`, and what SQLite parses from it
+-- Lemmas on the SQL text of the query `register_intervals`, and what SQLite parses from it.
 
 abbrev pub register_intervals : List ℕ
 register_intervals = codes "SELECT intervals.start, intervals.mwh FROM installations JOIN intervals ON intervals.meter = installations.meter WHERE installations.register = ?1 ORDER BY installations.place, intervals.start"
@@ -159,8 +159,8 @@ register_intervals_project = col 2 2 ∷ col 2 3 ∷ []
 abbrev pub register_intervals_order : List (Term × Key)
 register_intervals_order = (col 1 0, rising) ∷ (col 2 2, rising) ∷ []
 
--- A query that joins `installations` and `intervals` to read the energy of an accounting register.
--- Its rows are ordered by the meter's index, then by start.
+-- A query that joins `installations` and `intervals` to read the energy of an accounting register
+-- (a named energy counter). Its rows are ordered by the meter's index, then by start.
 abbrev pub joined : (tests : List Term) → Query
 joined tests = record {
   from = inner 7 (inner 14 end);
@@ -206,7 +206,7 @@ register_intervals_suits register = record {
   flows = join_flows (Text register ∷ []);
 }
 
--- ---- the SQL text of `register_intervals_between`, and what SQLite parses from it
+-- Lemmas on the SQL text of the query `register_intervals_between`, and what SQLite parses from it.
 
 abbrev pub register_between : List ℕ
 register_between = codes "SELECT intervals.start, intervals.mwh FROM installations JOIN intervals ON intervals.meter = installations.meter WHERE installations.register = ?1 AND intervals.start >= ?2 AND intervals.start < ?3 ORDER BY installations.place, intervals.start"

@@ -58,7 +58,7 @@ use Rattle.office_store.specs.Intervals.Trees.{intervals}
 use Rattle.office_store.proofs.IntervalsLemmas.Kept.{Kept, kept_columns, is_kept, adds, upserted}
 use Rattle.office_store.proofs.IntervalsLemmas.Texts as text
 
--- ---- SQL comparisons in an upsert agree with those of Booleans and integers
+-- The comparisons of SQL values in an upsert agree with comparisons of Booleans and integers.
 
 truth_back : (b : Bool) → is_true (from_truth (Some b)) ≡ b
 truth_back true = refl
@@ -93,7 +93,7 @@ differ_is : (a b : ℤ) → differ (Int a) (Int b) ≡ not (same_id a b)
 unfolding binary
 differ_is a b = truth_back _ ∙ (other_than _ ∙ ap (λ o. not (is_eq o)) (value_cmp-Int a b))
 
--- ---- rowids are distinct, so a rowid identifies one row of `intervals`
+-- No two rows of `intervals` have equal rowids, so a rowid identifies one row.
 
 -- If two rows of `intervals` have equal rowids, they are the same row.
 same_row : (rows : List Row) → AreApart rows → (r s : Row) → Has rows r → Has rows s → same_id (id_of r) (id_of s) ≡ true → r ≡ s
@@ -108,7 +108,7 @@ same_row (x ∷ rows) apart r s (inr in_r) (inl is_s) same =
 same_row (x ∷ rows) apart r s (inr in_r) (inr in_s) same =
     same_row rows (record { keyed = apart.keyed.1; distinct = IsDistinct-tail same_id (id_of x) (map id_of rows) apart.distinct }) r s in_r in_s same
 
--- ---- two rows of `intervals` conflict if they have the same meter and the same start
+-- Two rows of `intervals` conflict if they have the same meter and the same start.
 
 agree_is : (m n : ℤ) (k l : Kept) → agree plain (1 ∷ 2 ∷ []) (laid false m (kept_columns k)) (1 ∷ 2 ∷ []) (laid false n (kept_columns l)) ≡ is_kept l.meter l.start k
 agree_is m n k l = rw (first_key-plain, text_is k.meter l.meter, number_is k.start l.start, and_true) refl

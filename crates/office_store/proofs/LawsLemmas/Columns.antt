@@ -26,7 +26,7 @@ use Rattle.store_tables.specs.Polls.Rows.{Started, Held, Kept, poll_columns, out
 use Rattle.store_tables.specs.Polls.Rows as polls
 use Rattle.office_store.proofs.LawsLemmas.Lists.{IsInjective, undone}
 
--- ---- the numbers and the words that encode enums in columns
+-- Lemmas on the numbers and words that encode enum values in columns.
 
 function_back : (f : ReadFunction) → function_of (code_of f) ≡ Some f
 function_back HoldingRegisters = refl
@@ -77,7 +77,7 @@ outcome_back (Lost lost.Restart) = refl
 one_outcome : (a b : Outcome) → outcome_number a ≡ outcome_number b → outcome_code a ≡ outcome_code b → a ≡ b
 one_outcome a b number code = undone (λ (o : Outcome). (outcome_number o, outcome_code o)) (λ (p : ℕ × ℕ). outcome_of p.0 p.1) outcome_back a b (λ i. (number i, code i))
 
--- The cause of a rejection that a number encodes, or None.
+-- The cause of a reading's rejection that a number encodes, or None if the number encodes no cause.
 cause_of : ℕ → Option Cause
 cause_of n =
     if n == 1 then Some cause.NotAccumulated else
@@ -106,7 +106,7 @@ one_scale (scale.Fixed n) (scale.At m) k e = absurd (let h = k in cc)
 one_scale (scale.At n) (scale.Fixed m) k e = absurd (let h = k in cc)
 one_scale (scale.At n) (scale.At m) k e = let same : n ≡ m = cc in λ i. scale.At (same i)
 
--- ---- rows that are equal if their columns are equal
+-- Lemmas that two rows are equal if their columns are equal.
 
 pub one_device : IsInjective device_columns
 one_device a b e =

@@ -1,4 +1,5 @@
--- Proofs that the rows of a meter in `entries` determine its opening and its journal.
+-- Proofs that a meter's rows in `entries` determine its opening (the first entry) and its later
+-- history.
 use Rattle.std.proofs.Common.{◌≡◌, ℕ, ℤ, ◌+◌, ◌≤◌, Bool, true, false, not, List, [], ◌∷◌, length, inl, inr, refl, sym, ap, ap₂, ◌∙◌, Option, Some, None, arith}
 use Rattle.std.specs.List.{AllByRecursion}
 use Rattle.sqlite_keyed.proofs.ListLemmas.{all_weaker}
@@ -22,7 +23,8 @@ use Rattle.office_store.proofs.LawsLemmas.Lists.{Among, InOrder, undone}
 use Rattle.office_store.proofs.LawsLemmas.Journals.{is_change, sets, IsFormed, StandsBy}
 use Rattle.office_store.proofs.LawsLemmas.Placed.{Falls}
 
--- The kind of a journal row for a kind in the table `entries`, or None for an opening.
+-- The kind of a meter entry in the records, from its kind in the table `entries`. None for the
+-- opening, the meter's first entry.
 kind_from : EntryKind → Option journal.EntryKind
 kind_from kind.Opening = None
 kind_from kind.Reading = Some from.Reading
@@ -39,8 +41,8 @@ kind_back from.Closing = refl
 kind_back from.Reset = refl
 kind_back from.Rescale = refl
 
--- True if a scale factor is the scale factor that a reset or a rescale set. Always true for any
--- other meter entry.
+-- True if a scale factor is the scale factor that a counter reset or a change of scale set. Always
+-- true for any other meter entry.
 abbrev HasScale : Entry → ℤ → Type 0
 HasScale (entry.Step at raw rolls) sf = Unit {0}
 HasScale (entry.Change at before new set) sf = set ≡ sf
@@ -62,7 +64,7 @@ entry_reported k (entry.Change at before new set) (entry.Step at' raw' rolls') s
 entry_reported k (entry.Change at before new set) (entry.Change at' before' new' set') sf p q s t moment r turns after =
     let scale : set ≡ set' = s ∙ sym t in λ i. entry.Change (moment i) (r i) (after i) (scale i)
 
--- True if two journals have voids of the same meter entries.
+-- True if two meter histories mark the same entries as voided (cancelled).
 abbrev pub SameVoids : Journal → Journal → Type 0
 SameVoids lines others = (place : ℕ) → is_voided place lines ≡ is_voided place others
 
@@ -102,7 +104,7 @@ module _ (o : Opening) (lines others : Journal) (voids : SameVoids lines others)
       let rest : entered_rows o xs ≡ entered_rows o ys = cc in
       ap₂ ◌∷◌ (row_reported x y xs ys head p.0 q.0 s.0 t.0) (rows_reported xs ys rest p.1 q.1 s.1 t.1)
 
--- ---- the indices of a meter's entries
+-- Lemmas on the indices of a meter's entries.
 
 few : (o : Opening) (n : ℕ) (xs : List EntryRow) → AreNumbered xs → length xs + 1 ≤ n → AllByRecursion (λ e. entry_place e ≤ n) (entered_rows o xs)
 few o n [] h le = (omega arith, tt)
@@ -121,7 +123,7 @@ pub opening_among : (o : Opening) (xs : List EntryRow) → Among (entered o.mete
 opening_among o [] = inl refl
 opening_among o (x ∷ xs) = inr (opening_among o xs)
 
--- If an entry of a meter has index 1, it is the opening of the meter.
+-- If a meter's entry has index 1, it is the opening, the first entry of the meter.
 pub first_entry : (o : Opening) (xs : List EntryRow) (e : Entered) → AreNumbered xs → Among e (entered_rows o xs) → entry_place e ≡ 1 → e ≡ entered o.meter (opening_row o)
 first_entry o [] e h (inl is) one = is
 first_entry o [] e h (inr there) one = absurd there

@@ -1,4 +1,4 @@
--- Proofs of properties of records that the rules accepted, by kind of record.
+-- Proofs of properties that follow for each kind of record if the rules accepted all records.
 use Rattle.std.proofs.Common.{◌≡◌, ℕ, ◌+◌, ◌≤◌, ◌==◌, ◌&&◌, ◌||◌, Bool, true, false, cond, List, [], ◌∷◌, length, refl, ap, ◌∙◌, Option, Some, None, arith}
 use Rattle.std.specs.List.{AllByRecursion, find, list_any, cons_option}
 use Rattle.std.proofs.lemmas.List.Elements.{recursion_from_All}
@@ -27,7 +27,7 @@ use Rattle.office_store.proofs.LawsLemmas.Placed.{Falls}
 use Rattle.office_store.proofs.LawsLemmas.Journals.{IsFormed, StandsBy, rows_are_formed, rows_stand_by}
 use Rattle.office_store.proofs.LawsLemmas.Points.{IsPut}
 
--- ---- inserted rows of `points`
+-- Lemmas that every point list in accepted records obeys the rules of point lists.
 
 all_planned : (facts : List Fact) → AreLawful facts → AllByRecursion (λ put. IsPlanned put.list) (lists_in facts)
 all_planned [] h = tt
@@ -49,8 +49,6 @@ write_planned p lists (Some put) h is = found_has (λ (x : DeviceList). IsPlanne
 
 pub last_put : (facts : List Fact) (device : List ℕ) → AreLawful facts → IsPut (find (λ put. same put.device device) (lists_in facts))
 last_put facts device h = write_planned (λ put. same put.device device) (lists_in facts) _ (all_planned facts h) refl
-
--- ---- polls
 
 Counted : List Poll → Type 0
 Counted [] = Unit {0}
@@ -89,7 +87,7 @@ counted_fall (p ∷ ps) h = (
 pub polls_fall : (facts : List Fact) → AreLawful facts → InOrder (Falls number_of) (polls_in facts)
 polls_fall facts h = counted_fall (polls_in facts) (polls_counted facts h)
 
--- ---- properties of meters and their entries
+-- Lemmas on the properties of meters and their entries in accepted records.
 
 abbrev pub IsInstalled : List Fact → Opening → Type 0
 IsInstalled facts o = opening_of facts o.meter ≡ Some o
@@ -98,7 +96,7 @@ pub all_installed : (facts : List Fact) → AreLawful facts → AllByRecursion (
 all_installed facts h =
     recursion_from_All (IsInstalled facts) (openings_in facts) (each_found (λ (o : Opening). o.meter) (openings_in facts) (openings_apart facts h))
 
--- The properties of a meter's entries, if the rules accepted all records.
+-- The properties that each meter's entries have if the rules accepted all records.
 pub record HasRows (facts : List Fact) (o : Opening) : Type 0 where
   pub numbered : AreNumbered (rows_of facts o)
   pub formed : AllByRecursion IsFormed (rows_of facts o)
@@ -113,7 +111,7 @@ has_rows law facts o h there =
       stand = rows_stand_by (installed o) (journal_of facts o.meter) fits;
     }
 
--- True if a void cancels the entry of the meter `meter` at index `place`.
+-- True if the given record voids (cancels) the entry of the meter `meter` at index `place`.
 abbrev pub names : (meter : List ℕ) → (place : ℕ) → VoidedEntry → Bool
 names meter place v = same v.meter meter && (place == v.place)
 
@@ -132,7 +130,7 @@ held_no_line : (b : Bool) (place : ℕ) (line : journal.Line) (lines : journal.J
 held_no_line true place line lines h = h
 held_no_line false place line lines h = refl
 
--- The journal of a meter has a void for an entry exactly if the records have this void.
+-- A meter's history marks an entry as voided exactly if the records void (cancel) this entry.
 pub voids_named : (facts : List Fact) (meter : List ℕ) (place : ℕ) → is_voided place (journal_of facts meter) ≡ list_any (names meter place) (voids_in facts)
 voids_named [] meter place = refl
 voids_named (fact.Device d ∷ facts) meter place = voids_named facts meter place

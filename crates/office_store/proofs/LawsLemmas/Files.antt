@@ -1,4 +1,4 @@
--- Proofs about the tables of a file that was created or opened.
+-- Proofs about the tables of a database file that was created or opened.
 use Rattle.std.proofs.Common.{◌≡◌, ◌≢◌, ◌==◌, ◌⊎◌, inl, inr, ◌||◌, Bool, true, false, ℕ, List, [], ◌∷◌, ◌++◌, map, take, drop, sym, subst, refl, ◌∙◌, IsPermutation, arith}
 use Rattle.std.specs.Prelude.{All}
 use Rattle.std.specs.List.{list_any}
@@ -64,7 +64,7 @@ new_files_have_none zone content new = record {
   replies = none poll_tree.replies reply_columns content (new.empty 16 (λ is. omega (arith, is)));
 }
 
--- ---- the tables of any layout
+-- Lemmas on the tables of every version of the database file.
 
 either : (b c : Bool) → (b || c) ≡ true → (b ≡ true) ⊎ (c ≡ true)
 either true c is = inl refl
@@ -85,20 +85,21 @@ has_tree (x ∷ tables) t is = elim (either (x.tree == t) (list_any (λ (y : Tab
   | inr there ↦ inr (has_tree tables t there)
 ]
 
--- If tables are appended to a list of tables, the new list still has all B-trees of the old list.
+-- If tables are appended to a list of tables, the new list still has the B-trees of all tables in
+-- the old list.
 widened : (tables more : List Table) (t : ℕ) → HasTree tables t → HasTree (tables ++ more) t
 widened [] more t has = absurd has
 widened (x ∷ tables) more t (inl is) = inl is
 widened (x ∷ tables) more t (inr there) = inr (widened tables more t there)
 
--- Every layout has all tables of version 1.
+-- Every version of the database file has all tables of version 1.
 in_each : (layout : Layout) (t : ℕ) → HasTree (first_tables 11).tables t → HasTree (schema_of layout).tables t
 in_each First t has = has
 in_each Second t has = widened (first_tables 11).tables (take 1 (drop 11 books_schema.tables)) t has
 in_each Third t has = widened (first_tables 11).tables (drop 11 books_schema.tables) t has
 
--- If the counter of each opening has 2^32 values, the ranges that an upgrade inserts equal the
--- ranges of the openings.
+-- If each meter's counter has 2^32 values, the rows of `ranges` that an upgrade inserts equal the
+-- recorded ranges of the counters.
 full_ranges : (facts : List Fact) (openings : List Opening) → All HasFullRange openings
     → map full_range (placed (installed_row facts) openings) ≡ map ranged openings
 full_ranges facts [] full = refl
@@ -107,7 +108,7 @@ full_ranges facts (opening ∷ openings) full =
     let rest = full_ranges facts openings (All-tail HasFullRange opening openings full) in
     λ i. record { meter = opening.meter; range = here i } ∷ rest i
 
--- ---- the tables after a file was opened
+-- Lemmas on the tables after a database file was opened.
 
 has_ranges : (layout : Layout) (zone : List ℕ) (facts : List Fact) (db : Database) (it : HasFactsIn layout zone facts db) (after : Content)
     → IsBrought layout zone it.content after → HasRows meter_tree.ranges ranged_columns (map ranged (openings_in facts)) after
@@ -158,8 +159,8 @@ opened_files_keep_theirs layout zone facts db it after brought =
       replies = stay poll_tree.replies reply_columns (map kept (replies_in facts)) it.newest after (carried 16 refl refl refl refl) a.replies;
     }
 
--- If opening a file of any version keeps its records, a file of version 3 encodes records exactly
--- if its tables encode the records.
+-- If opening a file keeps its records, a file of version 3 encodes records exactly if its tables
+-- encode the records.
 pub newest_files_have_theirs : OpenedFilesKeepTheirs → NewestFilesHaveTheirs
 newest_files_have_theirs keep zone facts db = (
   λ it. record {

@@ -1,4 +1,4 @@
--- Proofs of properties of journals from which the rows of a journal follow.
+-- Proofs of properties of meter histories that determine the rows of each history.
 use Rattle.std.proofs.Common.{◌≡◌, ℕ, ◌==◌, ◌&&◌, Bool, true, false, not, List, [], ◌∷◌, refl, sym, ap, subst, ◌∙◌, inl, inr, Option, Some, None}
 use Rattle.std.specs.List.{AllByRecursion}
 use Rattle.std.proofs.lemmas.Bool.{cases_Bool, cond-true, cond-false}
@@ -16,7 +16,8 @@ use Rattle.meter_journal.specs.Standing.{is_voided}
 use Rattle.meter_journal.proofs.AsEntered.{AreRowsOf, rows_are_entered}
 use Rattle.meter_journal.proofs.Keeping.{all_three, by_read, mapped_some}
 
--- True if meter entries of a kind set the counter: a reset or a rescale.
+-- True if meter entries of a kind set the counter: a counter reset, or a rescale (a change of the
+-- scale factor).
 abbrev pub sets : EntryKind → Bool
 sets kind.Reading = false
 sets kind.Manual = false
@@ -28,8 +29,8 @@ abbrev pub is_change : Entry → Bool
 is_change (entry.Step at raw rolls) = false
 is_change (entry.Change at before new sf) = true
 
--- True if the kind of a journal row fits its meter entry, and a row that sets the counter is not
--- voided.
+-- True if a row of a meter's history has an entry of the row's kind, and is not voided (cancelled)
+-- if it sets the counter.
 pub record IsFormed (row : EntryRow) : Type 0 where
   pub kind : sets row.kind ≡ is_change row.entry
   pub stands : is_change row.entry ≡ true → row.stands ≡ true
@@ -60,8 +61,8 @@ rolled_formed last row h =
       | inr e ↦ subst IsFormed (sym (cond-false _ _ _ e)) h
     ]
 
--- If a reading is marked as voided, its row is still a valid row of the journal (the meter's
--- history).
+-- If a reading in a meter's history is marked as voided (cancelled), its row is still a valid row
+-- of the history.
 struck_formed : (row : EntryRow) → is_read row.kind row.entry ≡ true → IsFormed (record row { stands = false })
 struck_formed row read =
     by_read (λ k e. IsFormed (record { place = row.place; kind = k; entry = e; stands = false }))
@@ -101,7 +102,8 @@ rows_are_formed meter (Voided place ∷ lines) h =
     let may = all_three around.row.stands (is_read around.row.kind around.row.entry) (is_free around.next) h.0.voidable in
     void_formed meter.opening place (rows_of meter.opening lines) around h.0.there may.1 (rows_are_formed meter lines h.1)
 
--- True if a journal row is marked as voided exactly if a void has its index.
+-- True if a row of a meter's history is marked as voided (cancelled) exactly if the records void
+-- the entry with the row's index.
 abbrev pub StandsBy : Journal → EntryRow → Type 0
 StandsBy whole row = row.stands ≡ not (is_voided row.place whole)
 

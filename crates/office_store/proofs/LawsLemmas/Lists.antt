@@ -30,14 +30,14 @@ among_permuted xs ys h =
     recursion_from_All (λ x. Among x ys) xs
     (All-permutation (λ x. Among x ys) ys xs (IsPermutation-sym xs ys h) (All-from_recursion (λ x. Among x ys) ys (among_itself ys)))
 
--- If all elements of a list have the property `P`, every element of the mapped list is `f` of an
--- element with `P`.
+-- If all elements of a list have the property `P`, each element of the mapped list is `f x` for
+-- some `x` with `P`.
 pub among_map : {X Y : Type 0} (f : X → Y) (P : X → Type 0) (xs : List X) (y : Y) → AllByRecursion P xs → Among y (map f xs) → (x : X) × P x × (y ≡ f x)
 among_map f P [] y h there = absurd there
 among_map f P (x ∷ xs) y h (inl is) = (x, h.0, is)
 among_map f P (x ∷ xs) y h (inr there) = among_map f P xs y h.1 there
 
--- True if each element of a list is related by `Before` to all later elements.
+-- True if the relation `Before` holds between each element of a list and all later elements.
 abbrev pub InOrder : {X : Type 0} → (Before : X → X → Type 0) → List X → Type 0
 InOrder Before [] = Unit {0}
 InOrder Before (x ∷ xs) = AllByRecursion (Before x) xs × InOrder Before xs
@@ -69,7 +69,7 @@ module _ {X : Type 0} (Before : X → X → Type 0) (one_way : (x y : X) → Bef
   pub same_in_order : (xs ys : List X) → InOrder Before xs → InOrder Before ys → IsPermutation xs ys → xs ≡ ys
   same_in_order xs ys h k p = same_elements xs ys h k (among_permuted xs ys p) (among_permuted ys xs (IsPermutation-sym xs ys p))
 
--- ---- mapping lists by injective functions
+-- Lemmas on mapping lists by injective functions.
 
 abbrev pub IsInjective : {X Y : Type 0} → (X → Y) → Type 0
 IsInjective {X} f = (x y : X) → f x ≡ f y → x ≡ y
@@ -96,8 +96,8 @@ pub one_table : {X Y : Type 0} (columns : X → Y) → IsInjective columns → (
 one_table columns one xs ys rows h k =
     permuted_back columns one xs ys (IsPermutation-trans (map columns xs) rows (map columns ys) h (IsPermutation-sym (map columns ys) rows k))
 
--- If two lists agree element by element, and agreement of two elements implies their equality, the
--- lists are equal.
+-- If two lists agree element by element, and two elements that agree are equal, then the lists are
+-- equal.
 pub same_by_parts : {X : Type 0} (R : X → X → Type 0) (P Q : X → Type 0) → ((x y : X) → R x y → P x → Q y → x ≡ y)
     → (xs ys : List X) → AllZip R xs ys → AllByRecursion P xs → AllByRecursion Q ys → xs ≡ ys
 same_by_parts R P Q same [] [] h p q = refl

@@ -24,7 +24,8 @@ use Rattle.office_store.specs.Rows.{placed_on, listed, points_put}
 use Rattle.office_store.proofs.LawsLemmas.Lists.{same_by_parts, found_has}
 use Rattle.office_store.proofs.LawsLemmas.Placed.{placed_on_alike}
 
--- True if the texts of a point's type and scale parse as the type and the scale of the point.
+-- True if the stored texts of a point's type and scale can be parsed, and yield the type and the
+-- scale of the point.
 record IsRead (point : ListedPoint) : Type 0 where
   kind : type_of (type_text point.kind) ≡ Some point.kind
   scale : scale_spelled (scale_text point.scale) ≡ Some point.scale
@@ -33,7 +34,7 @@ second : (a b : Bool) → (a && b) ≡ true → b ≡ true
 second true b h = h
 second false b h = absurd (let e = h in cc)
 
--- If a point's scale names another point, the name is a valid name of a point.
+-- If the scale of a point names another point of the list, this name is a valid point name.
 scale_named : (points : List ListedPoint) (name : List ℕ) (P : ListedPoint → Type 0) (found : Option ListedPoint) → scale_point points name ≡ found
     → IsSomeAnd found P → AllByRecursion (λ p. IsTrue (is_name p.name)) points → is_name name ≡ true
 scale_named points name P None is h named = absurd h
@@ -75,7 +76,7 @@ one_alike a b h p q =
     let scale : a.scale ≡ b.scale = read_alike scale_text scale_spelled _ _ p.scale q.scale h.scale in
     λ i. record { name = h.name i; function = h.function i; area = h.area i; address = h.address i; kind = kind i; scale = scale i }
 
--- ---- the latest point list
+-- Lemmas on the latest point list of a device.
 
 abbrev pub IsPut : Option DeviceList → Type 0
 IsPut None = Unit {0}

@@ -1,4 +1,4 @@
--- Proofs that two lists of records with the same tables are equal up to order.
+-- Proofs that two lists of records are equal up to order if the same tables encode both lists.
 use Rattle.std.proofs.Common.{◌≡◌, ℕ, List, [], ◌∷◌, map, inl, inr, refl, sym, ap, subst, ◌∙◌, Some, IsPermutation}
 use Rattle.std.specs.List.{AllByRecursion, Contains}
 use Rattle.std.proofs.lemmas.Option.{same_Some}
@@ -42,7 +42,7 @@ module _ (stand : RowsStand) (once : ListsArePlannedOnce) (zone others_zone : Li
       there : AllByRecursion (λ (z : List ℕ). Among z (others_zone ∷ [])) (zone ∷ [])
       there = among_permuted (zone ∷ []) (others_zone ∷ []) (one_table meta_columns one_zone (zone ∷ []) (others_zone ∷ []) (content meta_tree) a.meta b.meta)
 
-  -- ---- tables with the rows of one kind of record
+  -- Lemmas on the tables with the rows of one kind of record.
 
   same_devices : devices_in facts ≡ devices_in others
   same_devices =
@@ -88,7 +88,7 @@ module _ (stand : RowsStand) (once : ListsArePlannedOnce) (zone others_zone : Li
       (one_table point_columns columns.one_point a.points.rows b.points.rows (content list_tree.points) a.points.there b.points.there)
       (a.points.each device) (b.points.each device))
 
-  -- ---- properties of meters and their entries
+  -- Lemmas on meters and their entries in two lists of records with the same tables.
 
   same_entries : (meter : List ℕ) → IsPermutation (entries_of facts meter) (entries_of others meter)
   same_entries meter =
@@ -103,14 +103,15 @@ module _ (stand : RowsStand) (once : ListsArePlannedOnce) (zone others_zone : Li
       subst (λ rows. IsPermutation rows (entered_rows p (rows_of others p))) (ap (entries_at facts) here)
       (subst (IsPermutation (entries_of facts o.meter)) (ap (entries_at others) there) (same_entries o.meter))
 
-  -- True if two openings have the same meter, accounting register and greatest power.
+  -- True if two installations of meters have the same meter, accounting register (named energy
+  -- counter) and greatest power.
   record IsAlike (o p : Opening) : Type 0 where
     meter : o.meter ≡ p.meter
     register : o.register ≡ p.register
     ceiling : o.ceiling ≡ p.ceiling
 
-  -- True if a meter's opening is in one list of records, and the tables of the other list have the
-  -- range of the meter's counter.
+  -- True if one list of records has a meter's installation, and the tables of the other list have
+  -- the same range of the meter's counter.
   record IsKnown (o : Opening) : Type 0 where
     here : IsInstalled facts o
     range : Among (ranged o) (map ranged (openings_in others))

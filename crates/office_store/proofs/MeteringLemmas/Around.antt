@@ -35,7 +35,8 @@ use Rattle.office_store.proofs.MeteringLemmas.Picked.{none_passes}
 use Rattle.office_store.proofs.MeteringLemmas.Shapes.{HasShape, IsPlain, found_there}
 use Rattle.office_store.specs.Voids.Places.{names}
 
--- ---- the rows of `voids`, which cancel meter entries, name exactly the voided entries
+-- Lemmas that the rows of `voids` (cancelled entries) name exactly the entries that are marked as
+-- voided.
 
 turned : (a b : ℕ) → (a == b) ≡ (b == a)
 turned a b = elim (cases_Bool (a == b)) [
@@ -55,14 +56,14 @@ named_of meter place [] = refl
 named_of meter place (v ∷ vs) =
     named_step (bytes_eq v.meter meter) (λ (w : Voided). place == w.place) v (filter (is_void_of meter) vs) (v.place == place) (names meter place vs) (turned place v.place) (named_of meter place vs)
 
--- The table `voids` has a row for exactly those indices of a meter whose entries are marked as
--- voided in the meter's journal (its history).
+-- The table `voids` has a row for exactly those indices whose entries are marked as voided
+-- (cancelled) in the meter's history.
 pub names_are : (facts : List Fact) (meter : List ℕ) (place : ℕ) → names meter place (map voided (voids_in facts)) ≡ is_voided place (journal_of facts meter)
 names_are facts meter place = named_of meter place (map voided (voids_in facts)) ∙ voids_are meter place facts
 
--- ---- the entries of a meter's journal (its history) between two indices
+-- Lemmas on the entries of a meter's history between two indices.
 
--- True if every entry in a meter's journal (its history) between two indices is voided.
+-- True if every entry in a meter's history between two indices is voided (cancelled).
 abbrev pub AreStruck : Journal → (low high : ℕ) → Type 0
 AreStruck lines low high = (place : ℕ) → low < place → place < high → is_voided place lines ≡ true
 
@@ -102,7 +103,7 @@ module _ (o : Opening) where
         | inr off ↦ grind (arith, nat_tests, rest, at, off)
       ]
 
-  -- ---- the row of `entries` at an index encodes the meter's entry at this index
+  -- The row of `entries` at an index encodes the meter's entry at this index.
 
   pub record AtRow (place : ℕ) (rows : List EntryRow) (e : stored.EntryRow) : Type 0 where
     pub around : Around
@@ -131,7 +132,8 @@ module _ (o : Opening) where
         (λ e h same. past_row place row rows e.entry numbered (h same)) (entered_rows o rows) (entries_at_rows place rows numbered.1 late),
   )
 
-  -- ---- the counter's state before an entry is the one after the last earlier valid entry
+  -- The counter's state before an entry is the state after the last earlier entry that is not
+  -- voided (cancelled).
 
   counter_of_row : (sf : ℤ) (last : Last) (place : ℕ) (k : EntryKind) (e : Entry) (stands : Bool) → HasShape k e → sf ≡ (after last e).sf
       → counter_after (entry_row sf (record { place = place; kind = k; entry = e; stands = stands })) ≡ after last e
@@ -146,8 +148,8 @@ module _ (o : Opening) where
   counter_of_row sf last place kind.Reset (entry.Step at raw rolls) stands h is = absurd h
   counter_of_row sf last place kind.Rescale (entry.Step at raw rolls) stands h is = absurd h
 
-  -- If a meter entry is not voided, the counter's state after the entry equals the state in the
-  -- entry's row.
+  -- If a meter entry is not voided (cancelled), the counter's state after the entry equals the
+  -- state in the entry's row.
   pub stands_after_row : (row : EntryRow) (rows : List EntryRow) → HasShape row.kind row.entry → row.stands ≡ true → counter_after (entry_row (scale_after o (row ∷ rows)) row) ≡ after (stood rows) row.entry
   stands_after_row row rows shape on =
       counter_of_row (scale_after o (row ∷ rows)) (stood rows) row.place row.kind row.entry row.stands shape (ap (λ es. (last_of (opened o) es).sf) (entries_standing row rows on))
@@ -209,8 +211,8 @@ module _ (o : Opening) where
         found_rest_before place row None around h = absurd (let e = h in cc)
         found_rest_before place row (Some rest) around h = (rest, refl, ap (λ (a : Around). a.before) (sym (same_Some (passed row rest) around h)))
 
-    -- ---- the next entry after an index that is not voided, by the rows and by the journal
-    -- (history)
+    -- Lemmas on the next entry after an index that is not voided (cancelled), in the rows and in
+    -- the meter's history.
 
     found_rest_next : (row : EntryRow) (o : Option Around) (around : Around) → option_map (passed row) o ≡ Some around → (rest : Around) × (o ≡ Some rest) × (around.next ≡ option_or rest.next (if_standing row))
     found_rest_next row None around h = absurd (let e = h in cc)
@@ -275,12 +277,13 @@ module _ (o : Opening) where
           )
     ]
 
-  -- ---- a meter's row at index 1 has the timestamp of its opening, the record that installs it
+  -- A meter's row of `entries` at index 1 has the timestamp of the meter's installation.
   pub opening_alone : (rows : List EntryRow) → AreNumbered rows → AllByRecursion (λ (e : Entered). e.entry.place ≡ 1 → e.entry.moment ≡ o.at) (entered_rows o rows)
   opening_alone [] numbered = (λ is. refl, tt)
   opening_alone (row ∷ rows) numbered = ((λ (is : row.place ≡ 1). absurd (let at = numbered.0 in omega (arith, is, at))), opening_alone rows numbered.1)
 
--- ---- a property of all rows of a meter at an index holds for the row that a query finds there
+-- If all of a meter's rows at an index have a property, the row that a query finds at this index
+-- has the property.
 
 module _ (meter : List ℕ) (o : Opening) (rows : List EntryRow) (table : List Entered) (are : IsPermutation (filter (is_of meter) table) (entered_rows o rows)) where
   lifted : (Q : Entered → Type 0) (place : ℕ) → AllByRecursion (λ (e : Entered). e.entry.place ≡ place → Q e) (entered_rows o rows) → AllByRecursion (λ e. is_entry meter place e ≡ true → Q e) table

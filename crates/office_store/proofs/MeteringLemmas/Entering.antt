@@ -1,4 +1,4 @@
--- Proofs that a look-up finds the entry of a meter at an index.
+-- Proofs that a query finds the entry of a meter at an index.
 use Rattle.std.proofs.Common.{◌≡◌, ℕ, List, map, filter, reverse, take, Option, Some, None, option_map, Ok, Err, Result, IfOk, IfErr, refl, sym, ap, subst, ◌∙◌, IsPermutation}
 use Rattle.std.specs.Option.{option_and_then}
 use Rattle.std.specs.List.{filter_map}
@@ -40,8 +40,8 @@ use Rattle.office_store.proofs.Energy.{found_recorded}
 use Rattle.office_store.specs.Metering.Entries.{AreJournal, ShowsEntries, ShowsVoids, FindsJournal, row_among, IsFaultOfJournal, CanBePlaced}
 use Rattle.office_store.proofs.MeteringLemmas.Journals.{numbered, journal_back, entries_in_order}
 
--- If a search of the records for a meter's opening (the record that installs it) finds one, the
--- opening has the meter's name.
+-- If a search of the records for a meter's installation finds a record, this record has the meter's
+-- name.
 named : (facts : List Fact) (meter : List ℕ) (o : Opening) → opening_of facts meter ≡ Some o → o.meter ≡ meter
 named facts meter o there = same_text o.meter meter (find_passes (λ (x : Opening). same x.meter meter) (openings_in facts) o there)
 
@@ -77,8 +77,8 @@ journal_is journals stand change facts meter entries voids rows shown void are =
     ap reverse (are shown.entries void.voids shown.shown void.shown ∙ ap (filter_map (row_among void.voids)) (shown.all o there) ∙ journal_back journals stand change facts o void.lawful recorded void.voids all)
     ∙ reverse-reverse (rows_of facts o)
 
--- If the records have a state of a meter, the meter was installed. Its entry at an index then
--- follows from its opening, the record of the installation.
+-- If the records have a state of a meter, the meter was installed. Its entry at an index follows
+-- from the record of the installation and the later entries.
 by_opening : (facts : List Fact) (place : ℕ) (whole : Installation) (found : Option EntryContext) (opening : Option Opening) → Some whole ≡ option_map (installation_of facts) opening
     → ((o : Opening) → opening ≡ Some o → whole ≡ installation_of facts o → found ≡ option_map (place_in facts o) (row_at place (rows_of facts o)))
     → found ≡ option_and_then (λ o. option_map (place_in facts o) (row_at place (rows_of facts o))) opening
@@ -123,15 +123,15 @@ placed_found facts o place whole before rows firsts index row next whole_is rows
     ∙ ap (λ (w : Installation). standing w.opening (entries_in around.before) w.ended) whole_is in
     ap (λ (b : Installation). Some (let p : EntryContext = record { before = b; row = row; next = next } in p)) was ∙ sym (ap (option_map (place_in facts o)) at)
 
--- If the earlier meter entries that are not voided may follow one another, the energy before an
--- entry can be computed from them.
+-- If the earlier meter entries that are not voided (cancelled) may follow one another, the energy
+-- before an entry can be computed from these entries.
 pub account_before : (o : Opening) (place index : ℕ) (rows firsts : List EntryRow) (row : EntryRow) (next : Option EntryRow) → row_at place (latest_first rows) ≡ Some (record { before = latest_first (take index rows); row = row; next = next })
     → firsts ≡ take index rows → CanBePlaced o rows place → HasAccount (installed o) (entries_in (latest_first firsts))
 account_before o place index rows firsts row next found_at is can =
     subst (λ (rs : List EntryRow). HasAccount (installed o) (entries_in (latest_first rs))) (sym is) (can.account (record { before = latest_first (take index rows); row = row; next = next }) found_at)
 
--- If the records are lawful (accepted by the rules), the state of a meter before each of its
--- entries can be computed.
+-- If the rules accepted all records, the state of a meter before each of its entries can be
+-- computed.
 can_be_placed : InstallationsAreInRange → JournalsFit → RowsStand → PlacesWereKept → (facts : List Fact) (o : Opening) (place : ℕ) (rows : List EntryRow) → AreLawful facts → IsRecorded facts o
     → latest_first rows ≡ rows_of facts o → CanBePlaced o rows place
 can_be_placed ranges journals stand kept facts o place rows lawful there are =
@@ -143,7 +143,8 @@ can_be_placed ranges journals stand kept facts o place rows lawful there are =
       account = λ around at. (kept (installed o) (journal_of facts o.meter) place around begun (journals facts o lawful there) (ap (row_at place) (sym are) ∙ at)).account;
     }
 
--- If finding a meter entry by its index reports `Damaged`, a row has a value out of its range.
+-- If a query for a meter entry by its index reports `Damaged`, a row in the tables has a value out
+-- of its range.
 pub placed_fault : InstallationsAreInRange → JournalsFit → RowsStand → PlacesWereKept → (facts : List Fact) (meter text : List ℕ) (place : ℕ) (x : Option Installation) (whole : Installation) (rows reported : List EntryRow) (r : Result (Option EntryContext) RowFault)
     → (Sound : Type 0) → (Sound → AreLawful facts) → x ≡ Some whole → x ≡ meter_of facts meter → text ≡ meter → reported ≡ rows → FindsJournal text facts rows → IfErr r (λ e. (e ≡ Damaged) × (¬ CanBePlaced whole.opening reported place))
     → IfErr r (IsRowFault Sound)

@@ -1,5 +1,5 @@
--- Proofs that the rows of the tables determine the meters of the records: each meter's opening (the
--- record that installs it) and its state.
+-- Proofs that the rows of the tables determine each meter of the records: the record of its
+-- installation, and its state.
 use Rattle.std.proofs.Common.{◌≡◌, ℕ, ◌+◌, ◌==◌, ◌&&◌, Bool, true, false, List, [], ◌∷◌, map, filter, length, Option, Some, None, option_map, string_bytes, bytes_eq, refl, sym, ap, subst, ◌∙◌, arith, eqb-true, IsPermutation}
 use Rattle.std.specs.List.{AllByRecursion}
 use Rattle.std.proofs.lemmas.Bool.{and_parts}
@@ -33,12 +33,12 @@ use Rattle.office_store.proofs.Placed.{last_counts}
 use Rattle.office_store.specs.Metering.Meters.{IsRowOf, FindsRow, FindsRange, FindsFirst, CountsOpenings, opening_from, standing_from, IsStanding}
 use Rattle.office_store.proofs.MeteringLemmas.Picked.{found_has, none_placed, none_mapped, none_passes, last_placed, all_placed, all_mapped}
 
--- If the records are lawful, no meter has two openings: a search by an opening's meter finds this
--- opening.
+-- If the rules accepted all records, no meter was installed twice, so a search by the meter finds
+-- its only installation.
 pub alone : (facts : List Fact) → AreLawful facts → AllByRecursion (λ (o : Opening). opening_of facts o.meter ≡ Some o) (openings_in facts)
 alone facts lawful = recursion_from_All _ _ (each_found (λ (o : Opening). o.meter) (openings_in facts) (openings_apart facts lawful))
 
--- ---- the query of `installations` for a meter finds the row of the meter, if it was installed
+-- The query of `installations` for a meter finds the row of the meter, if the meter was installed.
 
 pub row_found : (facts : List Fact) (meter : List ℕ) → AreLawful facts → (found : Option stored.Installation)
     → IsFound (is_meter meter) IsInstalled (placed (installed_row facts) (openings_in facts)) found → FindsRow facts (opening_of facts meter) found
@@ -69,7 +69,7 @@ pub counted : (facts : List Fact) (found : Option ℕ) → IsLast every HasInsta
 counted facts None h = let n = last_counts (installed_row facts) installed_place (λ place o. refl) (openings_in facts) None h in omega (arith, n)
 counted facts (Some place) h = let n = last_counts (installed_row facts) installed_place (λ place o. refl) (openings_in facts) (Some place) h in omega (arith, n)
 
--- ---- the query of `ranges` for a meter finds the counter range that the meter was installed with
+-- The query of `ranges` for a meter finds the counter range that the meter was installed with.
 
 pub range_found : (facts : List Fact) (meter : List ℕ) → AreLawful facts → (found : Option ℕ) → IsFound (is_range_of meter) HasRange (map ranged (openings_in facts)) found → FindsRange meter facts found
 range_found facts meter lawful None h = none_mapped ranged (λ (o : Opening). same o.meter meter) (is_range_of meter) (λ o. refl) (openings_in facts) h
@@ -83,7 +83,8 @@ range_found facts meter lawful (Some range) h = λ opening there.
     let this : o ≡ opening = same_Some o opening (sym here ∙ there) in
     h.1 ∙ ap (λ r. r.range) it.0.1 ∙ ap (λ (x : Opening). x.range) this
 
--- ---- the query of `entries` for a meter's first entry finds the row of its opening
+-- Lemmas that the query of `entries` for a meter's first entry finds the row of the meter's
+-- installation.
 
 first_alone : (o : Opening) (rows : List journal.EntryRow) → AreNumbered rows → AllByRecursion (λ (e : Entered). e.entry.place ≡ 1 → e.entry ≡ opening_row o) (entered_rows o rows)
 first_alone o [] numbered = (λ is. refl, tt)
@@ -124,7 +125,7 @@ first_found law facts meter rows lawful each (Some entry) h = λ opening there.
     let place : y.entry.place ≡ 1 = eqb-true y.entry.place 1 at_one in
     h.1 ∙ it.0 parts.0 place
 
--- ---- the rows of three tables together encode a meter's first entry and its current state
+-- The rows of three tables together encode a meter's first entry and its current state.
 
 pub opening_is : (facts : List Fact) (o : Opening) (row : stored.Installation) (range : ℕ) (first : EntryRow) → IsRowOf facts o row → FindsRange (string_bytes row.meter) facts (Some range) → FindsFirst (string_bytes row.meter) facts (Some first)
     → opening_from row range first ≡ o
@@ -165,7 +166,7 @@ pub found_is : (facts : List Fact) (o : Option Opening) (x : Option stored.Insta
 found_is facts None x row found is finds stands = absurd (let e = sym finds ∙ is in cc)
 found_is facts (Some o) x row found is finds stands = ap Some (stands o (subst (FindsRow facts (Some o)) is finds))
 
--- ---- if the records are lawful, the values in the rows that queries find are valid
+-- If the rules accepted all records, the values in the rows that queries find are valid.
 
 pub in_range : (facts : List Fact) (o : Opening) → IsSound (installation_of facts o) → IsSound (installation_of facts o)
 in_range facts o h = record { range = h.range; ceiling = h.ceiling; raw = h.raw; scale = h.scale; total = h.total }
@@ -177,8 +178,8 @@ named_row facts o row is all =
     let names = all_found HasNames (λ (x : Opening). same x.meter o.meter) (openings_in facts) o all is.alone in
     record { meter = ap is_name is.row.meter ∙ names.meter; register = ap is_name is.row.register ∙ names.register }
 
--- If a query finds a meter's row in `installations`, the records have an opening of the meter, the
--- record of its installation.
+-- If a query finds a meter's row in `installations`, the records contain the installation of this
+-- meter.
 pub no_opening : (facts : List Fact) (o : Opening) (row : stored.Installation) (meter : List ℕ) → meter ≡ string_bytes row.meter → IsRowOf facts o row → opening_of facts meter ≡ None → ⊥
 no_opening facts o row meter named is none =
     let there : opening_of facts meter ≡ Some o = ap (opening_of facts) (named ∙ is.row.meter) ∙ is.alone in
@@ -192,12 +193,12 @@ pub not_unsound : InstallationsAreInRange → (facts : List Fact) (o : Opening) 
 not_unsound law facts o row made lawful is opening unsound =
     unsound (subst IsSound (sym (standing_is facts o made row is opening)) (in_range facts o ((law facts lawful).recorded o (recorded_row facts o row is))))
 
--- If a look-up finds a row in `installations`, the row belongs to an opening of the records.
+-- If a query finds a row in `installations`, the row encodes an installation of the records.
 pub found_row : (facts : List Fact) (o : Option Opening) (row : stored.Installation) → FindsRow facts o (Some row) → (opening : Opening) × IsRowOf facts opening row
 found_row facts None row finds = absurd (let e = finds in cc)
 found_row facts (Some o) row finds = (o, finds)
 
--- If a meter has no row in `installations`, it has no opening in the records.
+-- If a meter has no row in `installations`, the records contain no installation of this meter.
 pub none_found : (facts : List Fact) (o : Option Opening) → FindsRow facts o None → None ≡ option_map (installation_of facts) o
 none_found facts None finds = refl
 none_found facts (Some o) finds = absurd finds

@@ -40,7 +40,7 @@ held_in_time (fact.Poll x ∷ facts) lawful = held_in_time facts lawful.1
 held_in_time (fact.Outcome x ∷ facts) lawful = held_in_time facts lawful.1
 held_in_time (fact.Reply x ∷ facts) lawful = held_in_time facts lawful.1
 
--- ---- the rows of `holds` for a meter encode its rejected readings
+-- The rows of `holds` for a meter encode the meter's rejected readings.
 
 module _ (meter : List ℕ) where
   abbrev of_it : HeldReading → Bool

@@ -43,7 +43,8 @@ use Rattle.office_store.proofs.MeteringLemmas.Around.{AtRow, AreStruck, IsNextRo
 use Rattle.office_store.proofs.MeteringLemmas.Journals.{IsReported, back_by, numbered, one_back, voids_are}
 use Rattle.office_store.proofs.MeteringLemmas.Shapes.{IsPlain, found_rest, found_there, plain}
 
--- ---- a search, one index after another, finds the nearest entry that is not voided
+-- Lemmas on a search that queries one index after another for the nearest entry that is not voided
+-- (cancelled).
 
 pub none_between : (vs : List Voided) (low high : ℕ) → high ≤ low + 1 → AreVoided vs low high
 none_between vs low high none place above below = absurd (omega (arith, none, above, below))
@@ -60,7 +61,7 @@ further_up vs low p high next are is place above below = elim (cases_Bool (nat_l
   | inr here ↦ let same : p ≡ place = grind (arith, nat_tests, here, below, next) in subst (λ q. list_any (names q) vs ≡ true) same (sym is)
 ]
 
--- ---- a property that all rows of a meter have also holds for the row that a search finds
+-- If all rows of a meter have a property, the row that a search by index finds has it too.
 
 row_holds : (P : EntryRow → Type 0) (place : ℕ) (rows : List EntryRow) (around : journal.Around) → AllByRecursion P rows → row_at place rows ≡ Some around → P around.row
 row_holds P place [] around all h = absurd (let e = h in cc)
@@ -73,7 +74,8 @@ row_holds P place (row ∷ rows) around all h = elim (cases_Bool (row.place == p
       subst P (sym it.2) (row_holds P place rows it.0 all.1 it.1)
 ]
 
--- ---- an entry that is built from its row and the rows around it is the recorded entry
+-- Lemmas that a meter entry that is built from its row and the rows around it equals the recorded
+-- entry.
 
 module _ (journals : JournalsFit) (stand : RowsStand) (change : VoidsChangeTwoRows) (kept : JournalsAreKept) (places : PlacesWereKept) (facts : List Fact) (meter : List ℕ) (o : Opening) (there : opening_of facts meter ≡ Some o) (lawful : AreLawful facts)
     (vs : List Voided) (all : IsPermutation (filter (is_void_of meter) (map voided (voids_in facts))) vs) where
@@ -95,8 +97,8 @@ module _ (journals : JournalsFit) (stand : RowsStand) (change : VoidsChangeTwoRo
   plains : AllByRecursion (IsPlain lines) rows
   plains = plain stand change (installed o) (well facts o lawful (found facts o lawful recorded_there)) lines (journals facts o lawful recorded_there)
 
-  -- The table `voids` has a row for exactly those indices of a meter whose entries are marked as
-  -- voided in the meter's journal (its history).
+  -- The table `voids` has a row for exactly those indices whose entries are marked as voided
+  -- (cancelled) in the meter's history.
   named_is : (place : ℕ) → list_any (names place) vs ≡ is_voided place lines
   named_is place = sym (any_permutation (names place) _ _ all) ∙ voids_are meter place facts ∙ ap (λ m. is_voided place (journal_of facts m)) (sym meter_is)
 
@@ -178,8 +180,8 @@ if_seen : (facts : List Fact) (meter : List ℕ) (place : ℕ) (whole : Installa
 if_seen facts meter place whole seen stands None h reports = tt
 if_seen facts meter place whole seen stands (Some p) h reports = λ whole_is. reports p whole_is h
 
--- If an entry is built from the rows of `entries` and `voids`, the result equals the entry in the
--- records.
+-- If a meter entry is built from the rows of `entries` and `voids` (cancelled entries), the result
+-- equals the entry in the records.
 pub reported_rightly : JournalsFit → RowsStand → VoidsChangeTwoRows → JournalsAreKept → PlacesWereKept → (facts : List Fact) (meter : List ℕ) (place : ℕ) → 2 ≤ place → (shown reported : List Row) (sides : Sides) (found : Option stored_around.Around) (seen : stored_around.Around)
     (whole : Installation) (r : Option EntryContext) → ShowsVoids meter facts shown → reported ≡ shown → ByVoids (λ (vs : List Voided). AreSides vs place sides) reported → IfSome found (FindsAround meter place sides.before sides.after facts) → found ≡ Some seen
     → IfSome r (IsSeen whole seen sides.stands) → ReportsRightly meter place whole facts r

@@ -1,4 +1,4 @@
--- Proofs about what a query returns from numbered rows.
+-- Proofs about the rows that a query selects from a list of numbered rows.
 use Rattle.std.proofs.Common.{◌≡◌, ◌≤◌, ℕ, ◌+◌, Bool, true, false, cond, inl, inr, ◌⊎◌, List, [], ◌∷◌, map, filter, length, Option, Some, None, refl, sym, ap, subst, ◌∙◌, arith, IsPermutation}
 use Rattle.std.specs.List.{find, AllByRecursion}
 use Rattle.std.proofs.lemmas.Bool.{cases_Bool, cond-true, cond-false}
@@ -8,7 +8,7 @@ use Rattle.sqlite_keyed.proofs.ListLemmas.{all-filter, all_both}
 use Rattle.store_tables.specs.Answer.{IsFound, IsLast}
 use Rattle.office_store.specs.Rows.{placed}
 
--- ---- filtering rows by a test returns exactly the rows that pass the test
+-- Filtering rows by a test returns exactly the rows that pass the test.
 
 passing_step : {Y : Type 0} (p : Y → Bool) (b : Bool) (y : Y) (ys : List Y) → p y ≡ b → AllByRecursion (λ z. p z ≡ true) ys → AllByRecursion (λ z. p z ≡ true) (cond b (y ∷ ys) ys)
 passing_step p true y ys is more = (is, more)
@@ -19,7 +19,7 @@ pub all_passing : {Y : Type 0} (p : Y → Bool) (ys : List Y) → AllByRecursion
 all_passing p [] = tt
 all_passing p (y ∷ ys) = passing_step p (p y) y (filter p ys) refl (all_passing p ys)
 
--- If a look-up finds a row, the row passes the look-up's test, and has every property that all rows
+-- If a query finds a row, the row passes the query's test, and has every property that all rows
 -- have.
 pub found_has : {Y : Type 0} (p : Y → Bool) (P : Y → Type 0) (rows : List Y) (y : Y) (others : List Y) → AllByRecursion P rows → IsPermutation (filter p rows) (y ∷ others)
     → P y × (p y ≡ true)
@@ -43,7 +43,8 @@ none_mapped row p q agree (x ∷ xs) h = elim (cases_Bool (p x)) [
   | inr off ↦ cond-false _ _ _ off ∙ none_mapped row p q agree xs (sym (cond-false _ _ _ (agree x ∙ off)) ∙ h)
 ]
 
--- ---- if rows are numbered by index, the passing row with the greatest index is the latest element
+-- Lemmas that among the numbered rows that pass a test, the row with the greatest index encodes the
+-- latest element.
 
 module _ {X Y : Type 0} (row : ℕ → X → Y) (p : X → Bool) (q : Y → Bool) (agree : (n : ℕ) (x : X) → q (row n x) ≡ p x) where
   -- If no numbered row passes a test, no element of the list passes it.

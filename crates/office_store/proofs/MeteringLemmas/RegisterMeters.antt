@@ -1,4 +1,5 @@
--- Proofs about the meters that were installed at an accounting register, one after another.
+-- Proofs about the meters that were installed at an accounting register (a named energy counter of
+-- a device), one after another.
 use Rattle.std.proofs.Common.{◌≡◌, ℕ, zero, suc, ◌+◌, ◌<◌, ◌≤◌, List, [], ◌∷◌, ◌++◌, map, filter, take, length, get_or, Some, refl, sym, ap, subst, ◌∙◌, arith, add-one, take_all}
 use Rattle.std.specs.List.{AllByRecursion}
 use Rattle.std.proofs.lemmas.List.{length-map}
@@ -24,7 +25,8 @@ use Rattle.office_store.proofs.FindingLemmas.Each.{each_filter, each_length, eac
 use Rattle.office_store.proofs.FindingLemmas.Rows.{all_reverse, each_reverse, in_turn, placed_falls}
 use Rattle.office_store.proofs.MeteringLemmas.Found.{alone}
 
--- ---- a query by accounting register returns the rows of its meters in the order of installation
+-- A query by accounting register (a named energy counter) returns the rows of the register's meters
+-- in the order of installation.
 
 pub meters_shown : (facts : List Fact) (register : List ℕ) (rows : List Row) → Shows (is_at register) (FirstFirst installed_place) installed_shown (placed (installed_row facts) (openings_in facts)) rows
     → rows ≡ map installed_shown (rows_at register facts)
@@ -55,7 +57,7 @@ rows_are facts register rows lawful h =
     (each_filter (IsInstalledAs facts) (is_at register) (λ (o : Opening). same o.register register) (λ y o is. ap (is_at register) is.is)
     (placed (installed_row facts) (openings_in facts)) (openings_in facts) (each_installed facts (openings_in facts) (alone facts lawful)))) h
 
--- ---- if rows encode openings (records of installations), each row has an opening in the records
+-- Lemmas that each row that encodes an installation of a meter has a record of this installation.
 
 module _ (facts : List Fact) where
   pub row_there : (openings : List Opening) (rows : List stored.Installation) (i : ℕ) (row : stored.Installation) → AreRowsOf facts openings rows → i < length rows → row ≡ get_or rows i row

@@ -49,13 +49,13 @@ has_shape meter es kind.Reset (entry.Step at raw rolls) h = absurd h
 has_shape meter es kind.Rescale (entry.Step at raw rolls) h = absurd h
 
 -- True if a row of a meter's journal (its history) fits its kind, and is marked as voided exactly
--- if a void cancels it. Only readings may be voided.
+-- if the journal cancels it. Only readings may be voided.
 pub record IsPlain (lines : Journal) (row : EntryRow) : Type 0 where
   pub shape : HasShape row.kind row.entry
   pub reading : row.stands ≡ false → is_read row.kind row.entry ≡ true
   pub stands : row.stands ≡ not (is_voided row.place lines)
 
--- ---- if rows are numbered by index, a search by index finds each row
+-- If rows are numbered by index, a search by index finds each row.
 
 abbrev pub IsBelow : ℕ → EntryRow → Type 0
 IsBelow n row = row.place ≤ n
@@ -64,7 +64,7 @@ pub below : (n : ℕ) (rows : List EntryRow) → AreNumbered rows → length row
 below n [] numbered le = tt
 below n (row ∷ rows) numbered le = ((let at = numbered.0 in omega (arith, at, le)), below n rows numbered.1 (omega (arith, le)))
 
--- True if a search for index `place` finds the row.
+-- True if a search for index `place` finds the given row.
 abbrev pub FoundThere : (place : ℕ) → EntryRow → EntryRow → Type 0
 FoundThere place found row = row.place ≡ place → found ≡ row
 
@@ -95,7 +95,8 @@ found_there place (row ∷ rows) around numbered h = elim (cases_Bool (row.place
       )
 ]
 
--- ---- if an entry is voided, every other row keeps its kind and its mark
+-- If an entry is voided (cancelled), every other row of the meter's history keeps its kind and its
+-- mark.
 
 shape_rolled : (last : Last) (k : EntryKind) (e : Entry) → HasShape k e → HasShape k (with_rolls last e)
 shape_rolled last k (entry.Change at before after sf) h = h
@@ -109,8 +110,8 @@ module _ (lines : Journal) (place : ℕ) where
   abbrev Later : Journal
   Later = Voided place ∷ lines
 
-  -- If a new void cancels another entry than that of a journal row, the row still fits the meter's
-  -- journal (its history) with this void.
+  -- If a new void cancels another meter entry than the entry of a row, the row still fits the
+  -- meter's history with this void.
   unnamed : (row : EntryRow) → (row.place == place) ≡ false → IsPlain lines row → IsPlain Later row
   unnamed row off h = record { shape = h.shape; reading = h.reading; stands = h.stands ∙ sym (ap (λ b. not (b || is_voided row.place lines)) off) }
 
@@ -136,7 +137,8 @@ module _ (lines : Journal) (place : ℕ) where
   }
   changed_if false next last row is read h = next_if (is_next next row) last row is h
 
--- ---- every row of a meter's history fits its kind, and its mark as voided is correct
+-- Every row of a meter's history fits its kind of entry, and is correctly marked as voided
+-- (cancelled) or not.
 
 plain_entered : (k : EntryKind) (e : Entry) (lines : Journal) (row : EntryRow) → IsPlain lines row → IsPlain (Entered k e ∷ lines) row
 plain_entered k e lines row h = record { shape = h.shape; reading = h.reading; stands = h.stands }
@@ -146,7 +148,8 @@ not_true true h = absurd (h refl)
 not_true false h = refl
 
 module _ (stand : RowsStand) (change : VoidsChangeTwoRows) (meter : Installed) (well : IsWellInstalled meter) where
-  -- If a meter's journal (its history) has a void, the entry that the void cancels exists.
+  -- If a meter's journal (its history) has a void (the cancellation of an entry), the cancelled
+  -- entry exists.
   voids_low : (lines : Journal) → AreFitting meter lines → (place : ℕ) → is_voided place lines ≡ true → place ≤ length (rows_of meter.opening lines) + 1
   voids_low [] fits place h = absurd (let e = h in cc)
   voids_low (Entered k e ∷ lines) fits place h = let low = voids_low lines fits.1 place h in omega (arith, low)

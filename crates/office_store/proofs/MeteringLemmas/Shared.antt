@@ -40,7 +40,7 @@ use Rattle.office_store.proofs.MeteringLemmas.Found.{alone}
 abbrev AreEach : (facts : List Fact) → (rows : List Interval) → Type 0
 AreEach facts rows = (meter : List ℕ) → IsPermutation (filter (is_of meter) rows) (map (interval_of meter) (rows_of_meter facts meter))
 
--- ---- if the energy of each quarter hour is in its range, the rows of `intervals` can be read
+-- If the energy of each quarter hour is in its range, the rows of `intervals` can be read.
 
 sound_rows : (meter : List ℕ) (shares : List Share) → AllByRecursion IsSoundShare shares → AllByRecursion IsSoundInterval (map (interval_of meter) shares)
 sound_rows meter [] h = tt
@@ -63,7 +63,7 @@ pub all_sound : (facts : List Fact) (rows : List Interval) → AreEach facts row
 all_sound facts rows each sound =
     each_sound rows (λ meter. recursion_from_All IsSoundInterval _ (All-permutation IsSoundInterval _ _ (IsPermutation-sym _ _ (each meter)) (All-from_recursion IsSoundInterval _ (sound_rows meter (rows_of_meter facts meter) (sound meter)))))
 
--- ---- the rows of `intervals` for a meter, in the order of their starts
+-- Lemmas on the rows of `intervals` for a meter, in the order of their starts.
 
 abbrev starts_before : Interval → Interval → Bool
 starts_before i j = nat_lt (start_of i) (start_of j)
@@ -116,7 +116,8 @@ module _ (kept : MetersAreKept) (facts : List Fact) (lawful : AreLawful facts) w
       h.2 ∙ ap (map (λ (i : Interval). i.share)) (here ∙ filter-map asked (interval_of meter) shares) ∙ shares_back meter _
       ∙ bounded_rows (λ (share : Share). share.start) from till low high low_is high_is shares (meter_in_time turn facts lawful meter)
 
-  -- ---- the rows of `intervals` for an accounting register are those of its meters
+  -- The rows of `intervals` for an accounting register (a named energy counter) are those of the
+  -- register's meters.
 
   module _ (register : List ℕ) (rows : List Interval) where
     abbrev Pair : Type 0
@@ -131,8 +132,8 @@ module _ (kept : MetersAreKept) (facts : List Fact) (lawful : AreLawful facts) w
     abbrev here : Opening → Bool
     here o = same o.register register
 
-    -- The rows of `intervals` for each meter at an accounting register, in the order in which the
-    -- meters were installed.
+    -- The rows of `intervals` for each meter at an accounting register (a named energy counter), in
+    -- the order in which the meters were installed.
     abbrev wanted : List Opening → List Pair
     wanted [] = []
     wanted (o ∷ os) = wanted os ++ cond (here o) (own (length os + 1) o) []
@@ -145,8 +146,8 @@ module _ (kept : MetersAreKept) (facts : List Fact) (lawful : AreLawful facts) w
     with_false true = refl
     with_false false = refl
 
-    -- One meter, paired with all rows of `intervals`: at its own accounting register, the pairs are
-    -- the meter's own rows. At another register there are none.
+    -- The rows of `intervals`, joined with one meter at its own accounting register (a named energy
+    -- counter), are the meter's own rows. At any other register, there are none.
     mine : (b : Bool) (n : ℕ) (o : Opening) → here o ≡ b → IsPermutation (filter (is_of o.meter) rows) (map (interval_of o.meter) (rows_of_opening facts o))
         → IsPermutation (filter (lies_at register) (map (at_place n o) rows)) (cond b (own n o) [])
     mine true n o is each =
@@ -171,7 +172,7 @@ module _ (kept : MetersAreKept) (facts : List Fact) (lawful : AreLawful facts) w
         subst (λ l. IsPermutation l (wanted (o ∷ os))) (sym split)
         (IsPermutation-trans _ _ _ (IsPermutation-append _ _ _ _ (mine (here o) n o refl h.0) (all_lie os h.1)) (IsPermutation-append_comm (cond (here o) (own n o) []) (wanted os)))
 
-    -- ---- the rows are ordered by the index of the meter, then by the start of the quarter hour
+    -- Lemmas on rows ordered by the index of their meter, then by the start of the quarter hour.
 
     abbrev comes_before : Pair → Pair → Bool
     comes_before p q = nat_lt (installed_place p.0) (installed_place q.0) || ((installed_place p.0 == installed_place q.0) && starts_before p.1 q.1)
@@ -199,8 +200,8 @@ module _ (kept : MetersAreKept) (facts : List Fact) (lawful : AreLawful facts) w
         let eq : (a == b) ≡ true = eq-eqb a b same_place in
         ap₂ (λ c d. nat_lt a b || (c && d)) eq is ∙ or_true (nat_lt a b)
 
-    -- If a row precedes a second row in the order of meters and starts, and the second precedes a
-    -- third, the first precedes the third.
+    -- The order of rows by meter and start is transitive: if one row precedes a second, and the
+    -- second a third, the first precedes the third.
     pair_still : (p q r : Pair) → comes_before p q ≡ true → ComesAfter q r → comes_before p r ≡ true
     pair_still p q r lt le = elim (less_or (installed_place p.0) (installed_place q.0) (starts_before p.1 q.1) lt) [
       | inl low ↦ elim le [
@@ -245,7 +246,8 @@ module _ (kept : MetersAreKept) (facts : List Fact) (lawful : AreLawful facts) w
         ascending-append (λ (p q : Pair). comes_before p q ≡ true) (wanted os) _ (in_turn os h.1) (rising_here (here o) n o h.0)
         (all_weaker (λ (p : Pair). installed_place p.0 ≤ length os) _ (λ p le. all_after (here o) p n o (omega (arith, le))) (wanted os) (up_to (length os) os (omega arith)))
 
-    -- ---- the energy in an accounting register's rows is the energy of its meters, in order
+    -- The energy in the rows of an accounting register (a named energy counter) is the energy of
+    -- the register's meters, in order.
 
     abbrev share_of : Pair → Share
     share_of p = p.1.share

@@ -1,4 +1,4 @@
--- Proofs that a crash of a connection leaves files that encode records.
+-- Proofs that a crash of a database connection leaves files that encode records.
 use Rattle.std.proofs.Common.{◌≡◌, ℕ, Bool, List, IsTrue, sym, subst, arith}
 use Rattle.std.proofs.Math.Logic.{∥∥₁_map}
 use Rattle.sqlite_disk.specs.declared.Disk.{Ghosts}
@@ -39,8 +39,8 @@ module _ {D : Type 0} (g : Ghosts D) where
     holds = finds.holds;
   }
 
-  -- Proofs that a crash after a connection was closed leaves only files that a crash before the
-  -- close may leave.
+  -- Proofs that a crash after a database connection was closed leaves only files that a crash
+  -- before the close could leave.
   module _ (law : StopsLeaveFacts g) (h : Held (FileStore D g)) (last : FileStore D g) (undone : IsRolledBack (view h.store) (view last))
       (quiet : IsQuiet view faults recovers is_shielded h.store last) (numbered : IsClean (view last) → IsTrue (view last).is_numbered)
       (clean : IsClean (view last)) (zone : List ℕ) (left : List (List Fact)) (leaves : LeavesFacts over_files zone h left) where

@@ -17,8 +17,7 @@ use Rattle.sqlite_sql.specs.declared.ops.CompareOp.TheVariants.{Ge, Lt}
 use Rattle.sqlite_value.proofs.OrderLemmas.{value_cmp-Int}
 use Rattle.sqlite_keyed.proofs.ListLemmas.{all-filter}
 
--- The SQL test that a column is greater than or equal to a parameter. The column and the parameter
--- are given by index.
+-- The SQL test that a column is greater than or equal to a parameter, both given by index.
 abbrev pub is_at_least : (table column param : ℕ) → Term
 is_at_least table column param = op2 (Compare Ge Binary) (col table column) (col 0 param)
 
@@ -28,7 +27,7 @@ is_below table column param = op2 (Compare Lt Binary) (col table column) (col 0 
 pub all_found : {X : Type 0} (P : X → Type 0) (p : X → Bool) (xs found : List X) → IsPermutation (filter p xs) found → AllByRecursion P xs → AllByRecursion P found
 all_found P p xs found same all = recursion_from_All P found (All-permutation P _ _ same (All-from_recursion P _ (all-filter P p xs all)))
 
--- ---- SQLite's comparison of two integers agrees with the comparison of natural numbers
+-- SQLite's comparison of two integers agrees with the comparison of natural numbers.
 
 truth_back : (b : Bool) → is_true (from_truth (Some b)) ≡ b
 truth_back true = refl

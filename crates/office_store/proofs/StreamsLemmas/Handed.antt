@@ -1,4 +1,4 @@
--- Proofs about streaming the rows of a query to the caller's sink one by one.
+-- Proofs about passing the rows of a query to the caller's sink (a visitor of rows) one by one.
 use Rattle.std.proofs.Common.{◌≡◌, inl, inr, List, [], ◌∷◌, ◌++◌, length, length-append, ℕ, ◌+◌, ◌≤◌, false, Ok, Err, Result, OnErr, IsErrAnd, refl, sym, ap, subst, arith, ◌∙◌}
 use Rattle.sqlite.specs.declared.error.Error.{Error}
 use Rattle.sqlite.specs.declared.error.Error.TheVariants.{InvalidQuery}
@@ -45,8 +45,8 @@ refused_why g sql params old new (Ok x) e is content clean = absurd (let f = is 
 refused_why g sql params old new (Err d) e is content clean = subst (FailsToQuery sql params (state g old) (state g new)) (let f : d ≡ e = cc in f) (content.err clean)
 
 module _ {S K T : Type 0} (g : Ghosts S) (sql : List ℕ) (params : Row) (reads : Row → Result T RowFault) (IsRow : T → Type 0) (old : Held S) (takes : K → T → K → Type 0) (before : K) where
-  -- The state of a stream after it read the first `count` rows and passed their values to the
-  -- caller's sink.
+  -- The state of a streaming query after it read the first `count` rows and passed their values to
+  -- the caller's sink.
   pub record Stands (now : Held S) (after : K) (count : ℕ) : Type 0 where
     pub cleaned : HasCleanDisk (state g now) → HasCleanDisk (state g old)
     pub mode : old.in_transaction ≡ false → now.in_transaction ≡ false
@@ -89,8 +89,8 @@ module _ {S K T : Type 0} (g : Ghosts S) (sql : List ℕ) (params : Row) (reads 
         (it.0 ++ row ∷ [], given clean it.0 it.1, unchanged_then _ _ _ it.2 (same clean), read_more reads it.0 h.rows row next it.3 is);
   }
 
-  -- If SQLite refuses the query of a stream, the stream returns the error, and passes no row to the
-  -- sink.
+  -- If SQLite refuses a streaming query, the function returns the error and passes no row to the
+  -- caller's sink.
   pub not_begun : (new : Held S) (r : Result (Unit {0}) RowFault) (e : Error) → IsErrAnd r (λ d. d ≡ Sql e) → (state g old).faults ≤ (state g new).faults → FailsToQuery sql params (state g old) (state g new) e → HandsOnQuery g sql params reads old new takes before before r
   not_begun new (Ok x) e fails up why = absurd fails
   not_begun new (Err d) e fails up why = record {
@@ -106,8 +106,8 @@ module _ {S K T : Type 0} (g : Ghosts S) (sql : List ℕ) (params : Row) (reads 
   asked_on : (now : Held S) (given : List Row) → HasGiven g sql params now given → IsUnchanged (state g old) (state g now) → IsAsked g sql params old now given
   asked_on now given has same = (same, given_begin g sql params now given has)
 
-  -- If the store fails during a stream, the stream returns the error after it passed the earlier
-  -- rows to the sink.
+  -- If the database fails while a query's rows are streamed, the function returns the error after
+  -- it passed the earlier rows to the caller's sink.
   pub fails_later : (r : Result (Unit {0}) RowFault) (e : Error) (now last new : Held S) (after : K) (count : ℕ) → new ≡ last → IsErrAnd r (λ d. d ≡ Sql e) → HasCleanDisk (state g now) → IsPlain (understood old.schema sql)
       → Stands now after count → (state g now).faults ≤ (state g last).faults → ((given : List Row) → HasGiven g sql params now given → FailsToQuery sql params (state g now) (state g last) e) → HandsOnQuery g sql params reads old new takes before after r
   fails_later (Ok x) e now last new after count ends fails clean plain h up why = absurd fails
@@ -123,7 +123,8 @@ module _ {S K T : Type 0} (g : Ghosts S) (sql : List ℕ) (params : Row) (reads 
         fault = subst (IsReadFault g sql params reads old new it.0 h.rows) (sym fails) (inl (record { asked = now; same = it.2.0.now_is; goes = went_on (state g old) (state g now) _ clean (h.survives plain); counts = subst (λ (k : Held S). (state g now).faults ≤ (state g k).faults) (sym ends) up; fails = subst (λ (k : Held S). FailsToQuery sql params (state g now) (state g k) e) (sym ends) (why it.0 it.1) }));
       }
 
-  -- If a stream has passed the greatest number of rows that it can count, it ends with an error.
+  -- If a streaming query has passed 2^64 - 1 rows to the caller, the greatest number that it can
+  -- count, it ends with an error.
   pub ends_late : (now new : Held S) (after : K) → HasCleanDisk (state g now) → IsPlain (understood old.schema sql) → Stands now after most_rows → HandsOnQuery g sql params reads old new takes before after (Err (Sql InvalidQuery))
   ends_late now new after clean plain h =
       let it = h.follows clean plain in
@@ -137,7 +138,7 @@ module _ {S K T : Type 0} (g : Ghosts S) (sql : List ℕ) (params : Row) (reads 
         fault = inr (refl, h.counted);
       }
 
-  -- If a stream has read all rows of its query, it returns Ok.
+  -- If a streaming query has read all rows of its result, it returns Ok.
   pub ends_well : (now last new : Held S) (after : K) (count : ℕ) → HasCleanDisk (state g now) → IsPlain (understood old.schema sql) → Stands now after count
       → ((given : List Row) → HasGiven g sql params now given → Shown sql params (state g now) (state g last) given) → HandsOnQuery g sql params reads old new takes before after (Ok tt)
   ends_well now last new after count clean plain h shown =
@@ -152,7 +153,8 @@ module _ {S K T : Type 0} (g : Ghosts S) (sql : List ℕ) (params : Row) (reads 
         fault = tt;
       }
 
-  -- If the reader of a stream can't read a row, the stream ends with a fault at this row.
+  -- If the reader of a streaming query can't convert a row, the stream ends with an error at this
+  -- row.
   pub not_read : (r : Result (Unit {0}) RowFault) (f : RowFault) (now last new : Held S) (after : K) (count : ℕ) (row : Row) → IsErrAnd r (λ d. d ≡ f) → reads row ≡ Err f → f ≡ Damaged → HasCleanDisk (state g now) → IsPlain (understood old.schema sql)
       → Stands now after count → ((given : List Row) → HasGiven g sql params now given → HasGiven g sql params last (given ++ row ∷ [])) → IsUnchanged (state g now) (state g last) → HandsOnQuery g sql params reads old new takes before after r
   not_read (Ok x) f now last new after count row fails bad is clean plain h more same = absurd fails

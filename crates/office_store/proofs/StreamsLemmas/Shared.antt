@@ -25,7 +25,7 @@ use Rattle.store_tables.proofs.ReadLemmas.{IsFair}
 use Rattle.store_tables.proofs.StepLemmas.{on_ok, plain_in}
 use Rattle.office_store.specs.Handing.{TookSome, AreRead, IsAsked, HandsOn, HandsOnQuery, IsReadFault, IsStreamFault}
 
--- ---- if one row is read, its value satisfies what the reader promises
+-- If one row is read successfully, its value satisfies the contract of the row's reader.
 
 if_read : {T : Type 0} (r : Result T RowFault) (P : T → Type 0) (t : T) → IfOk r P → r ≡ Ok t → P t
 if_read (Ok x) P t h is = let same : x ≡ t = cc in subst P same h
@@ -34,8 +34,6 @@ if_read (Err f) P t h is = absurd (let e = is in cc)
 if_damaged : {T : Type 0} (Sound : Type 0) (r : Result T RowFault) → IfErr r (IsRowFault Sound) → r ≡ Err Damaged → ¬ Sound
 if_damaged Sound (Ok x) h is = absurd (let e = is in cc)
 if_damaged Sound (Err f) h is = subst (IsRowFault Sound) (let e : f ≡ Damaged = cc in e) h
-
--- ---- the values that are read from several rows are those that the rows encode, in order
 
 -- Proofs about the columns that a query returns for each row, and about the reader of the columns.
 module _ {X T : Type 0} (shown : X → Row) (of : X → T) (Sound : X → Type 0) (reads : Row → Result T RowFault) (fair : (x : X) → IsFair (Sound x) (λ t. t ≡ of x) (reads (shown x))) where
@@ -77,10 +75,11 @@ nothing reads takes before after [] [] is zip taken = taken
 nothing reads takes before after [] (t ∷ rows) is zip taken = absurd zip
 nothing reads takes before after (r ∷ given) rows is zip taken = absurd (let e = is in cc)
 
--- ---- a stream of a query whose result rows are known passes the expected values to the sink
+-- Lemmas that a streaming query whose result rows are known passes the expected values to the
+-- caller's sink.
 
--- True if the result rows of a query encode the expected values in order. If the values in the
--- tables are in their ranges, each result value is in its range.
+-- True if the result rows of a query encode the expected values in order. If the tables' values are
+-- in their ranges, so is each expected value.
 pub record Reports {X T Tables : Type 0} (shown : X → Row) (of : X → T) (Sound : X → Type 0) (Are : Tables → List T → Type 0) (AreSound : Tables → Type 0) (tables : Tables) (rows : List Row) : Type 0 where
   pub found : List X
   pub shows : rows ≡ map shown found

@@ -30,7 +30,7 @@ void_at meter place old new content xs rows has are h =
     (λ n x. rw (text_is x.meter meter, number_is x.place place, and_true (x.place == place)) refl) (λ n x. refl) (λ m n x y le. tt)
     old new text.void_at text.void_at_names content xs rows (tree_at books_schema.tables 12 voids_table refl) has are text.void_at_is text.void_at_unlisted text.void_at_plain h
 
--- ---- if a query fails, or its answer can't be read, the tables stay unchanged
+-- If a query fails, or its answer can't be read, the tables stay unchanged.
 
 pub not_answered : {S A X Y : Type 0} (T : RowFault → Type 0) (g : Ghosts S) (old new : Held S) (e : Error) (r : Result Y RowFault) (tree : ℕ) (columns : X → Row) (Answers : List X → Y → Type 0)
     → AsksInside {X = A} {E = Error} g old new (Err e) → IsErrAnd r T → Goes (state g old) (state g new) r (ReportsOf r tree columns Answers)
@@ -43,7 +43,7 @@ not_read T g old new a (Ok y) tree columns Answers asks is = absurd is
 not_read T g old new a (Err d) tree columns Answers asks is =
     record { kept = λ clean inside content has. asks.kept clean content has; makes = λ clean inside content has. tt; survives = asks.survives }
 
--- ---- the first result row of a query with LIMIT 1 encodes the first row that passes the test
+-- The first result row of a query with LIMIT 1 encodes the first row that passes the query's test.
 
 module _ {X : Type 0} (passes : X → Bool) (shown : X → Row) where
   no_first : (items : List Row) (found : List X) → slice_get items 0 ≡ None → items ≡ take 1 (map shown found) → slice_get found 0 ≡ None
@@ -80,7 +80,7 @@ module _ {X : Type 0} (passes : X → Bool) (shown : X → Row) where
       })
       (of_answer g old new tree columns (λ xs a. ShowsFirst passes AnyOrder shown xs items) rows asks reports)
 
-  -- ---- a query with LIMIT 1 has a result row exactly if some row passes the test
+  -- A query with LIMIT 1 has a result row exactly if some row of the table passes the query's test.
 
   abbrev has_some : List X → Bool
   has_some [] = false

@@ -15,7 +15,7 @@ use Rattle.store_tables.proofs.Failures.{Suits, suits_scan}
 use Rattle.store_tables.proofs.Scans.{scan, no_limit, one, is_param}
 use Rattle.office_store.proofs.StreamsLemmas.Compared.{is_at_least}
 
--- ---- the SQL text of `take_share`, and what SQLite parses from it
+-- Lemmas on the SQL text of the statement `take_share`, and what SQLite parses from it.
 
 abbrev pub take_share : List ℕ
 take_share = codes "UPDATE intervals SET mwh = mwh - ?3 WHERE meter = ?1 AND start = ?2"
@@ -34,7 +34,7 @@ pub take_share_plain : IsPlain (understood books_schema take_share)
 unfolding understood everything
 take_share_plain = (refl, refl)
 
--- ---- the SQL text of `drop_rows_from`, and what SQLite parses from it
+-- Lemmas on the SQL text of the statement `drop_rows_from`, and what SQLite parses from it.
 
 abbrev pub drop_from : List ℕ
 drop_from = codes "DELETE FROM intervals WHERE meter = ?1 AND start >= ?2"
@@ -50,7 +50,7 @@ pub drop_from_plain : IsPlain (understood books_schema drop_from)
 unfolding understood everything
 drop_from_plain = (refl, refl)
 
--- ---- the SQL text of `void_rows_at`, and what SQLite parses from it
+-- Lemmas on the SQL text of the query `void_rows_at`, and what SQLite parses from it.
 
 abbrev pub void_at : List ℕ
 void_at = codes "SELECT place FROM voids WHERE meter = ?1 AND place = ?2 LIMIT 1"

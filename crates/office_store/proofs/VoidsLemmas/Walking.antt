@@ -1,5 +1,5 @@
--- Proofs about the search for the nearest meter entry that is not voided. The search queries one
--- index after another until an index has no void.
+-- Proofs about the search for the nearest meter entry that is not voided (cancelled). The search
+-- queries one index after another.
 use Rattle.std.proofs.Common.{◌≡◌, ◌≤◌, ◌<◌, ◌+◌, ℕ, Bool, true, false, inl, inr, List, Ok, Err, Result, IsErrAnd, refl, sym, subst, ◌∙◌, arith}
 use Rattle.std.specs.Prelude.{nat_lt}
 use Rattle.std.proofs.lemmas.Bool.{cases_Bool}
@@ -15,8 +15,8 @@ use Rattle.office_store.proofs.GoingLemmas.{goes_then, then_failed, reported_les
 use Rattle.office_store.specs.Voids.Places.{ReportsOf, names, ReportsVoided, AreVoided, IsBefore, IsAfter}
 
 module _ (meter : List ℕ) where
-  -- True if a meter's entries with indices between `low` and `high` are all voided, and the search
-  -- changed nothing.
+  -- True if a meter's entries with indices between `low` and `high` are all voided (cancelled), and
+  -- the search changed nothing.
   abbrev pub Passed : (low high : ℕ) → Content → Content → Type 0
   Passed low high = Reported voids voided_columns (λ (vs : List Voided) (u : Unit {0}). AreVoided meter low high vs) tt
 
@@ -59,14 +59,15 @@ module _ (meter : List ℕ) where
   went_up low high p a b c is passed next one two =
       both low p low high p a b c (λ vs. higher low p high vs next) one (subst (λ (x : Bool). Goes {X = Bool} {E = RowFault} b c (Ok x) (Asked p x)) passed two)
 
-  -- If a query of the search fails, the search returns the fault of this query.
+  -- If a query fails during the search for a meter entry, the search returns the error of this
+  -- query.
   pub walk_failed : {X A : Type 0} (T : RowFault → Type 0) (a b c : State) (e : RowFault) (r : Result A RowFault) (low high : ℕ) (Q : Content → Content → Type 0) (Answers : List X → A → Type 0) (tree : ℕ) (columns : X → Row)
       → Goes {X = Unit {0}} {E = RowFault} a b (Ok tt) (Passed low high) → Goes {X = Bool} b c (Err e) Q → IsErrAnd r T → Goes a c r (ReportsOf r tree columns Answers)
   walk_failed T a b c e (Ok x) low high Q Answers tree columns one two is = absurd is
   walk_failed T a b c e (Err d) low high Q Answers tree columns one two is = then_failed a b c tt e d (Passed low high) Q (ReportsOf (Err d) tree columns Answers) one two
 
-  -- If the downward search reaches a meter entry that is not voided, it returns the index of this
-  -- entry.
+  -- If the downward search reaches a meter entry that is not voided (cancelled), it returns the
+  -- index of this entry.
   pub stands_before : (place p : ℕ) (a b c : State) (is : Bool) → is ≡ false → 1 ≤ p → p < place → Goes {X = Unit {0}} {E = RowFault} a b (Ok tt) (Passed p place) → Goes {X = Bool} {E = RowFault} b c (Ok is) (Asked p is)
       → Goes {X = ℕ} {E = RowFault} a c (Ok p) (Reported voids voided_columns (IsBefore meter place) p)
   stands_before place p a b c is off first less one two =

@@ -30,7 +30,8 @@ use Rattle.office_store.proofs.StreamsLemmas.Compared.{at_least_is}
 use Rattle.office_store.specs.Voids.Withdrawal.{lowered, without_share, without_shares, HasShare, HaveShares, TakesShares, starts_from, DropsRows}
 use Rattle.office_store.proofs.VoidsLemmas.Texts as text
 
--- ---- the effect of the SQL statements that subtract energy from rows, and that delete rows
+-- Lemmas on the effect of the SQL statements that subtract energy from rows of `intervals`, and
+-- that delete rows.
 
 -- A row of `intervals` after an UPDATE subtracted energy in mWh.
 abbrev pub takes : (mwh : ℕ) → Kept → Kept
@@ -54,7 +55,7 @@ drop_from meter from old new r h =
     deletes intervals_table 9 refl (Text meter ∷ Int (pos from) ∷ []) text.drop_from_tests interval_columns (starts_from meter from)
     (λ n i. rw (text_is i.meter meter, at_least_is i.share.start from, and_true (nat_le from i.share.start)) refl) old new text.drop_from r text.drop_from_is text.drop_from_plain h
 
--- ---- SQLite's difference of two energies in mWh is exact, because neither is 2^63 or more
+-- SQLite's difference of two energies in mWh is exact, because both energies are less than 2^63.
 
 fits : (n : ℕ) → n < 2 ^ 63 → if_fits (pos n) ≡ Some (pos n)
 fits n h = grind (arith, nat_tests)
@@ -66,7 +67,7 @@ difference_is : (a b : ℕ) → b ≤ a → a < 2 ^ 63 → binary (Arith Sub) (I
 unfolding binary
 difference_is a b le h = rw (left_is a b le, fits (a - b) (omega (arith, le, h)))
 
--- ---- an UPDATE that subtracts energy from a stored row stores the reduced energy
+-- An UPDATE that subtracts energy from a row of `intervals` stores the reduced energy.
 
 one_taken : (mwh : ℕ) (i : Interval) → mwh ≤ i.share.mwh → i.share.mwh ≤ greatest_total → takes mwh (kept_of i) ≡ kept_of (lowered mwh i)
 one_taken mwh i le small =
@@ -87,7 +88,7 @@ take_share meter share old new r h =
     on_ok r (turns_weaker _ _ old.now new.now (λ content after. of_intervals (HaveShares meter (share ∷ [])) (without_shares meter (share ∷ [])) (taken_from meter share.start share.mwh) content after (λ is has. all_taken meter share is has.0)))
     (takes_kept meter share.start share.mwh old new r h)
 
--- ---- two subtractions of energy in sequence have the effect of one combined edit
+-- Two subtractions of energy in sequence have the effect of one combined edit of `intervals`.
 
 edits_then : (May One Two : List Interval → Type 0) (all one two : List Interval → List Interval)
     → ((is : List Interval) → May is → One is × Two (one is) × (two (one is) ≡ all is)) → (x y z : Content) → EditsIf One one x y → EditsIf Two two y z → EditsIf May all x z

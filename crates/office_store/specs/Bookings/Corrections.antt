@@ -1,5 +1,5 @@
--- Defines which changes voiding an entry makes to its meter, given the valid entries around the
--- voided entry. A void marks a false reading, which then no longer counts.
+-- Defines which changes voiding (cancelling) an entry makes to its meter, given the entries around
+-- the voided entry that are not voided.
 use Rattle.std.specs.Prelude.{◌≡◌, ℕ, ◌+◌, ◌<◌, ◌≤◌, ◌==◌, Bool, Option, Some, None, IfSome, is_none, if◌then◌else◌}
 use Rattle.energy_core.specs.declared.limits.TheConstants.{MAX_INTERVALS}
 use Rattle.energy_core.specs.declared.entries.Entry.{Entry}
@@ -19,7 +19,7 @@ use Rattle.office_store.specs.declared.bookings.corrections.Rejoined.{Rejoined}
 use Rattle.office_store.specs.declared.bookings.surroundings.Surroundings.{Surroundings}
 use Rattle.office_store.specs.Bookings.MeterState.{counter_of, stands_at}
 
--- True if a row of `entries` encodes a reading, and `e` is the reading's journal entry.
+-- True if a row of `entries` encodes a reading, and `e` is this reading in the meter's history.
 pub record IsReadingOf (row : EntryRow) (e : Entry) : Type 0 where
   pub kind : row.kind ≡ kind.Reading
   pub step : e ≡ entry.Step row.moment row.raw row.rolls
@@ -32,21 +32,23 @@ pub record CanBeShared (step : Step) : Type 0 where
   pub energy : step.mwh ≤ greatest_total
   pub till : step.till ≤ latest_moment
 
--- True if the tables allow the new rollovers and energies of the next entry after a voided entry.
+-- True if the tables allow the new counter rollovers and energies of the next entry after a voided
+-- (cancelled) entry.
 pub record CanBeRejoined (joined : Rejoined) : Type 0 where
   pub place : joined.rollover.place ≤ greatest_place
   pub out : CanBeShared joined.out
   pub put : CanBeShared joined.put
 
--- True if the tables allow all changes of a correction.
+-- True if the values in a correction (the changes that voiding a false reading makes) are in the
+-- ranges of the tables.
 pub record CanBeBooked (made : Correction) : Type 0 where
   pub out : CanBeShared made.out
   pub next : IfSome made.next CanBeRejoined
   pub last : IsSoundLast made.last
   pub from : made.from ≤ latest_moment
 
--- True if `joined` has the new rollovers and energies of the next meter entry, which now follows
--- the counter's state before the voided entry.
+-- True if `joined` has the new rollovers and energies of the entry after a voided (cancelled)
+-- entry, counted from the state before the voided entry.
 pub record Rejoins (range : ℕ) (before voided : Last) (next : EntryRow) (joined : Rejoined) : Type 0
   where
     pub entry : Entry
@@ -56,39 +58,40 @@ pub record Rejoins (range : ℕ) (before voided : Last) (next : EntryRow) (joine
     pub out : joined.out ≡ step_to range voided entry
     pub put : joined.put ≡ step_to range before (with_rolls before entry)
 
--- True if `joined` has the new rollovers and energies of the next meter entry, or is None if there
--- is no next entry.
+-- True if `joined` has the new rollovers and energies of the entry after a voided (cancelled)
+-- entry, or is None if no entry follows.
 abbrev pub RejoinsNext : (range : ℕ) → (before voided : Last) → Option EntryRow → Option Rejoined
     → Type 0
 RejoinsNext range before voided None joined = joined ≡ None
 RejoinsNext range before voided (Some next) None = ⊥
 RejoinsNext range before voided (Some next) (Some joined) = Rejoins range before voided next joined
 
--- The energy that a void removes, in mWh. It is the energy up to the voided meter entry, plus the
--- energy from the voided entry to the next entry, if a next entry exists.
+-- The energy in mWh that is removed when an entry is voided (cancelled): the energy up to this
+-- entry, and from it to the next entry, if any.
 abbrev pub energy_out : Step → Option Rejoined → ℕ
 energy_out out None = out.mwh
 energy_out out (Some joined) = joined.out.mwh + out.mwh
 
--- The energy in mWh that a void adds from the meter entry before the voided entry to the next
--- entry, or 0 if there is no next entry.
+-- The energy in mWh between the entries before and after a voided (cancelled) entry, which voiding
+-- adds. 0 if no entry follows.
 abbrev pub energy_put : Option Rejoined → ℕ
 energy_put None = 0
 energy_put (Some joined) = joined.put.mwh
 
--- True if `last` is the meter's new last entry with the total energy. If the voided entry was the
--- last, the entry before it becomes the last.
+-- True if `last` is the meter's last entry and total energy after an entry was voided (cancelled).
+-- If the voided entry was the last, the entry before it becomes the last.
 abbrev pub StandsAt : Surroundings → (before : Last) → (total : ℕ) → (is_last : Bool) → LastRow
     → Type 0
 StandsAt found before total is_last last =
     last ≡ stands_at (if is_last then before else counter_of found.standing.last) total
 
--- The time from which a void deletes rows of `intervals`: the time of the meter's last entry, or 0
--- if the last entry is the opening, after which no energy is recorded.
+-- When an entry is voided (cancelled), the meter's rows of `intervals` from this time on are
+-- deleted. The time is the meter's last entry, or 0 if only the opening (the first entry) remains.
 abbrev pub gone_from : (opened last : ℕ) → ℕ
 gone_from opened last = if last == opened then 0 else last
 
--- True if `made` has the changes that voiding a meter entry makes, given the entries around it.
+-- True if `made` has the changes that voiding (cancelling) a meter entry makes, given the entries
+-- around it.
 pub record Corrects (found : Surroundings) (made : Correction) : Type 0 where
   pub entry : Entry
   pub reading : IsReadingOf found.near.entry entry

@@ -40,8 +40,8 @@ counter_of last = record { at = last.moment; raw = last.raw; sf = last.sf }
 abbrev pub stands_at : Last → (total : ℕ) → LastRow
 stands_at last total = record { moment = last.at; raw = last.raw; sf = last.sf; total = total }
 
--- True if the rules accept an entry, and `advance` has the meter's new last entry and the energy
--- from the previous entry to the new last entry.
+-- True if the rules accept a new entry, and `advance` has the meter's new last entry and the energy
+-- since the previous entry.
 abbrev pub Advances : Standing → Entry → Advance → Type 0
 Advances standing e advance =
     (last : Last) (step : Step)
@@ -49,7 +49,8 @@ Advances standing e advance =
     ≡ Ok (last, step)
     → (advance.last ≡ stands_at last (standing.last.total + step.mwh)) × (advance.step ≡ step)
 
--- A meter's row of `installations` with a new last entry. A closing also marks the meter as closed.
+-- A meter's row of `installations` with a new last entry. An entry that closes the meter also marks
+-- the row as closed.
 abbrev pub settled : LastRow → (is_closing : Bool) → Installed → Installed
 settled last is_closing i =
     record i {
@@ -57,15 +58,15 @@ settled last is_closing i =
           { last = last; is_ended = if is_closing then true else i.row.is_ended };
     }
 
--- The effect of a new last entry on the row of the meter in `installations`. A closing also marks
--- the row as closed.
+-- The effect of a new last entry on the meter's row in `installations`. An entry that closes the
+-- meter also marks the row as closed.
 abbrev pub Settles : (meter : List ℕ) → LastRow → (is_closing : Bool) → Content → Content → Type 0
 Settles meter last is_closing =
     Edits meter_tree.installations installed_columns
     (changed_where (is_meter meter) (settled last is_closing))
 
--- The effect of storing one more entry of a meter. The effect consists of the entry's row, the
--- energy since the previous entry, and the meter's new state.
+-- The effect on the tables of storing one more entry of a meter: the entry's row, the energy since
+-- the previous entry, and the meter's new state.
 pub record EntersEntry (meter : List ℕ) (row : EntryRow) (advance : Advance) (is_closing : Bool)
     (content after : Content) : Type 0 where
   pub one : Content

@@ -12,7 +12,7 @@ use Rattle.store_tables.specs.Limits.{greatest_place}
 use Rattle.store_tables.specs.declared.meters.rows.LastRow.{LastRow}
 use Rattle.store_tables.specs.Meters.Rows.{Installed}
 
--- The index after a given index, or `Damaged` for the greatest index.
+-- The index after a given index, or `Damaged` if the given index is the greatest one.
 abbrev pub one_on : ℕ → Result ℕ RowFault
 one_on place = if nat_le greatest_place place then Err Damaged else Ok (place + 1)
 
@@ -30,14 +30,14 @@ place_after (Some row) = following_place row
 abbrev pub next_in : List Row → Result ℕ RowFault
 next_in rows = place_after (slice_get rows 0)
 
--- If the answer is Ok, `Makes` relates the answer, the tables before the call, and the tables after
--- it. An error implies nothing about the tables.
+-- If the call returns Ok, `Makes` relates the answer, the tables before the call, and the tables
+-- after it. An error implies nothing about the tables.
 abbrev pub Answered : {X E : Type 0} → Result X E → (X → Content → Content → Type 0) → Content
     → Content → Type 0
 Answered (Ok x) Makes = Makes x
 Answered (Err e) Makes = λ content after. ⊤
 
--- True if a query found the answer in the one row that passes a test, and changed nothing.
+-- True if a query found its answer in the only row that passes a test, and changed nothing.
 pub record IsSeenIn {X A : Type 0} (tree : ℕ) (columns : X → Row) (passes : X → Bool)
     (IsSeen : X → A → Type 0) (answer : A) (content after : Content) : Type 0 where
   pub same : after ≡ content

@@ -31,8 +31,8 @@ pub record Finds {S A : Type 0} (g : Ghosts S) (old new : Held S) (result : Resu
 abbrev pub OfLawful : {A : Type 0} → (List Fact → A → Type 0) → List Fact → A → Type 0
 OfLawful Says facts a = AreLawful facts × Says facts a
 
--- True if a reader returns the values that result rows encode, in order. The reader reports
--- `Damaged` only if a value is out of its range. The only other fault is out of memory.
+-- True if a reader converts result rows to the values that they encode, in order. It may fail only
+-- with `Damaged` for a value out of its range, or out of memory.
 pub record ReadsAll {A T X : Type 0} (rows : List Row) (shown : X → Row) (IsSeen : X → A → Type 0)
     (IsSound : X → Type 0) (items : T → List A) (result : Result T RowFault) : Type 0 where
   pub read : (xs : List X) → rows ≡ map shown xs → IfOk result (λ v. AreEach IsSeen xs (items v))

@@ -22,8 +22,8 @@ latest_entered facts =
     max (greatest (λ o. o.at) (openings_in facts))
     (greatest (λ b. moment_of b.entry) (entries_in facts))
 
--- The latest time at which a meter entry was voided (marked as a false reading), in seconds since
--- 1970-01-01 UTC.
+-- The latest time at which a meter entry was voided (cancelled as a false reading), in seconds
+-- since 1970-01-01 UTC.
 abbrev pub latest_voided : List Fact → ℕ
 latest_voided facts = greatest (λ v. v.at) (voids_in facts)
 

@@ -15,7 +15,7 @@ use Rattle.store_tables.specs.declared.devices.rows.PointRow.{PointRow}
 use Rattle.store_tables.specs.Devices.Rows.{Listed, IsSoundListed}
 use Rattle.office_store.specs.Rows.{placed_on, listed, points_of}
 
--- The point with the given texts and numbers, or `Damaged` if a text can't be parsed.
+-- The SunSpec point with the given texts and numbers, or `Damaged` if a text can't be parsed.
 abbrev pub point_with : (name kind scale : List ℕ) → PointRow → Result ListedPoint RowFault
 point_with named typed scaled row =
     and_then (or_damaged (name_spelled named)) (λ name.
@@ -30,14 +30,14 @@ point_with named typed scaled row =
       scale = scale;
     }))))
 
--- True if the texts that the table stores for a point's type and scale parse back to this type and
--- scale.
+-- True if the texts that the table `points` stores for a SunSpec point's type and scale can be
+-- parsed as this type and scale.
 pub record IsSpelled (p : ListedPoint) : Type 0 where
   pub kind : type_of (type_text p.kind) ≡ Some p.kind
   pub scale : scale_spelled (scale_text p.scale) ≡ Some p.scale
 
--- True if a row of `points` encodes no point other than the given one. Only points whose stored
--- texts parse back to the point (`IsSpelled`) are compared.
+-- True if a row of `points` encodes no SunSpec point other than the given one. Only points whose
+-- stored texts can be parsed as the point's type and scale are compared.
 abbrev pub IsPointOf : Listed → ListedPoint → Type 0
 IsPointOf row point = (device : List ℕ) (place : ℕ) (p : ListedPoint) → IsSpelled p
     → row ≡ listed device place p → point ≡ p
@@ -50,7 +50,7 @@ pub record IsReadablePoint (p : Listed) : Type 0 where
   pub kind : (k : PointType) × (type_of p.kind ≡ Some k)
   pub scale : (s : PointScale) × (scale_spelled p.scale ≡ Some s)
 
--- True if every row of a device's points can be read.
+-- True if every row of `points` for a device can be read.
 abbrev pub HasReadablePoints : List Fact → (device : List ℕ) → Type 0
 HasReadablePoints facts device =
     AllByRecursion IsReadablePoint (placed_on (listed device) 0 (points_of facts device))

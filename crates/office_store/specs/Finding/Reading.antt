@@ -1,4 +1,5 @@
--- Conversions from rows of the tables to devices, accounting registers and polls.
+-- Conversions from rows of the tables to devices, accounting registers (named energy counters) and
+-- polls.
 use Rattle.std.specs.Prelude.{◌≡◌, ℕ, nat_le, ◌&&◌, if◌then◌else◌, List, Option, Some, None, Result, Ok, Err, string_bytes}
 use Rattle.poll_core.specs.declared.limits.TheConstants.{MAX_TIMEOUT, MAX_WINDOW}
 use Rattle.office_events.specs.Names.{named}
@@ -24,8 +25,6 @@ use Rattle.office_books.specs.declared.books.Repeat.{Repeat}
 use Rattle.office_books.specs.declared.books.Repeat.TheVariants.{Same, Other}
 use Rattle.office_store.specs.Rows.{added, registered, started, outcome_row}
 
--- ---- rows of the table `devices`
-
 -- The device with the given name and numbers, or `Damaged` if they are not valid for a device.
 abbrev pub device_with : (name : List ℕ) → DeviceRow → Result Device RowFault
 device_with text row =
@@ -42,10 +41,8 @@ device_with text row =
 abbrev pub IsDeviceOf : Added → Device → Type 0
 IsDeviceOf row device = (place : ℕ) (d : Device) → row ≡ added place d → device ≡ d
 
--- ---- rows of the table `registers`
-
--- The source of an accounting register's scale factor: a fixed exponent, or the address of a Modbus
--- register.
+-- The source of the scale factor of an accounting register (a named energy counter): a fixed
+-- exponent, or the address of a Modbus register.
 abbrev pub source_from : RegisterScale → ScaleSource
 source_from (scale.Fixed sf) = source.Fixed sf
 source_from (scale.At address) = source.Register address
@@ -64,13 +61,12 @@ register_with text of row =
       scale = source_from row.scale;
     })))
 
--- True if a row of `registers` encodes no accounting register other than the given one.
+-- True if a row of `registers` encodes no accounting register (named energy counter) other than the
+-- given one.
 abbrev pub IsRegisterOf : Registered → Register → Type 0
 IsRegisterOf row register = (place : ℕ) (r : Register) → row ≡ registered place r → register ≡ r
 
--- ---- rows of the table `polls`
-
--- True if a poll has the name of its device and the numbers of its row.
+-- True if a poll has the given name of a device, and the numbers of a row of `polls`.
 pub record HasNumbers (name : List ℕ) (row : PollRow) (poll : Poll) : Type 0 where
   pub number : poll.number ≡ row.number
   pub device : poll.device ≡ name
@@ -89,10 +85,8 @@ IsPollOf row poll = (p : Poll) → row ≡ started p → poll ≡ p
 abbrev pub ended_from : OutcomeRow → EndedPoll
 ended_from row = record { poll = row.poll; at = row.moment; outcome = row.outcome }
 
--- ---- comparing a request with the stored request of its idempotency key
-
--- Converts the result of comparing a request with the stored request (is it a retry?) from the type
--- of the tables to the type of the records.
+-- Converts the result of comparing a request with a stored request from the type of the tables to
+-- the type of the records.
 abbrev pub repeat_from : kept.Repeat → Repeat
 repeat_from (kept_as.Same kind) = Same kind
 repeat_from kept_as.Other = Other

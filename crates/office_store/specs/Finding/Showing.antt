@@ -20,8 +20,8 @@ abbrev pub ShowsPoints : {Z : Type 0} → (device : List ℕ) → List Fact → 
 ShowsPoints device facts rows =
     rows.items ≡ map point_shown (placed_on (listed device) 0 (points_of facts device))
 
--- True if a query returns the accounting registers of a device, in the order in which they were
--- added.
+-- True if a query returns the accounting registers (named energy counters) of a device, in the
+-- order in which they were added.
 abbrev pub ShowsRegisters : {Z : Type 0} → (device : List ℕ) → List Fact → Vec Row Z → Type 0
 ShowsRegisters device facts rows =
     rows.items ≡ map register_shown
@@ -31,10 +31,8 @@ ShowsRegisters device facts rows =
 abbrev pub ShowsPendingPolls : {Z : Type 0} → List Fact → Vec Row Z → Type 0
 ShowsPendingPolls facts rows = rows.items ≡ map poll_shown (map started (pending_in facts))
 
--- ---- queries that return at most one row
-
--- True if the answer is the accounting register with the name `name`, or None if no accounting
--- register has the name.
+-- True if the answer is the accounting register (named energy counter) with the name `name`, or
+-- None if no register has the name.
 abbrev pub FindsRegister : (name : List ℕ) → List Fact → Option Register → Type 0
 FindsRegister name facts =
     IsFound (is_register name) IsRegister (placed registered (registers_in facts))
@@ -43,8 +41,8 @@ FindsRegister name facts =
 abbrev pub FindsPoll : (number : ℕ) → List Fact → Option Poll → Type 0
 FindsPoll number facts = IsFound (is_poll number) IsStarted (map started (polls_in facts))
 
--- True if the answer compares a request with the stored request of its idempotency key, or is None
--- if the key has no stored request.
+-- True if the answer says whether a request equals the request that is stored under its idempotency
+-- key. None means that no request is stored.
 abbrev pub FindsRepeat : (caller : List ℕ) → (number : ℕ) → (request : List ℕ) → List Fact
     → Option Repeat → Type 0
 FindsRepeat caller number request facts =

@@ -14,8 +14,8 @@ pub record IsReadableDevice (d : Added) : Type 0 where
   pub row : IsSoundAdded d
   pub name : is_name d.name ≡ true
 
--- True if the numbers of an accounting register's row are in their ranges, and its texts are valid
--- names.
+-- True if the numbers in the row of an accounting register (a named energy counter) are in their
+-- ranges, and its texts are valid names.
 pub record IsReadableRegister (r : Registered) : Type 0 where
   pub row : IsSoundRegistered r
   pub name : is_name r.name ≡ true

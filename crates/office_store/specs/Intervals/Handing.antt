@@ -1,5 +1,5 @@
--- Which rows of `intervals` (a meter's energy by quarter hour) a stream returns, and in which
--- order.
+-- Defines which rows of `intervals` (a meter's energy by quarter hour) a streaming query returns,
+-- and in which order.
 use Rattle.std.specs.Prelude.{◌≡◌, ◌<◌, ◌≤◌, ◌⊎◌, ℕ, nat_le, nat_lt, Bool, bytes_eq, ◌&&◌, List, map}
 use Rattle.std.specs.List.{AllByRecursion}
 use Rattle.sqlite_keyed.specs.Lists.{pairs}
@@ -10,8 +10,6 @@ use Rattle.store_tables.specs.Meters.Trees.{installations}
 use Rattle.store_tables.specs.Meters.Rows.{Installed, installed_columns, installed_place, is_at}
 use Rattle.office_store.specs.Intervals.Trees.{intervals}
 use Rattle.office_store.specs.Intervals.Rows.{Interval, interval_columns, is_of, start_of, IsSoundInterval}
-
--- ---- a meter's rows of `intervals`, ordered by start
 
 -- True if a list has exactly the rows of the table `intervals`.
 abbrev pub HaveIntervals : List Interval → Content → Type 0
@@ -27,10 +25,11 @@ AreSharesOfMeter meter rows all =
 abbrev pub AreSoundIntervals : List Interval → Type 0
 AreSoundIntervals = AllByRecursion IsSoundInterval
 
--- ---- an accounting register's rows of `intervals`, ordered by its meters, then by start
+-- Definitions on the rows of `intervals` for an accounting register (a named energy counter),
+-- ordered by its meters, then by start.
 
--- The two tables that a query for an accounting register joins: the rows of `installations` (the
--- meters) and of `intervals` (their energy).
+-- The two tables that a query for an accounting register (a named energy counter) joins:
+-- `installations` (the meters) and `intervals` (their energy).
 pub record Lying : Type 0 where
   pub installed : List Installed
   pub rows : List Interval
@@ -40,32 +39,30 @@ pub record HaveLying (lying : Lying) (content : Content) : Type 0 where
   pub installed : HasRows installations installed_columns lying.installed content
   pub rows : HasRows intervals interval_columns lying.rows content
 
--- True if a row of `intervals` belongs to a meter that was installed at the accounting register
--- `register`.
+-- True if a row of `intervals` belongs to a meter that was installed at `register`, an accounting
+-- register (a named energy counter).
 abbrev pub lies_at : (register : List ℕ) → Installed × Interval → Bool
 lies_at register p = bytes_eq p.1.meter p.0.meter && is_at register p.0
 
--- The order of rows of `intervals` for an accounting register: first by the index of the meter in
--- `installations`, then by the start of the quarter hour.
+-- The order of rows of `intervals` for an accounting register (a named energy counter): first by
+-- the meter's index in `installations`, then by the quarter hour's start.
 abbrev pub ComesAfter : Installed × Interval → Installed × Interval → Type 0
 ComesAfter p q =
     (installed_place p.0 < installed_place q.0)
     ⊎ ((installed_place p.0 ≡ installed_place q.0) × (start_of p.1 ≤ start_of q.1))
 
--- True if `all` is the energy of an accounting register by quarter hours: one meter after another,
--- in the order of installation.
+-- True if `all` is the energy of an accounting register (a named energy counter) by quarter hours:
+-- one meter after another, in the order of installation.
 abbrev pub AreSharesAt : (register : List ℕ) → Lying → List Share → Type 0
 AreSharesAt register lying all =
     (found : List (Installed × Interval))
     × AreFound (lies_at register) ComesAfter (pairs lying.installed lying.rows) found
     × (all ≡ map (λ p. p.1.share) found)
 
--- True if every value of every row of `intervals` is in its range. The rows of `installations` only
--- decide which rows are selected.
+-- True if every value of every row of `intervals` is in its range. Nothing is assumed about the
+-- rows of `installations`, which only select rows of `intervals`.
 abbrev pub AreSoundLying : Lying → Type 0
 AreSoundLying lying = AreSoundIntervals lying.rows
-
--- ---- rows of `intervals` for a meter or an accounting register, with starts in a range
 
 -- True if the start of a quarter hour is at least `from` and less than `till`.
 abbrev pub is_between : (from till : ℕ) → Interval → Bool
@@ -80,8 +77,8 @@ AreSharesOfMeterBetween meter from till rows all =
     × AreFound (λ i. is_of meter i && is_between from till i) (FirstFirst start_of) rows found
     × (all ≡ map (λ i. i.share) found)
 
--- True if `all` is the energy of an accounting register in the quarter hours that start from `from`
--- until before `till`. The meters follow each other in the order of installation.
+-- True if `all` is the energy of an accounting register (a named energy counter) in the quarter
+-- hours from `from` until before `till`. The meters follow each other in the order of installation.
 abbrev pub AreSharesAtBetween : (register : List ℕ) → (from till : ℕ) → Lying → List Share → Type 0
 AreSharesAtBetween register from till lying all =
     (found : List (Installed × Interval))

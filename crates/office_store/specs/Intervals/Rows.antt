@@ -13,7 +13,7 @@ pub record Interval : Type 0 where
   pub meter : List ℕ
   pub share : Share
 
--- The columns of the table `intervals` for a meter's energy in a quarter hour.
+-- The values of one row of the table `intervals`: a meter's energy in one quarter hour.
 abbrev pub interval_columns : Interval → Row
 interval_columns i = Text i.meter ∷ Int (pos i.share.start) ∷ Int (pos i.share.mwh) ∷ []
 

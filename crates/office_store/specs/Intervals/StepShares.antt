@@ -8,7 +8,7 @@ use Rattle.office_store.specs.Intervals.Trees.{intervals}
 use Rattle.store_tables.specs.Meters.Rows.{greatest_total}
 use Rattle.office_store.specs.Intervals.Rows.{Interval, interval_columns, is_at}
 
--- A row of `intervals` with `mwh` more energy, in mWh.
+-- A row of `intervals` whose energy was increased by `mwh`, in mWh.
 abbrev pub raised : (mwh : ℕ) → Interval → Interval
 raised mwh i = record i { share = record i.share { mwh = i.share.mwh + mwh } }
 
@@ -30,16 +30,16 @@ with_shares meter (share ∷ shares) rows = with_shares meter shares (with_share
 abbrev pub AreSmall : List Interval → Type 0
 AreSmall = AllByRecursion (λ i. i.share.mwh ≤ greatest_total)
 
--- The effect of a write on the table `intervals`. If its rows have the property `May`, the write
--- changes them as `edit` says. Every other table is unchanged.
+-- The effect of a write on the table `intervals`. If the table's rows have the property `May`, the
+-- write changes them as the function `edit`. Every other table is unchanged.
 pub record EditsIf (May : List Interval → Type 0) (edit : List Interval → List Interval)
     (content after : Content) : Type 0 where
   pub rows : (is : List Interval) → HasRows intervals interval_columns is content → May is
       → HasRows intervals interval_columns (edit is) after
   pub others : (t : ℕ) → t ≢ intervals → after t ≡ content t
 
--- The effect of adding a meter's energy by quarter hours to `intervals`. It applies if no row gets
--- more energy than the greatest total of a meter.
+-- The effect of adding a meter's energy by quarter hours to `intervals`. It applies if no row then
+-- exceeds the greatest total of a meter.
 abbrev pub BooksShares : (meter : List ℕ) → List Share → Content → Content → Type 0
 BooksShares meter shares =
     EditsIf (λ is. AreSmall (with_shares meter shares is)) (with_shares meter shares)

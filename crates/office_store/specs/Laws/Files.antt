@@ -18,21 +18,22 @@ use Rattle.office_store.specs.Holding.{HasFacts}
 abbrev pub NewFilesHaveNone : Type 0
 NewFilesHaveNone = (zone : List ℕ) (content : Content) → IsNew zone content → AreOf zone [] content
 
--- ---- the records of a file of any version
+-- Definitions and theorems on the records of a database file of any version.
 
 -- True if the counter of an installed meter has 2^32 values.
 abbrev pub HasFullRange : Opening → Type 0
 HasFullRange opening = opening.range ≡ 2 ^ 32
 
--- True if the records need no table that a file version (its layout) lacks. If the version lacks
--- `ranges`, each counter rolls over at 2^32. If it lacks `voids`, no meter entry is voided.
+-- True if a file of the given version can encode the records. Without the table `ranges` (version
+-- 1), each counter rolls over at 2^32. Without `voids` (versions 1 and 2), no meter entry is voided
+-- (cancelled).
 abbrev pub FitIn : Layout → List Fact → Type 0
 FitIn First facts = All HasFullRange (openings_in facts) × (voids_in facts ≡ [])
 FitIn Second facts = voids_in facts ≡ []
 FitIn Third facts = ⊤
 
--- True if a file of this version (its layout) encodes the records. Each of its tables except `meta`
--- has the rows that version 3 has for the records.
+-- True if a file of the given version encodes the records. Each of its tables except `meta` has the
+-- rows that version 3 has for the records.
 pub record HasFactsIn (layout : Layout) (zone : List ℕ) (facts : List Fact)
     (db : Database) : Type 0
   where

@@ -1,5 +1,4 @@
--- Theorems about the records that tables determine, and about the records that are found after a
--- crash.
+-- Theorems that the tables determine the records, also after a crash.
 use Rattle.std.specs.Prelude.{◌≡◌, ℕ, List}
 use Rattle.sqlite.specs.Tree.{Trees}
 use Rattle.sqlite.specs.Effect.{Database, IsDatabase}

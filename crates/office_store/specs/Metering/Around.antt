@@ -1,5 +1,5 @@
--- How an entry of a meter is built from its row and the rows of the nearest entries that are not
--- voided.
+-- Defines how a meter entry is built from its row and the rows of the nearest entries that are not
+-- voided (cancelled).
 use Rattle.std.specs.Prelude.{◌≡◌, ◌⊎◌, ℕ, ◌<◌, ◌≤◌, Bool, true, false, not, List, map, Option, Some, None, IfSome}
 use Rattle.std.specs.List.{list_any}
 use Rattle.std.specs.List.Sorted.{IsPermutation}
@@ -21,16 +21,14 @@ use Rattle.office_store.specs.Metering.Entries.{row_from, names}
 use Rattle.office_store.specs.declared.metering.around.Sides.{Sides}
 use Rattle.office_store.specs.declared.metering.around.Around.{Around}
 
--- ---- the indices around an entry that no void (a row that cancels an entry) cancels
-
 -- True if every index between `low` and `high` has a void in the list. A void cancels the meter
 -- entry at its index.
 abbrev pub AreVoided : List Voided → (low high : ℕ) → Type 0
 AreVoided voids low high =
     (place : ℕ) → low < place → place < high → list_any (names place) voids ≡ true
 
--- True if `before` is the index of the last meter entry before `place` that is not voided, or 1 for
--- the meter's first entry.
+-- True if `before` is the index of the last meter entry before `place` that is not voided
+-- (cancelled), or 1 for the meter's first entry.
 pub record IsBefore (voids : List Voided) (place before : ℕ) : Type 0 where
   pub lower : before < place
   pub between : AreVoided voids before place
@@ -43,8 +41,8 @@ pub record IsAfter (voids : List Voided) (place after : ℕ) : Type 0 where
   pub between : AreVoided voids place after
   pub stands : list_any (names after) voids ≡ false
 
--- True if `sides` has the indices of the nearest meter entries around `place` that are not voided,
--- and whether the entry at `place` is voided.
+-- True if `sides` has the indices of the nearest entries around `place` that are not voided
+-- (cancelled), and whether the entry at `place` is voided.
 pub record AreSides (voids : List Voided) (place : ℕ) (sides : Sides) : Type 0 where
   pub before : IsBefore voids place sides.before
   pub after : IsAfter voids place sides.after
@@ -55,8 +53,6 @@ pub record AreSides (voids : List Voided) (place : ℕ) (sides : Sides) : Type 0
 abbrev pub ByVoids : (List Voided → Type 0) → (rows : List Row) → Type 0
 ByVoids Is rows = (voids : List Voided) → rows ≡ map voided_shown voids → Is voids
 
--- ---- the rows of `entries` around an entry
-
 -- True if `found` is the row of a meter's entry at index `place`, or None if the meter has no such
 -- entry.
 pub record FindsAt (meter : List ℕ) (place : ℕ) (facts : List Fact) (found : Option EntryRow) :
@@ -66,28 +62,26 @@ pub record FindsAt (meter : List ℕ) (place : ℕ) (facts : List Fact) (found :
   pub each : (m : List ℕ) → IsPermutation (filter (is_of m) table) (entries_of facts m)
   pub is : IsFound (is_entry meter place) IsRow table found
 
--- True if `around` has the rows of the meter entries at `place` and at the earlier index `low`. If
--- an entry at the later index `high` exists, `around` also has its row.
+-- True if `around` has the meter's rows at `place` and at the earlier index `low`. If the later
+-- index `high` has a row, `around` also has this row.
 pub record FindsAround (meter : List ℕ) (place low high : ℕ) (facts : List Fact)
     (around : Around) : Type 0 where
   pub entry : FindsAt meter place facts (Some around.entry)
   pub before : FindsAt meter low facts (Some around.before)
   pub next : FindsAt meter high facts around.next
 
--- ---- building a meter entry from its row and the rows around it
-
--- The row in the meter's journal (its history) for the next entry that is not voided, or None if no
--- such entry exists.
+-- The row in the meter's journal (its history) for the next entry that is not voided (cancelled),
+-- or None if no such entry exists.
 abbrev pub next_from : Option EntryRow → Option journal.EntryRow
 next_from None = None
 next_from (Some next) = row_from next true
 
--- The state of a meter with its counter as of an earlier entry, but with the total energy over all
+-- The state of a meter with its counter as of an earlier entry, but with the total energy of all
 -- entries.
 abbrev pub stood : Installation → EntryRow → Installation
 stood whole before = record whole { last = counter_after before }
 
--- True if `seen` is the meter entry that its row and the rows around it encode.
+-- True if `seen` is the meter entry that is encoded by its row and the rows around it.
 pub record IsSeen (whole : Installation) (around : Around) (stands : Bool) (seen : EntryContext) :
     Type 0 where
   pub before : seen.before ≡ stood whole around.before
@@ -101,8 +95,8 @@ abbrev pub ReportsOf : (meter : List ℕ) → (place : ℕ) → Installation →
 ReportsOf meter place whole facts found =
     Some whole ≡ meter_of facts meter → ReportsNear facts meter place found
 
--- True if the records are lawful (accepted by the rules), and an entry that was built from rows is
--- the meter's entry at index `place`.
+-- True if the rules accepted all records, and an entry that was built from rows is the meter's
+-- entry at index `place`.
 pub record ReportsRightly (meter : List ℕ) (place : ℕ) (whole : Installation) (facts : List Fact)
     (found : Option EntryContext) : Type 0 where
   pub lawful : AreLawful facts

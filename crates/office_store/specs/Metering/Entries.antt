@@ -1,5 +1,5 @@
 -- Conversions from rows of `entries` and `voids` to the rows of a meter's journal: its entries in
--- order, each marked as valid or voided.
+-- order, each marked as voided (cancelled) or not.
 use Rattle.std.specs.Prelude.{◌≡◌, ℕ, ◌==◌, Bool, not, List, map, reverse, Option, Some, None}
 use Rattle.std.specs.List.{list_any, filter_map, AllByRecursion}
 use Rattle.std.specs.List.Sorted.{IsPermutation}
@@ -63,14 +63,14 @@ row_from e stands = row_by e.kind e stands
 abbrev pub names : (place : ℕ) → Voided → Bool
 names place v = place == v.place
 
--- True if the Boolean answer is correct: it says whether one of the result rows of `voids` cancels
--- the meter entry at index `place`.
+-- True if the Boolean answer is correct. The answer says whether one of the result rows of `voids`
+-- cancels the meter entry at index `place`.
 abbrev pub ReportsVoided : (voids : List Row) → (place : ℕ) → Bool → Type 0
 ReportsVoided voids place is =
     (vs : List Voided) → voids ≡ map voided_shown vs → is ≡ list_any (names place) vs
 
--- The row in a meter's journal (its history) for an entry, marked as voided if one of the voids in
--- the list cancels the entry.
+-- The row in a meter's journal (its history) for an entry. The row is marked as voided if one row
+-- in the list of `voids` cancels the entry.
 abbrev pub row_among : List Voided → Entered → Option journal.EntryRow
 row_among vs e = row_from e.entry (not (list_any (names e.entry.place) vs))
 
@@ -97,14 +97,14 @@ AreJournal entries voids rows = (es : List Entered) (vs : List Voided)
     → entries ≡ map entry_shown es
     → voids ≡ map voided_shown vs → rows ≡ filter_map (row_among vs) es
 
--- Why result rows of `voids` can't be read: out of memory, or `Damaged` if a row has a value out of
--- its range.
+-- The reasons why result rows of `voids` can't be read: out of memory, or `Damaged` if a row has a
+-- value out of its range.
 abbrev pub IsFaultOfVoids : (voids : List Row) → RowFault → Type 0
 IsFaultOfVoids voids e = (vs : List Voided) → voids ≡ map voided_shown vs
     → IsRowFault (AllByRecursion IsSoundVoided vs) e
 
--- Why result rows of `entries` and `voids` can't be read: out of memory, or `Damaged` if a row has
--- a value out of its range.
+-- The reasons why result rows of `entries` and `voids` can't be read: out of memory, or `Damaged`
+-- if a row has a value out of its range.
 abbrev pub IsFaultOfJournal : (entries voids : List Row) → RowFault → Type 0
 IsFaultOfJournal entries voids e = (es : List Entered) (vs : List Voided)
     → entries ≡ map entry_shown es
@@ -118,8 +118,8 @@ FindsJournal meter facts rows =
     → latest_first rows ≡ rows_of facts opening
 
 -- The conditions under which the meter entry at index `place` can be found. The numbers of the
--- meter's first entry are in their ranges, and the rows are numbered by index. The earlier entries
--- that are not voided may follow one another.
+-- meter's first entry are in their ranges, and the rows are numbered by index. The rules accept the
+-- earlier entries that are not voided (cancelled).
 pub record CanBePlaced (opening : Opening) (rows : List journal.EntryRow) (place : ℕ) : Type 0 where
   pub numbers : HasNumbers opening
   pub places : AreNumbered (latest_first rows)

@@ -1,5 +1,5 @@
--- Definitions of what queries of single tables return about a meter: its counter range, its first
--- entry, and its row of `installations`.
+-- Definitions of the answers of queries about a meter: its counter range, its first entry, and its
+-- row of `installations`.
 use Rattle.std.specs.Prelude.{◌≡◌, ℕ, List, length, Option, Some, None, string_bytes, unwrap_or}
 use Rattle.office_events.specs.declared.facts.Opening.{Opening}
 use Rattle.office_events.specs.declared.facts.Fact.{Fact}
@@ -63,12 +63,13 @@ standing_from opening row = record {
   ended = row.is_ended;
 }
 
--- True if the answer is the state that the records have of the meter in the given row of
--- `installations`.
+-- True if the answer is the recorded state of the meter that the given row of `installations`
+-- names.
 abbrev pub IsStanding : stored.Installation → List Fact → Installation → Type 0
 IsStanding row facts found = (opening : Opening) → IsRowOf facts opening row
     → found ≡ installation_of facts opening
 
--- True if the greatest index in `installations`, with None as 0, is the number of installed meters.
+-- True if the greatest index in `installations` is the number of installed meters. None, for an
+-- empty table, counts as 0.
 abbrev pub CountsOpenings : List Fact → Option ℕ → Type 0
 CountsOpenings facts place = unwrap_or place 0 ≡ length (openings_in facts)

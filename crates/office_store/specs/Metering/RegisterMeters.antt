@@ -1,5 +1,5 @@
--- The rows of `installations` at one accounting register. A register may have several meters, one
--- after another.
+-- The rows of `installations` at one accounting register (a named energy counter). A register may
+-- have several meters, one after another.
 use Rattle.std.specs.Prelude.{◌≡◌, ℕ, List, map, filter, reverse, Vec}
 use Rattle.sqlite.specs.Order.{Row}
 use Rattle.office_events.specs.declared.facts.Opening.{Opening}
@@ -11,14 +11,14 @@ use Rattle.office_store.specs.Rows.{placed, installed_row}
 use Rattle.office_store.specs.Finding.Each.{AreEach}
 use Rattle.office_store.specs.Metering.Meters.{IsRowOf}
 
--- The rows of `installations` at an accounting register, in the order in which the meters were
--- installed.
+-- The rows of `installations` at an accounting register (a named energy counter), in the order in
+-- which the meters were installed.
 abbrev pub rows_at : (register : List ℕ) → List Fact → List Installed
 rows_at register facts =
     reverse (filter (is_at register) (placed (installed_row facts) (openings_in facts)))
 
--- True if a query returns all rows of `installations` at an accounting register, in the order in
--- which the meters were installed.
+-- True if a query returns all rows of `installations` at an accounting register (a named energy
+-- counter), in the order of installation.
 abbrev pub ShowsMetersAt : {Z : Type 0} → (register : List ℕ) → List Fact → Vec Row Z → Type 0
 ShowsMetersAt register facts rows = rows.items ≡ map installed_shown (rows_at register facts)
 

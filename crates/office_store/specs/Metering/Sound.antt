@@ -25,8 +25,8 @@ pub record IsNamed (row : stored.Installation) : Type 0 where
   pub meter : is_name (string_bytes row.meter) ≡ true
   pub register : is_name (string_bytes row.register) ≡ true
 
--- True if the records are lawful (accepted by the rules), and every row of `installations`,
--- `ranges` and `entries` can be read.
+-- True if the rules accepted all records, and every row of `installations`, `ranges` and `entries`
+-- can be read.
 pub record HasReadableMeters (facts : List Fact) : Type 0 where
   pub lawful : AreLawful facts
   pub names : AllByRecursion HasNames (openings_in facts)

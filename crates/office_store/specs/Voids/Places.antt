@@ -23,17 +23,18 @@ abbrev pub names : (meter : List ℕ) → (place : ℕ) → List Voided → Bool
 names meter place voids = list_any (is_void meter place) voids
 
 -- True if the answer of a query says whether the entry of the meter `meter` at index `place` is
--- voided.
+-- voided (cancelled).
 abbrev pub ReportsVoided : (meter : List ℕ) → (place : ℕ) → List Voided → Bool → Type 0
 ReportsVoided meter place voids is = is ≡ names meter place voids
 
--- True if every entry of the meter `meter` with an index between `low` and `high` is voided.
+-- True if every entry of the meter `meter` with an index between `low` and `high` is voided
+-- (cancelled).
 abbrev pub AreVoided : (meter : List ℕ) → (low high : ℕ) → List Voided → Type 0
 AreVoided meter low high voids =
     (place : ℕ) → low < place → place < high → names meter place voids ≡ true
 
--- True if `before` is the index of the last meter entry before `place` that is not voided. The
--- first entry, at index 1, is never voided.
+-- True if `before` is the index of the last meter entry before `place` that is not voided
+-- (cancelled). The first entry, at index 1, is never voided.
 pub record IsBefore (meter : List ℕ) (place : ℕ) (voids : List Voided) (before : ℕ) : Type 0 where
   pub opening : 1 ≤ before
   pub lower : before < place

@@ -9,7 +9,7 @@ use Rattle.office_store.specs.Intervals.Trees.{intervals}
 use Rattle.office_store.specs.Intervals.Rows.{Interval, interval_columns, is_of, is_at, start_of}
 use Rattle.office_store.specs.Intervals.StepShares.{EditsIf}
 
--- A row of `intervals` with `mwh` less energy, in mWh.
+-- A row of `intervals` whose energy was reduced by `mwh`, in mWh.
 abbrev pub lowered : (mwh : ℕ) → Interval → Interval
 lowered mwh i = record i { share = record i.share { mwh = i.share.mwh - mwh } }
 
@@ -39,8 +39,8 @@ HaveShares meter (share ∷ shares) rows =
     AllByRecursion (HasShare meter share) rows
     × HaveShares meter shares (without_share meter share rows)
 
--- The effect of subtracting a meter's energy by quarter hours from `intervals`. It applies if the
--- rows have at least this energy.
+-- The effect of subtracting a meter's energy by quarter hours from `intervals`, provided that each
+-- row has at least this energy.
 abbrev pub TakesShares : (meter : List ℕ) → List Share → Content → Content → Type 0
 TakesShares meter shares = EditsIf (HaveShares meter shares) (without_shares meter shares)
 

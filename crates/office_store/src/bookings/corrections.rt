@@ -1,5 +1,5 @@
-//! Computes the changes that a void makes to its meter. A void marks a false reading, which then no
-//! longer counts.
+//! Computes the changes to a meter when one of its entries is voided: the entry was a false
+//! reading, which then no longer counts.
 ghost use Rattle.std.specs.Prelude.{◌≡◌, ◌≤◌, ◌+◌, IfOk, IfSome};
 ghost use Rattle.energy_core.specs.Account.{step_to};
 ghost use Rattle.meter_journal.specs.Journal.{with_rolls};
@@ -25,8 +25,9 @@ pub struct Rollover {
     pub rolls: u8,
 }
 
-/// The changes at the next valid entry after a voided entry. The next entry now follows the entry
-/// before the voided entry: it gets new rollovers, and the energy `put` replaces the energy `out`.
+/// The changes at the next entry after a voided (cancelled) entry. The next entry now follows the
+/// entry before the voided entry: it gets new rollovers, and the energy `put` replaces the energy
+/// `out`.
 #[derive(Clone, Copy)]
 pub struct Rejoined {
     pub rollover: Rollover,
@@ -34,9 +35,9 @@ pub struct Rejoined {
     pub put: Step,
 }
 
-/// The changes that voiding an entry makes to its meter. The energy `out`, up to the voided entry,
-/// is removed. `next` has the changes at the next valid entry. The meter's last entry becomes
-/// `last`, and rows of `intervals` that start at `from` or later are deleted.
+/// The changes that voiding (cancelling) an entry makes to its meter. The energy `out`, up to the
+/// voided entry, is removed. `next` has the changes at the next valid entry. The meter's last entry
+/// becomes `last`, and rows of `intervals` that start at `from` or later are deleted.
 #[derive(Clone, Copy)]
 pub struct Correction {
     pub out: Step,
@@ -45,8 +46,8 @@ pub struct Correction {
     pub from: u64,
 }
 
-/// Returns the journal entry of a reading. Reports any other kind as damage, because a voided entry
-/// and the next entry are readings.
+/// Returns the reading in a row of `entries`. Reports any other kind of entry as damage, because a
+/// voided (cancelled) entry and the next entry are readings.
 fn reading(entry: &EntryRow) -> Result<Entry, RowFault>
     ensures { IfOk result (IsReadingOf entry.now) }
 {
@@ -90,7 +91,7 @@ fn step_from(range: u64, last: &Last, entry: &Entry) -> Result<Step, RowFault>
 }
 
 /// Returns a reading with new rollovers, for the case that the reading directly follows the
-/// counter's state `last`. Returns a reset or a rescale unchanged.
+/// counter's state `last`. Returns a reset or a rescale (a change of the scale factor) unchanged.
 fn rolled(last: &Last, entry: &Entry) -> Entry
     ensures { result ≡ with_rolls last.now entry.now }
 {
@@ -105,7 +106,7 @@ fn rolled(last: &Last, entry: &Entry) -> Entry
 }
 
 /// Returns how often the counter rolled over between the previous meter entry and this one. The
-/// number is 0 if this meter entry is a reset or a rescale.
+/// number is 0 if this meter entry is a reset or a rescale (a change of the scale factor).
 fn rolls(entry: &Entry) -> u8
     ensures { result ≡ rolls_of entry.now }
 {
@@ -115,8 +116,8 @@ fn rolls(entry: &Entry) -> u8
     }
 }
 
-/// Computes the new rollovers and energy of the next entry after a voided entry. The next entry now
-/// follows the counter's state `before`.
+/// Computes the new rollovers and energy of the next entry after a voided (cancelled) entry. The
+/// next entry now follows the counter's state `before`.
 fn rejoin(range: u64, before: &Last, voided: &Last, next: &EntryRow) -> Result<Rejoined, RowFault>
     ensures joins { IfOk result (Rejoins range before.now voided.now next.now) }
     ensures sound { IfOk result CanBeRejoined }
@@ -135,8 +136,8 @@ fn rejoin(range: u64, before: &Last, voided: &Last, next: &EntryRow) -> Result<R
     Ok(Rejoined { rollover, out, put })
 }
 
-/// Computes the new rollovers and energy of the next entry after a voided entry. Returns None if
-/// there is no next entry.
+/// Computes the new rollovers and energy of the next entry after a voided (cancelled) entry.
+/// Returns None if there is no next entry.
 fn rejoin_next(
     range: u64,
     before: &Last,
@@ -152,9 +153,9 @@ fn rejoin_next(
     }
 }
 
-/// Computes the total energy of a meter after a void: without the steps (the energy between two
-/// entries) that the void removes, and with the step that replaces them. Reports a negative total,
-/// or a total above a meter's limit, as damage.
+/// Computes the total energy of a meter after an entry was voided (cancelled). Subtracts the
+/// energies to and from this entry, and adds the energy between its neighbours. Reports a negative
+/// total, or a total above a meter's limit, as damage.
 fn total_after(total: u64, out: &Step, next: &Option<Rejoined>) -> Result<u64, RowFault>
     requires total { total ≤ greatest_total }
     requires out { CanBeShared out.now }
@@ -174,8 +175,8 @@ fn total_after(total: u64, out: &Step, next: &Option<Rejoined>) -> Result<u64, R
     Ok(whole - gone)
 }
 
-/// Returns the new last entry of a meter. If the voided entry was the last, the entry before it
-/// becomes the last. Otherwise the last entry is unchanged.
+/// Returns the new last entry of a meter after an entry was voided (cancelled). If the voided entry
+/// was the last, the entry before it becomes the last. Otherwise the last entry is unchanged.
 fn new_last_entry(
     found: &Surroundings,
     before: Last,
@@ -202,8 +203,9 @@ fn new_last_entry(
     Ok(last_row(last, total))
 }
 
-/// Returns the time from which a void deletes the meter's rows of `intervals`. This time is the
-/// meter's last entry, or 0 if the last entry is the opening, after which no energy is recorded.
+/// Returns the time from which voiding (cancelling) an entry deletes the meter's rows of
+/// `intervals`. This time is the meter's last entry, or 0 if the last entry is the opening (the
+/// first entry), after which no energy is recorded.
 fn end_of_rows(opened: u64, last: &LastRow) -> u64
     requires { last.now.moment ≤ latest_moment }
     ensures end { result ≡ gone_from opened last.now.moment }
@@ -216,7 +218,7 @@ fn end_of_rows(opened: u64, last: &LastRow) -> u64
     }
 }
 
-/// Computes the changes that a void makes to a meter, from the entries around the voided entry.
+/// Computes the changes to a meter when an entry is voided (cancelled), from the entries around it.
 /// Reports an entry that can't be voided, or entries in an impossible order, as damage.
 pub fn correct(found: &Surroundings) -> Result<Correction, RowFault>
     requires { found.now.standing.last.total ≤ greatest_total }

@@ -33,7 +33,7 @@ pub struct Advance {
     pub step: Step,
 }
 
-/// Returns true if the tables allow the timestamp and the scale factor of a counter.
+/// Returns true if the timestamp and the scale factor of a counter are in the ranges of the tables.
 pub fn is_sound(last: &Last) -> bool
     ensures moment { IsTrue result → last.now.at ≤ latest_moment }
     ensures scale { IsTrue result → IsTrue (is_within 3 last.now.sf) }
@@ -41,7 +41,7 @@ pub fn is_sound(last: &Last) -> bool
     last.at <= LATEST_MOMENT && is_scale(last.sf)
 }
 
-/// Returns true if the tables allow the timestamp of a meter entry.
+/// Returns true if the timestamp of a meter entry is in the range of the tables.
 fn is_in_time(entry: &Entry) -> bool
     ensures { IsTrue result → moment_of entry.now ≤ latest_moment }
 {
@@ -91,8 +91,8 @@ fn advance_meter(standing: &Standing, entry: &Entry) -> Result<Advance, RowFault
     })
 }
 
-/// Updates a meter's last entry and total energy, and marks the meter as closed if the entry is a
-/// closing.
+/// Updates a meter's last entry and total energy. If the entry is a closing, also marks the meter
+/// as closed.
 pub fn settle<S: Alter>(
     tx: &mut Transaction<'_, S>,
     meter: &str,

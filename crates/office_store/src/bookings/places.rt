@@ -23,7 +23,7 @@ use store_tables::{
     last_installation_rows, last_register_rows, whole,
 };
 
-/// Returns the index that follows the index in a row. Reports an index past the greatest index as
+/// Returns the index that follows the index in a row. Reports an index past the greatest one as
 /// damage.
 fn following(row: &Row) -> Result<u64, RowFault>
     ensures next { result ≡ following_place row.now }

@@ -61,7 +61,7 @@ pub fn enter_hold<S: Alter>(tx: &mut Transaction<'_, S>, held: &HeldReading) -> 
     Ok(())
 }
 
-/// Writes an accepted request under its idempotency key. A retry of the request then acts only
+/// Stores an accepted request under its idempotency key, so that a retry of the request acts only
 /// once.
 pub fn enter_reply<S: Alter>(tx: &mut Transaction<'_, S>, reply: &Reply) -> Result<(), RowFault>
     ensures same_reference { IsSameBorrow tx.old.conn tx.new.conn }

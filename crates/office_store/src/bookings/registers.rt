@@ -14,7 +14,8 @@ use office_events::{LAST_COUNTER, Register, ScaleSource};
 use sqlite::{Alter, Transaction};
 use store_tables::{RowFault, insert_register};
 
-/// Returns true if the table `registers` allows the scale of an accounting register.
+/// Returns true if the scale of an accounting register (a named energy counter) is in the ranges of
+/// the table `registers`.
 fn is_sound_scale(source: ScaleSource) -> bool
     ensures { result ≡ true → IsSoundScale (scale_as source) }
 {
@@ -24,8 +25,8 @@ fn is_sound_scale(source: ScaleSource) -> bool
     }
 }
 
-/// Returns true if one Modbus read covers the counter of an accounting register and the register
-/// with its scale factor.
+/// Returns true if one Modbus read covers an energy counter and the Modbus register with the
+/// counter's scale factor.
 fn is_narrow(register: &Register) -> bool
     ensures { result ≡ fits_a_read register.now.address (scale_as register.now.scale) }
 {
@@ -33,7 +34,8 @@ fn is_narrow(register: &Register) -> bool
     store_tables::fits_a_read(row.address, row.scale)
 }
 
-/// Writes an accounting register with the index after the last register.
+/// Writes an accounting register (a named energy counter of a device) with the index after the last
+/// one.
 pub fn enter_register<S: Alter>(
     tx: &mut Transaction<'_, S>,
     register: &Register,

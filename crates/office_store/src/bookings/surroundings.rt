@@ -1,4 +1,5 @@
-//! Queries for an entry of a meter and the valid entries before and after it, inside a transaction.
+//! Queries, inside a transaction, for a meter entry and the nearest entries before and after it
+//! that are not voided (cancelled).
 ghost use Rattle.std.specs.Prelude.{◌≤◌, IfOk};
 ghost use Rattle.sqlite.specs.Held.{state};
 ghost use Rattle.store_tables.specs.Limits.{greatest_place};
@@ -14,7 +15,8 @@ use crate::{entry_at, place_after, place_before};
 use sqlite::{Alter, Transaction};
 use store_tables::{EntryRow, RowFault};
 
-/// An entry of a meter and the nearest entries that are not voided. `before` may be the opening.
+/// An entry of a meter and the nearest entries before and after it that are not voided (cancelled).
+/// `before` may be the opening, the meter's first entry.
 #[derive(Clone, Copy)]
 pub struct Neighbours {
     pub entry: EntryRow,
@@ -48,7 +50,8 @@ fn entry_there<S: Alter>(
     }
 }
 
-/// Returns the last meter entry before index `place` that is not voided, which may be the opening.
+/// Returns the last meter entry before index `place` that is not voided (cancelled), which may be
+/// the opening (the first entry).
 fn entry_before<S: Alter>(
     tx: &mut Transaction<'_, S>,
     meter: &str,
@@ -64,7 +67,7 @@ fn entry_before<S: Alter>(
     entry_there(tx, meter, before)
 }
 
-/// Returns the next meter entry after index `place` that is not voided, or None.
+/// Returns the next meter entry after index `place` that is not voided (cancelled), or None.
 fn entry_after<S: Alter>(
     tx: &mut Transaction<'_, S>,
     meter: &str,
@@ -79,7 +82,8 @@ fn entry_after<S: Alter>(
     entry_at(tx, meter, next)
 }
 
-/// Returns the entry of a meter at index `place`, and the nearest entries that are not voided.
+/// Returns the entry of a meter at index `place`, and the nearest entries before and after it that
+/// are not voided (cancelled).
 fn neighbours_of<S: Alter>(
     tx: &mut Transaction<'_, S>,
     meter: &str,
@@ -101,7 +105,7 @@ fn neighbours_of<S: Alter>(
     })
 }
 
-/// Returns the time of a meter's opening.
+/// Returns the time of a meter's opening, its first entry.
 fn opened_at<S: Alter>(tx: &mut Transaction<'_, S>, meter: &str) -> Result<u64, RowFault>
     ensures same_reference { IsSameBorrow tx.old.conn tx.new.conn }
     ensures does { Goes (state S.Store tx.old.conn.now) (state S.Store tx.new.conn.now) result
@@ -111,8 +115,8 @@ fn opened_at<S: Alter>(tx: &mut Transaction<'_, S>, meter: &str) -> Result<u64, 
     Ok(opening.moment)
 }
 
-/// Returns an entry with its neighbours, and the state of its meter. Reads no other entry of the
-/// meter, and only the voids of the entries between the neighbours.
+/// Returns a meter entry with the nearest entries that are not voided (cancelled), and the state of
+/// the meter. Reads no other entry, and only the rows of `voids` between the returned entries.
 pub fn surroundings_of<S: Alter>(
     tx: &mut Transaction<'_, S>,
     meter: &str,

@@ -23,8 +23,8 @@ use office_events::VoidedEntry;
 use sqlite::{Alter, Transaction};
 use store_tables::{GREATEST_PLACE, LATEST_MOMENT, RowFault, insert_void, set_rollovers};
 
-/// Sets the rollovers of the next meter entry to the new rollovers in `next`. If there is no next
-/// entry, makes no database call.
+/// Sets the counter rollovers of the entry after a voided (cancelled) entry to those in `next`. If
+/// there is no next entry, makes no database call.
 fn roll_next<S: Alter>(
     tx: &mut Transaction<'_, S>,
     meter: &str,
@@ -42,8 +42,8 @@ fn roll_next<S: Alter>(
     Ok(())
 }
 
-/// Subtracts the energy between the voided meter entry and the next entry from `intervals`. If
-/// there is no next entry, makes no database call.
+/// Subtracts the energy between the voided (cancelled) entry and the next entry from `intervals`.
+/// If there is no next entry, makes no database call.
 fn take_next<S: Alter>(
     tx: &mut Transaction<'_, S>,
     meter: &str,
@@ -61,8 +61,8 @@ fn take_next<S: Alter>(
     Ok(())
 }
 
-/// Adds to `intervals` the energy between the meter entry before the voided entry and the next
-/// entry. If there is no next entry, makes no database call.
+/// Adds to `intervals` the energy between the entries before and after a voided (cancelled) entry.
+/// If there is no next entry, makes no database call.
 fn write_next<S: Alter>(
     tx: &mut Transaction<'_, S>,
     meter: &str,
@@ -80,8 +80,8 @@ fn write_next<S: Alter>(
     Ok(())
 }
 
-/// Subtracts two energies from `intervals`: the energy from the voided meter entry to the next
-/// entry, and the energy from the previous entry to the voided entry.
+/// Subtracts two energies from `intervals`: the energy from the voided (cancelled) entry to the
+/// next entry, and the energy from the previous entry to the voided entry.
 fn take_steps<S: Alter>(
     tx: &mut Transaction<'_, S>,
     meter: &str,
@@ -99,8 +99,8 @@ fn take_steps<S: Alter>(
     Ok(())
 }
 
-/// Replaces the energy around a voided meter entry in `intervals` by the energy that is computed
-/// without the voided entry.
+/// Replaces the energies to and from a voided (cancelled) entry in `intervals` by the energy
+/// between the entries before and after it.
 fn exchange_rows<S: Alter>(
     tx: &mut Transaction<'_, S>,
     meter: &str,
@@ -117,7 +117,8 @@ fn exchange_rows<S: Alter>(
     Ok(())
 }
 
-/// Writes the row of a void, and the new rollovers of the next meter entry.
+/// Writes the row that voids (cancels) a meter entry, and the new counter rollovers of the next
+/// entry.
 fn mark_void<S: Alter>(
     tx: &mut Transaction<'_, S>,
     meter: &str,
@@ -136,7 +137,7 @@ fn mark_void<S: Alter>(
     roll_next(tx, meter, next)
 }
 
-/// Writes the row of a void, and the changes that the void makes to its meter.
+/// Writes the row that voids (cancels) a meter entry, and the resulting changes to the meter.
 fn book_void<S: Alter>(
     tx: &mut Transaction<'_, S>,
     meter: &str,
@@ -156,9 +157,9 @@ fn book_void<S: Alter>(
     settle(tx, meter, made.last, false)
 }
 
-/// Writes the void of a meter's entry. The entry's row remains, and a row of `voids` cancels it.
-/// The next entry that is not voided gets the rollovers that follow from the entry now before it.
-/// The meter's total energy and its rows of `intervals` become those of the entries that are not
+/// Voids (cancels) a meter's entry. The entry's row remains, and a row of `voids` cancels it. The
+/// next entry that is not voided gets the rollovers since the entry that now precedes it. The
+/// meter's total energy and its rows of `intervals` become those of the entries that are not
 /// voided. The cost grows with the number of quarter hours between the neighbours of the voided
 /// entry.
 pub fn enter_void<S: Alter>(

@@ -1,5 +1,5 @@
-//! Queries for stored requests. The store keeps each accepted request with its response, so that a
-//! retry acts only once.
+//! Queries for stored requests. The store keeps each accepted request, so that a retry acts only
+//! once.
 ghost use Rattle.std.specs.Prelude.{◌≡◌, false, IsUtf8};
 ghost use Rattle.office_books.specs.Repeats.{repeat_of};
 ghost use Rattle.store_tables.specs.Polls.Rows.{IsCallNumber};
@@ -41,7 +41,7 @@ fn row_of<S: Alter>(
 }
 
 /// Compares a request with the request that is stored under its idempotency key, to detect a retry.
-/// Returns None if the key has no stored request.
+/// Returns None if no request is stored under the key.
 pub fn repeat<S: Alter>(
     conn: &mut Connection<S>,
     caller: &Name,

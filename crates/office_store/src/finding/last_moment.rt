@@ -24,7 +24,8 @@ fn entered<S: Alter>(conn: &mut Connection<S>) -> Result<u64, RowFault>
     Ok(latest_entry(conn)?.unwrap_or(0))
 }
 
-/// Returns the latest time at which a meter entry was voided, or 0 if no entry was voided.
+/// Returns the latest time at which a meter entry was voided (cancelled), or 0 if no entry was
+/// voided.
 fn voided<S: Alter>(conn: &mut Connection<S>) -> Result<u64, RowFault>
     requires { conn.old.in_transaction ≡ false }
     ensures { Finds S.Store conn.old conn.new result
@@ -74,8 +75,8 @@ fn replied<S: Alter>(conn: &mut Connection<S>) -> Result<u64, RowFault>
     Ok(latest_reply(conn)?.unwrap_or(0))
 }
 
-/// Returns the latest timestamp of all meter entries and of the records that void entries, or 0 if
-/// none is stored.
+/// Returns the latest timestamp of all meter entries and of the records that void (cancel) entries,
+/// or 0 if none is stored.
 fn booked<S: Alter>(conn: &mut Connection<S>) -> Result<u64, RowFault>
     requires { conn.old.in_transaction ≡ false }
     ensures { Finds S.Store conn.old conn.new result

@@ -25,8 +25,8 @@ use sqlite::{Alter, Connection};
 use std::alloc::Global;
 use store_tables::RowFault;
 
-/// Plans the Modbus reads that cover a device's points. Reports points that break a rule of point
-/// lists as `Damaged`.
+/// Plans the Modbus reads that cover a device's SunSpec points. Reports points that break a rule of
+/// point lists as `Damaged`.
 fn with_plan(alloc: Global, points: Vec<ListedPoint>) -> Result<PlannedList, RowFault>
     ensures points { IfOk result (λ list. list.points ≡ points.items) }
     ensures planned { IfOk result IsPlanned }
@@ -41,7 +41,7 @@ fn with_plan(alloc: Global, points: Vec<ListedPoint>) -> Result<PlannedList, Row
     }
 }
 
-/// Returns the points of a device's point list.
+/// Returns the SunSpec points that a device is polled for, from the tables.
 fn points<S: Alter>(conn: &mut Connection<S>, device: &str) -> Result<Vec<ListedPoint>, RowFault>
     requires { conn.old.in_transaction ≡ false }
     ensures { Finds S.Store conn.old conn.new result
@@ -52,7 +52,8 @@ fn points<S: Alter>(conn: &mut Connection<S>, device: &str) -> Result<Vec<Listed
     points_in(&rows)
 }
 
-/// Returns the point list of a device with its planned reads, or None if the device has no list.
+/// Returns the list of SunSpec points that a device is polled for, with its planned reads, or None
+/// if the device has no list.
 pub fn list<S: Alter>(
     alloc: Global,
     conn: &mut Connection<S>,
@@ -72,7 +73,8 @@ pub fn list<S: Alter>(
     Ok(Some(with_plan(alloc, points)?))
 }
 
-/// Returns how many reads the plan of a device's point list has, or None if the device has no list.
+/// Returns how many Modbus reads are planned for a device's point list, or None if the device has
+/// no list.
 pub fn read_count<S: Alter>(
     alloc: Global,
     conn: &mut Connection<S>,

@@ -46,8 +46,8 @@ fn scale(text: String) -> Result<PointScale, RowFault>
     }
 }
 
-/// Converts a row of `points` to a point of a point list. Reports texts that don't parse as
-/// `Damaged`.
+/// Converts a row of `points` to a SunSpec point of a point list. Reports texts that can't be
+/// parsed as `Damaged`.
 fn point_from(row: store_tables::Point) -> Result<ListedPoint, RowFault>
     ensures { result ≡ point_with (string_bytes row.name) (string_bytes row.kind)
         (string_bytes row.scale) row.row }
@@ -65,7 +65,7 @@ fn point_from(row: store_tables::Point) -> Result<ListedPoint, RowFault>
     })
 }
 
-/// Reads a point from a row of the query for points.
+/// Reads a SunSpec point from a result row of the query for a device's points.
 fn point_in(row: &Row) -> Result<ListedPoint, RowFault>
     ensures { ReadsRow row.now point_shown IsPointOf IsReadablePoint result }
 {
@@ -73,7 +73,7 @@ fn point_in(row: &Row) -> Result<ListedPoint, RowFault>
     point_from(found)
 }
 
-/// Reads points from the rows of the query for points.
+/// Reads SunSpec points from the result rows of the query for a device's points.
 pub(crate) fn points_in(rows: &Vec<Row>) -> Result<Vec<ListedPoint>, RowFault>
     ensures { ReadsAll rows.now.items point_shown IsPointOf IsReadablePoint
         (λ v. v.items) result }

@@ -46,7 +46,8 @@ fn register_from(row: &store_tables::Register) -> Result<Register, RowFault>
     })
 }
 
-/// Reads an accounting register from a row of the query for registers.
+/// Reads an accounting register (a named energy counter) from a result row of the query for
+/// accounting registers.
 fn register_in(row: &Row) -> Result<Register, RowFault>
     ensures { ReadsRow row.now register_shown IsRegisterOf IsReadableRegister result }
 {
@@ -54,7 +55,8 @@ fn register_in(row: &Row) -> Result<Register, RowFault>
     register_from(&found)
 }
 
-/// Reads accounting registers from the rows of the query for registers.
+/// Reads accounting registers (named energy counters) from the result rows of the query for
+/// accounting registers.
 fn registers_in(rows: &Vec<Row>) -> Result<Vec<Register>, RowFault>
     ensures { ReadsAll rows.now.items register_shown IsRegisterOf IsReadableRegister
         (λ v. v.items) result }
@@ -67,7 +69,7 @@ fn registers_in(rows: &Vec<Row>) -> Result<Vec<Register>, RowFault>
     Ok(registers)
 }
 
-/// Queries the row of the accounting register with the name `name`.
+/// Queries the row of the accounting register (named energy counter) with the name `name`.
 fn row_of<S: Alter>(
     conn: &mut Connection<S>,
     name: &str,
@@ -80,7 +82,8 @@ fn row_of<S: Alter>(
     register_of(conn, name)
 }
 
-/// Returns the accounting register with the name `name`, or None if no register has the name.
+/// Returns the accounting register (named energy counter) with the name `name`, or None if no
+/// register has the name.
 pub fn register<S: Alter>(
     conn: &mut Connection<S>,
     name: &Name,
@@ -97,7 +100,8 @@ pub fn register<S: Alter>(
     }
 }
 
-/// Queries the rows of a device's accounting registers, in the order in which they were added.
+/// Queries the rows of a device's accounting registers (named energy counters), in the order in
+/// which they were added.
 fn rows_of<S: Alter>(conn: &mut Connection<S>, device: &str) -> Result<Vec<Row>, RowFault>
     requires { conn.old.in_transaction ≡ false }
     ensures { Finds S.Store conn.old conn.new result
@@ -107,7 +111,8 @@ fn rows_of<S: Alter>(conn: &mut Connection<S>, device: &str) -> Result<Vec<Row>,
     Ok(register_rows(conn, device)?)
 }
 
-/// Returns the accounting registers of a device, in the order in which they were added.
+/// Returns the accounting registers (named energy counters) of a device, in the order in which they
+/// were added.
 pub fn registers<S: Alter>(
     conn: &mut Connection<S>,
     device: &Name,
@@ -122,8 +127,8 @@ pub fn registers<S: Alter>(
     registers_in(&rows)
 }
 
-/// Returns the accounting registers of a device whose counters a Modbus read of `span` contains.
-/// Queries all accounting registers of the device.
+/// Returns the accounting registers (named energy counters) of a device whose counters a Modbus
+/// read of `span` contains. Queries all accounting registers of the device.
 pub fn registers_read<S: Alter>(
     conn: &mut Connection<S>,
     device: &Name,
@@ -139,7 +144,7 @@ pub fn registers_read<S: Alter>(
     Ok(found)
 }
 
-/// Returns how many accounting registers a device has.
+/// Returns how many accounting registers (named energy counters) a device has.
 pub fn register_count<S: Alter>(conn: &mut Connection<S>, device: &Name) -> Result<usize, RowFault>
     requires { conn.old.in_transaction ≡ false }
     ensures { Finds S.Store conn.old conn.new result

@@ -31,8 +31,8 @@ pub fn meter_intervals<S: Alter, K: RowSink<Share>>(
     )
 }
 
-/// Streams the energy of an accounting register by quarter hours to `sink`. The meters follow one
-/// another in the order of installation.
+/// Streams the energy of an accounting register (a named energy counter) by quarter hours to
+/// `sink`. The meters follow one another in the order of installation.
 pub fn register_intervals<S: Alter, K: RowSink<Share>>(
     conn: &mut Connection<S>,
     register: &str,
@@ -50,8 +50,8 @@ pub fn register_intervals<S: Alter, K: RowSink<Share>>(
     )
 }
 
-/// Streams the energy of a meter to `sink`, by the quarter hours that start at `from` or later and
-/// before `till`, ordered by their starts. No other row is passed to the sink.
+/// Passes the energy of a meter to `sink`, by the quarter hours that start from `from` until before
+/// `till`, in order. No other row is passed to `sink`.
 pub fn meter_intervals_between<S: Alter, K: RowSink<Share>>(
     conn: &mut Connection<S>,
     meter: &str,
@@ -75,8 +75,9 @@ pub fn meter_intervals_between<S: Alter, K: RowSink<Share>>(
     )
 }
 
-/// Streams the energy of an accounting register to `sink`, by the quarter hours that start at
-/// `from` or later and before `till`. The meters follow each other in the order of installation.
+/// Passes the energy of an accounting register (a named energy counter) to `sink`. Includes the
+/// quarter hours that start from `from` until before `till`. The meters follow each other in the
+/// order of installation.
 pub fn register_intervals_between<S: Alter, K: RowSink<Share>>(
     conn: &mut Connection<S>,
     register: &str,

@@ -1,5 +1,5 @@
-//! Builds an entry of a meter from its row and the rows of its neighbours, instead of reading all
-//! rows of the meter.
+//! Builds an entry of a meter from its row and the nearest rows before and after it, instead of
+//! reading all rows of the meter.
 ghost use Rattle.std.specs.Prelude.{◌≡◌, ◌≤◌, false, IfOk, IfSome, IsUtf8};
 ghost use Rattle.office_books.specs.Lawful.{AreLawful};
 ghost use Rattle.office_books.specs.Ranges.{IsSound};
@@ -23,8 +23,8 @@ use sqlite::{Alter, Connection, Row};
 use std::alloc::Global;
 use store_tables::{EntryRow, GREATEST_PLACE, RowFault, check_open, entry_at};
 
-/// The indices of the nearest meter entries before and after an entry that are not voided, and
-/// whether the entry itself is not voided.
+/// The indices of the nearest meter entries before and after an entry that are not voided
+/// (cancelled), and whether the entry itself is not voided.
 #[derive(Clone, Copy)]
 pub(crate) struct Sides {
     pub before: u64,
@@ -33,7 +33,7 @@ pub(crate) struct Sides {
 }
 
 /// The row of a meter entry, and the rows of the nearest entries before and after it that are not
-/// voided. `before` may be the meter's first entry, made at its installation.
+/// voided (cancelled). `before` may be the meter's first entry, made at its installation.
 #[derive(Clone, Copy)]
 pub(crate) struct Around {
     pub entry: EntryRow,
@@ -83,8 +83,8 @@ fn place_after(voids: &[Row], place: u64) -> Option<u64>
     None
 }
 
-/// Returns the indices of the nearest entries around `place` that are not voided, and whether the
-/// entry at `place` counts. Returns None if no entry can have the index `place`.
+/// Returns the indices of the nearest entries around `place` that are not voided (cancelled), and
+/// whether the entry at `place` is not voided. Returns None if no entry can have the index `place`.
 fn sides_of(voids: &[Row], place: u64) -> Option<Sides>
     ensures following { IfSome result (λ sides. 2 ≤ place) }
     ensures place { IfSome result (λ sides. place ≤ greatest_place) }
@@ -120,8 +120,8 @@ fn row_there<S: Alter>(
     entry_at(conn, meter, place)
 }
 
-/// Queries the row of the meter entry at `place`, and the rows at the indices in `sides`. Returns
-/// None if the row of the entry, or the row before it, is missing.
+/// Queries the row of the meter entry at `place`, and the rows of its neighbours at the indices in
+/// `sides`. Returns None if the row of the entry, or the row before it, is missing.
 fn rows_around<S: Alter>(
     conn: &mut Connection<S>,
     meter: &str,
@@ -150,8 +150,8 @@ fn rows_around<S: Alter>(
     }))
 }
 
-/// Converts the row of the next entry that is not voided to a row of the meter's journal, its
-/// history.
+/// Converts the row of the next entry that is not voided (cancelled) to a row of the meter's
+/// journal, its history.
 fn next_row(next: &Option<EntryRow>) -> Option<meter_journal::EntryRow>
     ensures { result ≡ next_from next.now }
 {
@@ -161,8 +161,8 @@ fn next_row(next: &Option<EntryRow>) -> Option<meter_journal::EntryRow>
     }
 }
 
-/// Returns the state of a meter with its counter as of an earlier entry, but with the meter's total
-/// energy: the energy up to that entry is not known.
+/// Returns the state of a meter with its counter as of an earlier entry. Its energy is the meter's
+/// total energy, because the energy up to that entry is not known.
 fn stood_after(whole: &Installation, before: &EntryRow) -> Installation
     ensures { result ≡ stood whole.now before.now }
 {

@@ -41,8 +41,8 @@ pub(crate) fn voids<S: Alter>(conn: &mut Connection<S>, meter: &str) -> Result<V
     Ok(rows)
 }
 
-/// Returns all entries of a meter except its first one, the oldest first. Entries that a void
-/// cancels are marked.
+/// Returns all entries of a meter except its first one, the oldest first. Entries that a row of
+/// `voids` cancels are marked.
 pub(crate) fn rows<S: Alter>(
     alloc: Global,
     conn: &mut Connection<S>,
@@ -61,7 +61,7 @@ pub(crate) fn rows<S: Alter>(
 }
 
 /// Returns the meter entry at index `place`, with the meter's state before the entry and the next
-/// entry that is not voided. Returns None for index 1. Reads all entries of the meter.
+/// entry that is not voided (cancelled). Returns None for index 1. Reads all entries of the meter.
 pub fn entry<S: Alter>(
     alloc: Global,
     conn: &mut Connection<S>,

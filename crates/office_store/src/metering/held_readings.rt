@@ -1,4 +1,4 @@
-//! Streams rejected readings to a `RowSink`, which receives them one by one.
+//! Streams rejected readings to a `RowSink`, a visitor that receives them one by one.
 ghost use Rattle.std.specs.Prelude.{◌≡◌, false, IsUtf8};
 ghost use Rattle.office_books.specs.Holds.{holds_of, holds_within};
 ghost use Rattle.office_store.specs.Holds.{IsSoundReading};

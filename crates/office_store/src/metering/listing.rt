@@ -1,4 +1,4 @@
-//! Lists of a meter's entries.
+//! Lists the entries of a meter from a given index.
 ghost use Rattle.std.specs.Prelude.{◌≡◌, false, reverse, IfOk, IfErr, IsUtf8};
 ghost use Rattle.meter_journal.specs.Lists.{latest_first};
 ghost use Rattle.office_books.specs.Entries.{entries_from, first_from, listed_rows};
@@ -38,8 +38,8 @@ fn listed(
     }
 }
 
-/// Returns the entries of a meter in order, including voided entries. Begins at index `from`, and
-/// returns at most `most` entries. Reads all entries of the meter.
+/// Returns the entries of a meter in order, including voided (cancelled) entries. Begins at index
+/// `from`, and returns at most `most` entries. Reads all entries of the meter.
 pub fn meter_entries<S: Alter>(
     alloc: Global,
     conn: &mut Connection<S>,

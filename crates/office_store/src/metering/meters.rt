@@ -1,5 +1,5 @@
-//! Queries for the installation of a meter (its opening, last entry and total energy) by the
-//! meter's name or by its accounting register.
+//! Queries for the installation of a meter: its first entry, last entry and total energy. The query
+//! is by the meter's name or by its accounting register (a named energy counter).
 ghost use Rattle.std.specs.Prelude.{◌≡◌, false, length, IfOk, IfSome, IsUtf8};
 ghost use Rattle.office_books.specs.Ranges.{IsSound};
 ghost use Rattle.office_books.specs.Facts.{openings_in};

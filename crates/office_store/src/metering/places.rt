@@ -32,8 +32,8 @@ fn first(rows: &[EntryRow], count: usize) -> &[EntryRow]
     }
 }
 
-/// Returns the counter's state and the total energy after the entries in `rows`. Reports entries
-/// that the rules don't allow in this order as `Damaged`.
+/// Returns the counter's state and the total energy after the meter entries in `rows`. Reports
+/// entries that the rules don't allow in this order as `Damaged`.
 pub fn tally(meter: &Installed, rows: &[EntryRow]) -> Result<Tally, RowFault>
     requires range_low { MIN_RANGE ≤ meter.now.range }
     requires range_high { meter.now.range ≤ MAX_RANGE }
@@ -66,7 +66,8 @@ fn stood_after(whole: &Installation, rows: &[EntryRow]) -> Result<Installation, 
 }
 
 /// Finds the entry at index `place` in a meter's journal (its history, the oldest row first).
-/// Returns it with the meter's state before the entry, and with the next entry that is not voided.
+/// Returns it with the meter's state before the entry, and with the next entry that is not voided
+/// (cancelled).
 pub(crate) fn placed(
     whole: &Installation,
     rows: &[EntryRow],

@@ -1,4 +1,5 @@
-//! Queries for all meters that were installed at an accounting register, one after another.
+//! Queries for all meters that were installed at an accounting register (a named energy counter),
+//! one after another.
 ghost use Rattle.std.specs.Prelude.{◌≡◌, false, List, map, IsUtf8};
 ghost use Rattle.office_books.specs.Entries.{installations_of};
 ghost use Rattle.office_events.specs.declared.facts.Opening.{Opening as RecordedOpening};
@@ -17,8 +18,8 @@ use sqlite::{Alter, Connection, Row};
 use std::alloc::Global;
 use store_tables::{RowFault, check_open, read_installation};
 
-/// Queries the rows of `installations` at an accounting register, in the order in which the meters
-/// were installed.
+/// Queries the rows of `installations` at an accounting register (a named energy counter), in the
+/// order in which the meters were installed.
 fn rows_at<S: Alter>(conn: &mut Connection<S>, register: &str) -> Result<Vec<Row>, RowFault>
     requires { conn.old.in_transaction ≡ false }
     ensures { Finds S.Store conn.old conn.new result
@@ -41,7 +42,8 @@ fn installed_in(rows: &Vec<Row>) -> Result<Vec<store_tables::Installation>, RowF
     Ok(installed)
 }
 
-/// Queries and reads the rows of `installations` at an accounting register.
+/// Queries and reads the rows of `installations` at an accounting register (a named energy
+/// counter).
 fn installed_at<S: Alter>(
     conn: &mut Connection<S>,
     register: &str,
@@ -55,7 +57,8 @@ fn installed_at<S: Alter>(
     installed_in(&rows)
 }
 
-/// Returns the state of the meter of each row in `rows`, in the same order.
+/// Returns the state of the meter that each row of `installations` in `rows` names, in the same
+/// order.
 fn standing_all<S: Alter>(
     alloc: Global,
     conn: &mut Connection<S>,
@@ -76,8 +79,8 @@ fn standing_all<S: Alter>(
     Ok(found)
 }
 
-/// Returns the state of each meter that was installed at an accounting register, including closed
-/// meters, in the order of installation.
+/// Returns the state of each meter that was installed at an accounting register (a named energy
+/// counter), including closed meters, in the order of installation.
 pub fn meters_at<S: Alter>(
     alloc: Global,
     conn: &mut Connection<S>,

@@ -25,7 +25,8 @@ pub(crate) fn row_of<S: Alter>(
     installation_of(conn, meter)
 }
 
-/// Queries the row of the meter that was installed last at an accounting register.
+/// Queries the row of the meter that was installed last at an accounting register (a named energy
+/// counter).
 pub(crate) fn row_at<S: Alter>(
     conn: &mut Connection<S>,
     register: &str,

@@ -15,15 +15,16 @@ use office_events::Name;
 use sqlite::{Alter, Connection};
 use store_tables::{LATEST_MOMENT, RowFault, check_open};
 
-/// Limits a bound of a time span to one second after the latest timestamp that the store allows.
+/// Limits a bound of a time span to at most one second after the latest timestamp that the store
+/// allows.
 pub(super) fn bound(moment: u64) -> u64
     ensures { result ≡ min moment (latest_moment + 1) }
 {
     moment.min(LATEST_MOMENT + 1)
 }
 
-/// Passes the energy of a meter in each quarter hour that starts in `span` to `sink`, in the order
-/// of time. Reads no other row.
+/// Passes the energy of a meter in each quarter hour that starts in the time span `span` to `sink`,
+/// in the order of time. Reads no other row.
 pub fn intervals<S: Alter, K: RowSink<Share>>(
     conn: &mut Connection<S>,
     meter: &Name,
@@ -47,8 +48,9 @@ pub fn intervals<S: Alter, K: RowSink<Share>>(
     }
 }
 
-/// Passes the energy of an accounting register in each quarter hour that starts in `span` to
-/// `sink`. The register's meters follow one another in the order of installation.
+/// Passes the energy of an accounting register (a named energy counter) in each quarter hour that
+/// starts in `span` to `sink`. The register's meters follow one another in the order of
+/// installation.
 pub fn register_intervals<S: Alter, K: RowSink<Share>>(
     conn: &mut Connection<S>,
     register: &Name,

@@ -68,8 +68,8 @@ fn read_reading(row: &Row, meter: &Name) -> Result<HeldReading, RowFault>
     }
 }
 
-/// A reader of result rows of `holds` for the readings of one meter. The rows don't have the
-/// meter's name.
+/// A reader of result rows of `holds` for the rejected readings of one meter. The rows don't have
+/// the meter's name.
 #[derive(Drop)]
 pub(crate) struct ReadingsOf {
     pub(crate) meter: Name,

@@ -1,4 +1,4 @@
-//! Streams of the rows of `holds`, the table of rejected readings.
+//! Streams the rows of `holds`, the table of rejected readings, to the caller.
 ghost use Rattle.std.specs.Prelude.{◌≡◌, ◌<◌, ◌^◌};
 ghost use Rattle.office_store.specs.Handing.{HandsOn};
 ghost use Rattle.office_store.specs.Holds.{HaveHolds, AreReadingsOf, AreReadingsBetween, AreSoundHolds};
@@ -32,7 +32,7 @@ pub fn meter_holds<S: Alter, K: RowSink<HeldReading>>(
 }
 
 /// Streams the rejected readings of a meter whose timestamps are at least `from` and less than
-/// `till`. No other reading is passed to the sink.
+/// `till` to `sink`. No other reading is passed to `sink`.
 pub fn meter_holds_between<S: Alter, K: RowSink<HeldReading>>(
     conn: &mut Connection<S>,
     meter: &Name,

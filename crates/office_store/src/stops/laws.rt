@@ -1,11 +1,11 @@
-//! Theorems about the files that a crash leaves.
+//! Theorems about the database files that a crash leaves.
 ghost use Rattle.office_store.specs.Stops.Stops.{OpenedFilesAreFound, StopsLeaveFacts};
 
 use crate::laws::left_facts_are_found;
 use sqlite_disk::Disk;
 
-/// Theorem about given lists of records. If every database that SQLite may recover from the files
-/// encodes one of the lists, the next open after a crash finds one of the lists.
+/// Theorem: if every database that SQLite may recover from the files encodes one of several lists
+/// of records, the next open finds one of these lists.
 pub fn stops_leave_facts<D: Disk>()
     ensures { StopsLeaveFacts D.Disk }
 {

@@ -72,7 +72,7 @@ pub fn entry_at<S: Alter>(
     }
 }
 
-/// Returns true if the entry of a meter at an index was voided.
+/// Returns true if the entry of a meter at an index was voided (cancelled).
 pub fn is_voided<S: Alter>(
     tx: &mut Transaction<'_, S>,
     meter: &str,

@@ -1,5 +1,5 @@
-//! Searches for the nearest meter entries before and after an entry that are not voided. Voiding
-//! the entry joins them into one step of energy.
+//! Searches for the nearest meter entries before and after an entry that are not voided
+//! (cancelled). If the entry is voided, these two entries become neighbours.
 ghost use Rattle.std.specs.Prelude.{◌≤◌, IfOk};
 ghost use Rattle.sqlite.specs.Held.{state};
 ghost use Rattle.store_tables.specs.Entries.Rows.{voided_columns};
@@ -13,8 +13,8 @@ use crate::voids::entries::is_voided;
 use sqlite::{Alter, Transaction};
 use store_tables::{GREATEST_PLACE, RowFault};
 
-/// Returns the index of the last meter entry before `place` that is not voided. Queries one index
-/// after another, downward from `place`.
+/// Returns the index of the last meter entry before `place` that is not voided (cancelled). Queries
+/// one index after another, downward from `place`.
 pub fn place_before<S: Alter>(
     tx: &mut Transaction<'_, S>,
     meter: &str,

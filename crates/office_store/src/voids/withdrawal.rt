@@ -1,5 +1,4 @@
-//! Subtracts the energy of a step from the table `intervals`. A step is the energy between two
-//! consecutive entries of a meter.
+//! Subtracts the energy between two consecutive entries of a meter from the table `intervals`.
 ghost use Rattle.std.specs.Prelude.{◌<◌, ◌≤◌, ◌^◌, [], ◌∷◌};
 ghost use Rattle.sqlite.specs.Held.{state};
 ghost use Rattle.energy_core.specs.Account.{intervals_touched};

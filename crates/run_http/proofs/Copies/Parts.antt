@@ -1,4 +1,5 @@
--- Lemmas: the quarter hours of a meter can be queried part by part.
+-- Lemmas: a query for the energy of a meter's quarter hours can be split into queries for
+-- consecutive time spans.
 use Rattle.std.proofs.Common.{◌≡◌, ℕ, ◌+◌, ◌<◌, ◌≤◌, nat_lt, nat_le, Bool, true, false, cond, ◌&&◌, List, [], ◌∷◌, ◌++◌, min, max, refl, sym, ap, ◌∙◌, inl, inr, Option, Some, None, arith}
 use Rattle.std.specs.Prelude.{All}
 use Rattle.std.specs.Option.{option_map}
@@ -29,7 +30,7 @@ use Rattle.run_http.specs.Pieces.{rows_between}
 use Rattle.run_http.proofs.Copies.StayingShares.{StartFrom, none_start, not_before}
 use Rattle.run_http.proofs.Copies.StayingRows.{entries_come_after, own_name, rows_before_stay}
 
--- ---- The rows of a list that lie in a time span.
+-- Lemmas on the rows of a list that start in a time span.
 
 le_true : (a b : ℕ) → a ≤ b → nat_le a b ≡ true
 le_true a b le = grind (arith, nat_tests, le)
@@ -56,8 +57,8 @@ and_false : (b : Bool) → b && false ≡ false
 and_false true = refl
 and_false false = refl
 
--- If two tests agree on a row, and filtering the rows after it has equal results, then filtering
--- the complete list has equal results.
+-- If two filters agree on the first row of a list and on the rest, then they return the same rows
+-- of the complete list.
 kept_same : (a b : Bool) (row : Share) (left right : List Share) → a ≡ b → left ≡ right → cond a (row ∷ left) left ≡ cond b (row ∷ right) right
 kept_same a b row left right same rest = ap (λ c. cond c (row ∷ left) left) same ∙ ap (λ rs. cond b (row ∷ rs) rs) rest
 
@@ -117,7 +118,7 @@ in_parts from at till (row ∷ rows) rising low high =
           ∙ ap (λ rs. rs ++ rows_within (Between at till) (row ∷ rows)) (sym (none_within from at (row ∷ rows) from_at))
     ]
 
--- Selecting the rows of a time span from the rows before its end loses no row.
+-- Selecting the rows before the end of a time span first loses no row in the span.
 within_before : (from till : ℕ) (rows : List Share) → rows_within (Between from till) (rows_before till rows) ≡ rows_within (Between from till) rows
 within_before from till [] = refl
 within_before from till (row ∷ rows) =
@@ -162,7 +163,7 @@ parted from low first last end till rows rising start is ends =
     ] in
     from_first from low first till rows is start ∙ two
 
--- ---- The rows of a meter in a time span, by the records of the store.
+-- Lemmas on a query for a meter's rows in a time span.
 
 asked_of : (facts : List Fact) (from till : ℕ) (opening : Option Opening)
     → rows_in (option_map (rows_within (Between from till)) (option_map (rows_of_opening facts) opening))
@@ -257,7 +258,7 @@ a_piece law facts (Some meter) from at till h low high none =
           ∙ ap (λ rs. rows_between facts (Some meter) from at ++ rs) (sym (none_between facts (Some meter) at till (omega (arith, same))))
     ]
 
--- ---- Rows in a time span that records added later leave unchanged.
+-- Lemmas: records added later leave the rows in some time spans unchanged.
 
 lawful_before : (further facts : List Fact) → AreLawful (further ++ facts) → AreLawful facts
 lawful_before [] facts h = h

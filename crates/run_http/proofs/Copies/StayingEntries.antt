@@ -103,7 +103,7 @@ entries_stay meter place (Voided named ∷ more) lines well h le from =
     void_leaves meter.opening place named rows h.0.around from.0 (rows_are_kept meter (more ++ lines) well h.1).places h.0.there
     ∙ entries_stay meter place more lines well h.1 le from.1
 
--- ---- The entries before a sequence number are the first entries.
+-- Lemmas: the entries below a sequence number are the first entries of a meter.
 
 pub all_below : (place : ℕ) (rows : List EntryRow) → AreNumbered rows → length rows + 1 < place → entries_before place rows ≡ rows
 all_below place [] h lt = refl

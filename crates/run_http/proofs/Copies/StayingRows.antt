@@ -1,5 +1,5 @@
--- Lemmas: later records that void (withdraw) nothing before an entry leave the quarter hours of the
--- meter before that entry's quarter hour unchanged.
+-- Lemmas: if later records void (withdraw) no meter entry before some entry, all quarter hours
+-- before that entry's quarter hour keep their energy.
 use Rattle.std.proofs.Common.{◌≡◌, ℕ, ◌+◌, ◌≤◌, cond, List, [], ◌∷◌, ◌++◌, length, map, sym, ap, subst, ◌∙◌, Some, None, arith}
 use Rattle.std.specs.Prelude.{All}
 use Rattle.std.proofs.lemmas.Bool.{cond-false}
@@ -38,14 +38,15 @@ use Rattle.run_http.specs.Copies.{rows_before, entries_before, next_place, quart
 use Rattle.run_http.proofs.Copies.StayingEntries.{LinesFrom, entries_stay, all_below, first_ones}
 use Rattle.run_http.proofs.Copies.StayingShares.{entries_leave, before_earlier, rows_part, all_before}
 
--- ---- Quarter hours that further lines of a meter's journal (its history) leave unchanged.
+-- Lemmas on quarter hours whose energy stays the same when lines are added to a meter's journal
+-- (its history).
 
 entries_joined : (newer older : List EntryRow) → journal.entries_in (newer ++ older) ≡ journal.entries_in newer ++ journal.entries_in older
 entries_joined newer older =
     let own : EntryRow → Entry = λ row. row.entry in
     ap (map own) (filter-append (λ (row : EntryRow). row.stands) newer older) ∙ map-append own (journal.standing newer) (journal.standing older)
 
--- The quarter hour of the last valid entry before the sequence number `place`.
+-- The start of the quarter hour with the last valid entry before the sequence number `place`.
 abbrev pub quarter_before : Installed → (place : ℕ) → journal.Journal → ℕ
 quarter_before meter place lines =
     quarter_of (last_after meter (journal.entries_in (entries_before place (journal.rows_of meter.opening lines)))).at
@@ -108,13 +109,14 @@ stay_in_journal law meter place more lines own h le void =
           rows_part from till reported rising before ∙ ap (λ rs. rs ++ rows_within (Between from till) reported) (earlier from upto);
     }
 
--- ---- Quarter hours that further records of the store leave unchanged.
+-- Lemmas on quarter hours whose energy stays the same when records are added to the store.
 
 moments_bounded : (facts : List Fact) → AreLawful facts → latest_in facts ≤ moment_limit
 moments_bounded [] h = omega arith
 moments_bounded (f ∷ facts) h = omega (arith, h.0.1, moments_bounded facts h.1)
 
--- If records are added to the store, then the opening entry of a meter is unchanged.
+-- If records are added to the store, then the opening entry of a meter (its first entry) is
+-- unchanged.
 still_opened : (further facts : List Fact) (meter : List ℕ) (opening : Opening) → AreLawful (further ++ facts) → opening_of facts meter ≡ Some opening
     → opening_of (further ++ facts) meter ≡ Some opening
 still_opened [] facts meter o h there = there
@@ -134,8 +136,9 @@ still_opened (fact.Poll p ∷ further) facts meter o h there = still_opened furt
 still_opened (fact.Outcome e ∷ further) facts meter o h there = still_opened further facts meter o h.1 there
 still_opened (fact.Reply r ∷ further) facts meter o h there = still_opened further facts meter o h.1 there
 
--- If a journal's voids name only entries from `place` on, this stays true when a record adds its
--- line. The record adds the line only to the journal of the meter that it names.
+-- If all voids (cancellations) in a meter's journal name entries from `place` on, then this is
+-- still true after a record adds a line. The record adds the line only to the journal of the meter
+-- that it names.
 one_more : (place : ℕ) (line : journal.Line) (lines : journal.Journal) (meter m : List ℕ) → LinesFrom place lines
     → (meter ≡ m → LinesFrom place (line ∷ lines)) → LinesFrom place (cons_option (cond (same meter m) (Some line) None) lines)
 one_more place line lines meter m rest here =
@@ -163,8 +166,8 @@ lines_from (fact.Poll p ∷ further) meter place h = lines_from further meter pl
 lines_from (fact.Outcome e ∷ further) meter place h = lines_from further meter place (All-tail (VoidsFrom meter place) (fact.Outcome e) further h)
 lines_from (fact.Reply r ∷ further) meter place h = lines_from further meter place (All-tail (VoidsFrom meter place) (fact.Reply r) further h)
 
--- If later records void (withdraw) no entry before `place`, then the meter's older quarter hours
--- are unchanged (`StaysBefore`).
+-- If later records void (withdraw) no entry below `place`, the meter's older quarter hours keep
+-- their energy (`StaysBefore`).
 stays_before : SharesAddUp → (further facts : List Fact) (o : Opening) (place : ℕ) → AreLawful (further ++ facts) → opening_of facts o.meter ≡ Some o
     → place ≤ next_place facts o → All (VoidsFrom o.meter place) further → StaysBefore further facts o.meter o place
 stays_before law further facts o place h there le void =

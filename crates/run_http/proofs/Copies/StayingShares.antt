@@ -20,7 +20,7 @@ use Rattle.office_books.specs.Spans.{rows_within}
 use Rattle.office_books.specs.declared.spans.Span.TheVariants.{Between}
 use Rattle.run_http.specs.Copies.{rows_before, quarter_of}
 
--- All rows start at the time `moment` or later.
+-- States that all interval rows start at the time `moment` or later.
 abbrev pub StartFrom : (moment : ℕ) → List Share → Type 0
 StartFrom moment [] = Unit {0}
 StartFrom moment (share ∷ shares) = (moment ≤ share.start) × StartFrom moment shares
@@ -89,20 +89,20 @@ before_row moment from row rows le =
           ap (rows_before from) (cond-false _ _ _ e) ∙ sym (cond-false _ _ _ (not_before from row.start (omega (arith, ge, le))))
     ]
 
--- Selecting the rows before a time from the rows before a later time loses no row.
+-- Selecting the rows before a later time first loses no row before an earlier time.
 pub before_earlier : (moment from : ℕ) (rows : List Share) → from ≤ moment → rows_before from (rows_before moment rows) ≡ rows_before from rows
 before_earlier moment from [] le = refl
 before_earlier moment from (row ∷ rows) le =
     before_row moment from row (rows_before moment rows) le
     ∙ ap (λ rs. cond (nat_lt row.start from) (row ∷ rs) rs) (before_earlier moment from rows le)
 
--- ---- Rows in order split at a time into earlier and later rows.
+-- Lemmas: ordered rows are split at a time into earlier and later rows.
 
 pub none_start : (moment start : ℕ) (rows : List Share) → moment ≤ start → Above start rows → StartFrom moment rows
 none_start moment start [] le h = tt
 none_start moment start (row ∷ rows) le h = (omega (arith, le, h.0), none_start moment start rows le h.1)
 
--- All rows start before the time `till`.
+-- States that all interval rows start before the time `till`.
 abbrev pub StartBefore : (till : ℕ) → List Share → Type 0
 StartBefore till [] = Unit {0}
 StartBefore till (row ∷ rows) = (row.start < till) × StartBefore till rows

@@ -65,13 +65,13 @@ reports {E = E} ledger contents old new register form from to left output holds 
     }
 reports ledger contents old new register form from to left output holds answer (Err fault) fresh days last end = tt
 
--- A report that receives days continues to write to the same output.
+-- If the energy of more days is added to a report, the report still writes to the same output.
 pub taken_by : {W : Type 0} (contents : W → Option (List ℕ)) (days : List DayTotal) (from to : ReportRows W)
     → TakesAll (TakesDay contents) from days to → to.output.ghost_name ≡ from.output.ghost_name
 taken_by {W} contents [] from to took = ap (λ (rows : ReportRows W). rows.output.ghost_name) took
 taken_by contents (day ∷ more) from to took = taken_by contents more took.0 to took.2 ∙ took.1.output
 
--- ---- The response with an energy report.
+-- Lemmas on the response with an energy report.
 
 -- If the output was empty before the report was written, then it now has only the report.
 alone : (zone : Zone) (past : History) (register : Option (List ℕ)) (form : ReportForm) (had holds : List ℕ) (answer : Result (Unit {0}) Refusal)

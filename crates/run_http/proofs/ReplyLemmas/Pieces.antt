@@ -41,9 +41,10 @@ use Rattle.run_http.proofs.Copies.Parts.{a_piece, all_parts, none_between, rows_
 use Rattle.office_core.proofs.SeveralAsked.{asked, asked_after, now_as, refused_as}
 use Rattle.run_http.proofs.ReplyLemmas.Voids.{mapped}
 
--- ---- The text lines of interval rows in a response.
+-- Lemmas on the text lines of interval rows in a response.
 
--- The lines of the rows, and the last line, which also counts `reported` earlier rows.
+-- The lines of the rows, and the last line with the number of rows, which also counts `reported`
+-- rows written earlier.
 abbrev text_of : (reported : ℕ) → List Share → List ℕ
 text_of reported rows = flat_map share_line rows ++ end_line (reported + length rows)
 
@@ -59,12 +60,12 @@ reported_on from to piece others reported later put counted =
     ∙ ap (λ t. from ++ (t ++ end_line (later + length others))) (sym (flat_map-append share_line piece others))
     ∙ ap (λ n. from ++ (flat_map share_line (piece ++ others) ++ end_line n)) count
 
--- ---- The beginning of a streamed response.
+-- Lemmas on the beginning of a streamed response.
 
 end_settled : (first till last end : ℕ) → end ≡ max first (min till last) → first < end → end ≤ last
 end_settled first till last end is lt = omega (arith, is, lt)
 
--- The result of a query for rows, without the rows themselves.
+-- The result of a query for interval rows, with the rows left out.
 abbrev without_rows : Result (Vec Share Global) Refusal → Result (Unit {0}) Refusal
 without_rows (Ok rows) = Ok tt
 without_rows (Err why) = Err why
@@ -74,8 +75,8 @@ module _ {B : Type 0} (ledger : B → Ledger) (old new : Office B) where
   asks_without (Ok rows) asks = now_as ledger old new rows tt asks
   asks_without (Err why) asks = refused_as ledger old new why asks
 
-  -- If the program reports the meter as `it`, then the meter has an opening entry, from which `it`
-  -- is computed.
+  -- If the program reports the state `it` of a meter, the meter has an opening (the first entry),
+  -- and its entries determine `it`.
   found : (facts : List Fact) (it : Installation) (meter : List ℕ) → meter_of facts meter ≡ Some it
       → (o : Opening) × (opening_of facts meter ≡ Some o) × (installation_of facts o ≡ it)
   found facts it meter there = mapped (installation_of facts) (opening_of facts meter) it there
@@ -174,7 +175,7 @@ module _ {B : Type 0} (ledger : B → Ledger) (old new : Office B) where
   begins_lacked it from till end fault (Ok reported) asked is = cc is
   begins_lacked it from till end fault (Err why) asked is = record { answer = without_rows asked.answer; asks = asks_without asked.answer asked.asks; begins = tt }
 
-  -- ---- The chunks of a streamed response.
+  -- Lemmas on the chunks of a streamed response.
 
   pub reports_on : {E F : Type 0} (left later : RemainingRows) (seconds till : ℕ) (from to : List ℕ) (rows : Vec Share Global) (shown : List Share) → SharesAddUp
       → FactsAreLawful → (left.from ≤ left.till → left.from ≤ till) → till ≤ left.till → (left.till ≤ left.from → till ≡ left.till)
@@ -217,7 +218,7 @@ module _ {B : Type 0} (ledger : B → Ledger) (old new : Office B) where
       → ReportsOn ledger old new left later seconds from to {E = E} (Ok (Err why))
   reports_refused left later seconds till from to why asked = record { answer = asked.answer; asks = asked.asks; reports = sym asked.gives }
 
--- ---- The size of a streamed response.
+-- Lemmas on the size of a streamed response.
 
 failed_some : (before after : Failures) (why : Refusal) → IsRowFound {T = Unit {0}} (Some tt) before after (Err why) → IsOutside ⊥ before after why
 failed_some before after why (inl is) = cc is.0
@@ -307,7 +308,7 @@ module _ {B : Type 0} (ledger : B → Ledger) (old mid new : Office B) where
   sizes_none left answer (Ok reported) asks is = cc is
   sizes_none left answer (Err why) asks is = record { answer = answer; asks = asks; sizes = tt }
 
-  -- ---- A response whose head contains the size of its body.
+  -- Lemmas on a response whose head contains the size of its body.
 
   first_asks : {E : Type 0} (it : Installation) (from till : ℕ) (reply : List Share → List ℕ) (put : List ℕ) (left : RemainingRows)
       → BeginsReply ledger old mid it from till reply put {E = E} (Ok (Ok left)) → OnlyAsks {T = Unit {0}} ledger old mid (Ok tt)
@@ -426,7 +427,7 @@ pub rest_on : {E : Type 0} (left : RemainingRows) (from between to : List ℕ) (
 rest_on left from between to count (Ok x) lines counted put = rest_reported left from between to count lines counted put
 rest_on left from between to count (Err why) lines counted put = tt
 
--- ---- Streamed responses with records that are added between their chunks.
+-- Lemmas on streamed responses with records that are added between their chunks.
 
 pub text_stays : SharesAddUp → TextStays
 text_stays law further facts meter o left h there named settled void =
@@ -439,8 +440,8 @@ text_stays law further facts meter o left h there named settled void =
     ∙ ap (λ m. rows_between facts m left.from left.till) (sym named) in
     ap (λ rs. text_of left.reported (rs ++ left.last.items)) same
 
--- If the rows still to be queried start before the quarter hour of the meter's last entry, then
--- this is also true after the next chunk.
+-- If the rows still to be queried start before the quarter hour of the meter's last entry, then the
+-- rows after the next chunk do too.
 settled_on : (facts : List Fact) (left later : RemainingRows) (seconds : ℕ) → MovesOn left later seconds → IsSettled facts left → IsSettled facts later
 settled_on facts left later seconds moves settled = λ lt.
     let last : ℕ = last_quarter (option_and_then (meter_of facts) left.meter) in
@@ -452,7 +453,7 @@ settled_on facts left later seconds moves settled = λ lt.
     ] in
     omega (arith, upto, same, moves.till)
 
--- What is true after some chunks of a streamed response: its meter is unchanged. The written text
+-- States that after some chunks of a streamed response, its meter is unchanged. The written text
 -- and the remaining text together are the same as before.
 record Goes (facts : List Fact) (meter : List ℕ) (left later : RemainingRows) (before after : List ℕ) : Type 0 where
   named : later.meter ≡ Some meter

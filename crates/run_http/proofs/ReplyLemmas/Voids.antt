@@ -28,7 +28,7 @@ use Rattle.run_http.specs.Voids.{is_voided, voided_in, voids_of}
 use Rattle.office_core.proofs.SeveralAsked.{answered_as, asked, asked_after, goes_on, kept_on, without_memory}
 use Rattle.office_books.proofs.Pieces.{last_piece, one_piece_more, piece_at}
 
--- ---- The entries of one chunk.
+-- Lemmas on the voided (cancelled) entries among the entries of one chunk.
 
 -- If the list has the voided entries among a chunk's first `i` entries, then it is also correct for
 -- `i + 1` entries. The program appends the next entry exactly if that entry is voided.
@@ -40,7 +40,7 @@ one_more piece i any before mid after lt kept more =
     more ∙ ap (λ front. front ++ voided_in (entry ∷ [])) kept ∙ append_assoc before (voided_in (take i piece)) (voided_in (entry ∷ []))
     ∙ ap (λ back. before ++ back) (sym (filter-append is_voided (take i piece) (entry ∷ [])) ∙ ap voided_in (sym next))
 
--- ---- The entries of several chunks, one chunk after another.
+-- Lemmas on the voided (cancelled) entries of several chunks, one chunk after another.
 
 some_same : {X : Type 0} (x y : X) → Some x ≡ Some y → x ≡ y
 some_same x y is = cc is
@@ -58,7 +58,7 @@ refused_as f g None before mid after why is listed = subst (λ was. ((why ≡ re
 refused_as f g (Some x) before mid after why is listed = subst (λ was. IsOutside ⊥ was after why) is listed
 
 module _ {B : Type 0} (ledger : B → Ledger) where
-  -- The list has the voided entries among the first `n` entries of the meter.
+  -- The list has the voided (cancelled) entries among the first `n` entries of the meter.
   abbrev pub AreKept : (a b : Office B) → (meter : Option (List ℕ)) → (n : ℕ) → List MeterEntry → Type 0
   AreKept a b meter n kept = After ledger a b (λ past. (opening : Opening)
       → option_and_then (opening_of (facts_of past)) meter ≡ Some opening
@@ -107,7 +107,7 @@ module _ {B : Type 0} (ledger : B → Ledger) where
       ∙ ap voided_in (ap (λ (piece : List MeterEntry). take n es ++ piece) items ∙ last_piece n 65536 es last) in
       (ap (option_map (all_voided facts)) found.1 ∙ ap Some (sym all), known.1 ∙ keeps.failures)
 
-  -- ---- The complete list of voided entries.
+  -- Lemmas on the complete list of a meter's voided (cancelled) entries.
 
   pub reported : {E : Type 0} (a b d : Office B) (meter : Option (List ℕ)) (n : ℕ) (kept : List MeterEntry) (v w : Vec MeterEntry Global)
       → Keeps ledger a b → AreKept a b meter n kept → OnlyAsks ledger b d (Ok v)

@@ -21,7 +21,7 @@ label_byte byte =
 abbrev pub label_text : List ℕ → List ℕ
 label_text value = flat_map label_byte value
 
--- The text with `before` and the value of a Prometheus label appended.
+-- The text, followed by the text `before` and the value of a Prometheus label.
 abbrev pub with_label : List ℕ → (before value : List ℕ) → List ℕ
 with_label text before value = text ++ before ++ label_text value
 

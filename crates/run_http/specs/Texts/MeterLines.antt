@@ -1,5 +1,5 @@
--- The text lines of a meter's entries or voided (withdrawn) entries, and a last line with their
--- number.
+-- The text lines of a meter's entries or of its voided (withdrawn) entries, and a last line with
+-- the number of entries.
 use Rattle.std.specs.Prelude.{ℕ, ℤ, Bool, true, false, List, ◌++◌, length, flat_map, codes, decimal}
 use Rattle.std.specs.Fmt.{signed_decimal}
 use Rattle.energy_core.specs.Account.{moment_of}
@@ -49,7 +49,7 @@ opening_line last =
     codes "1 opening " ++ decimal last.at ++ codes " " ++ decimal last.raw ++ codes " 0 0 "
     ++ signed_decimal last.sf ++ codes " stands\n"
 
--- The line of an entry of a meter.
+-- The text line of an entry of a meter.
 abbrev pub entry_line : MeterEntry → List ℕ
 entry_line (Opening last) = opening_line last
 entry_line (Later row sf) = later_line row sf
@@ -58,17 +58,17 @@ entry_line (Later row sf) = later_line row sf
 abbrev pub entries_text : List MeterEntry → List ℕ
 entries_text entries = flat_map entry_line entries ++ end_line (length entries)
 
--- The line of a voided meter entry: PLACE KIND MOMENT. PLACE is its sequence number and MOMENT its
--- time.
+-- The line of a voided (withdrawn) meter entry: PLACE KIND MOMENT. PLACE is its sequence number and
+-- MOMENT its time.
 abbrev pub void_row_line : EntryRow → List ℕ
 void_row_line row =
     decimal row.place ++ kind_word row.kind ++ decimal (moment_of row.entry) ++ codes "\n"
 
--- The line of a voided entry of a meter.
+-- The text line of a voided (withdrawn) entry of a meter.
 abbrev pub void_line : MeterEntry → List ℕ
 void_line (Opening last) = codes "1 opening " ++ decimal last.at ++ codes "\n"
 void_line (Later row sf) = void_row_line row
 
--- The lines of voided meter entries, and a last line with the number of entries.
+-- The lines of voided (withdrawn) meter entries, and a last line with the number of entries.
 abbrev pub voids_text : List MeterEntry → List ℕ
 voids_text entries = flat_map void_line entries ++ end_line (length entries)

@@ -89,7 +89,7 @@ with_devices text devices =
     devices
     ++ codes "\n"
 
--- The complete text with all metrics.
+-- The complete text of `/metrics`.
 abbrev pub with_metrics : List ℕ → Counts → List DeviceState → List SiteRow → List ℕ
 with_metrics text counts devices rows =
     with_meters

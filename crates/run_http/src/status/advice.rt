@@ -1,4 +1,4 @@
-//! Messages for operators: what a printed number means, and what a device lacks in the store.
+//! Messages for operators: what a printed error number means, and what a device lacks in the store.
 
 mod lacks;
 mod reported;

@@ -5,7 +5,7 @@ ghost use Rattle.run_http.specs.Texts.Families as families;
 use crate::status::{append_bytes, write_word};
 use std::alloc::AllocError;
 
-/// The type of a Prometheus metric.
+/// The type of a Prometheus metric: counter or gauge.
 #[derive(Clone, Copy)]
 pub(crate) enum MetricKind {
     /// A metric whose values only increase while the program runs.

@@ -11,7 +11,7 @@ use meter_journal::{EntryKind, EntryRow};
 use office_books::MeterEntry;
 use std::alloc::AllocError;
 
-/// Appends the last line of a report, with the number of rows.
+/// Appends the last line of a response with rows: the number of rows.
 pub(crate) fn append_end(text: &mut Vec<u8>, count: usize) -> Result<(), AllocError>
     ensures { OnOk result (text.new.items ≡ text.old.items ++ end_line count) }
 {
@@ -29,7 +29,8 @@ pub(crate) fn write_share(text: &mut Vec<u8>, row: &Share) -> Result<(), AllocEr
     append_bytes(text, b"\n")
 }
 
-/// Appends a line for each quarter hour.
+/// Appends the line of each quarter hour: its start in seconds since 1970-01-01 UTC, and its energy
+/// in mWh.
 pub(crate) fn write_share_lines(text: &mut Vec<u8>, rows: &[Share]) -> Result<(), AllocError>
     ensures { OnOk result (text.new.items ≡ text.old.items ++ flat_map share_line rows.now) }
 {
@@ -141,7 +142,7 @@ pub fn write_entries(text: &mut Vec<u8>, entries: &[MeterEntry]) -> Result<(), A
     append_end(text, entries.len())
 }
 
-// ---- The text lines of voided entries.
+// Functions for the text lines of voided (withdrawn) entries.
 
 fn moment(entry: &Entry) -> u64
     ensures { result ≡ moment_of entry.now }
@@ -152,7 +153,8 @@ fn moment(entry: &Entry) -> u64
     }
 }
 
-// Appends the line of a voided meter entry other than the opening entry.
+// Appends the line of a voided (withdrawn) meter entry. The opening (the first entry of a meter)
+// has no such line.
 fn write_voided_row(text: &mut Vec<u8>, row: &EntryRow) -> Result<(), AllocError>
     ensures { OnOk result (text.new.items ≡ text.old.items ++ lines.void_row_line row.now) }
 {
@@ -184,9 +186,9 @@ fn write_void_lines(text: &mut Vec<u8>, entries: &[MeterEntry]) -> Result<(), Al
     Ok(())
 }
 
-/// Appends a line for each voided entry of a meter, and a last line with their number. The line of
-/// an entry has its sequence number, its kind and its time. If memory runs out, a part of the text
-/// remains.
+/// Appends a line for each voided (withdrawn) entry of a meter, and a last line with their number.
+/// The line of an entry has its sequence number, its kind and its time. If memory runs out, a part
+/// of the text remains.
 pub fn write_voids(text: &mut Vec<u8>, entries: &[MeterEntry]) -> Result<(), AllocError>
     ensures { OnOk result (text.new.items ≡ text.old.items ++ lines.voids_text entries.now) }
 {

@@ -34,7 +34,7 @@ fn write_latest(text: &mut Vec<u8>, row: &Installation) -> Result<(), AllocError
     write_scale(text, b",\"sf\":", row.last.sf)
 }
 
-// Appends the part of a meter's energy that earlier database files of the store recorded.
+// Appends the part of a meter's energy that earlier database files of the store recorded, in mWh.
 fn write_earlier(text: &mut Vec<u8>, earlier: Option<u64>) -> Result<(), AllocError>
     ensures { OnOk result (text.new.items ≡ json.with_earlier text.old.items earlier) }
 {

@@ -4,8 +4,8 @@ use Rattle.std.specs.Prelude.{◌==◌, ◌||◌, sum_by}
 use Rattle.std.proofs.lemmas.List.Sums.{sum_by-cons}
 use Rattle.run_schedule.specs.HttpClients.TurnShares.{AreFew, MayReply, left_after}
 
--- If `part` of a limit is used, and a response uses `one` more, then the limit minus the sum of
--- both is left.
+-- If `part` of a limit is used, and a response uses `one` more, then the remaining limit is the
+-- limit minus the sum of both.
 less : (left one all part total : ℕ) → left ≡ all - part → total ≡ one + part → left - one ≡ all - total
 less left one all part total same more = omega (arith, same, more)
 

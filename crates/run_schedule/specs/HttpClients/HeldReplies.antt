@@ -18,16 +18,16 @@ held_after [] = 0
 held_after (Made bytes ∷ earlier) = held_after earlier + bytes
 held_after (Dropped bytes ∷ earlier) = held_after earlier - bytes
 
--- Each response was made while `may_reply` allowed it, and no response is longer than `longest`
--- bytes.
+-- States that each response was made while `may_reply` allowed it, and that no response is longer
+-- than `longest` bytes.
 abbrev pub MayHold : (longest : ℕ) → List Change → Type 0
 MayHold longest [] = Unit {0}
 MayHold longest (Made bytes ∷ earlier) =
     (may_reply (held_after earlier) ≡ true) × (bytes ≤ longest) × MayHold longest earlier
 MayHold longest (Dropped bytes ∷ earlier) = MayHold longest earlier
 
--- If each response is made while `may_reply` allows it, the unread responses have less than 4 MiB
--- plus the longest response.
+-- Theorem: if each response is made while `may_reply` allows it, the unread responses have less
+-- than 4 MiB plus the longest response.
 abbrev pub HoldsLittle : Type 0
 HoldsLittle = (longest : ℕ) (changes : List Change) → MayHold longest changes
     → held_after changes < 4194304 + longest

@@ -28,7 +28,7 @@ silent_until Free = None
 silent_until (Silent until) = Some until
 silent_until (Asked until) = None
 
--- The connection in this slot is idle, and `until` is its deadline.
+-- States that the connection in the slot is idle, and that `until` is its deadline.
 abbrev pub IsSilentAt : List Place → (place until : ℕ) → Type 0
 IsSilentAt places place until = slice_get places place ≡ Some (Silent until)
 
@@ -53,12 +53,12 @@ abbrev pub IsChosenAfter : (free : Option ℕ) → List Place → Option ℕ →
 IsChosenAfter (Some place) places chosen = chosen ≡ Some place
 IsChosenAfter None places chosen = IsOldest places chosen
 
--- The slot that a new connection gets, if any.
+-- The slot that a new HTTP connection gets, if any.
 abbrev pub IsChosen : List Place → Option ℕ → Type 0
 IsChosen places chosen = IsChosenAfter (position is_free places) places chosen
 
--- A new connection gets a slot and the deadline `until`. If the slot had an idle connection, the
--- caller must close that connection. Without a slot for the new connection nothing changes.
+-- A new HTTP connection gets a slot and the deadline `until`. If the slot had an idle connection,
+-- the caller must close that connection. Without a slot for the new connection, nothing changes.
 abbrev pub Admits : (until : ℕ) → (old new : List Place) → Option Admission → Type 0
 Admits until old new None = IsChosen old None × (new ≡ old)
 Admits until old new (Some one) =
@@ -66,13 +66,13 @@ Admits until old new (Some one) =
     × (slice_get old one.place ≡ Some Free → one.drops ≡ false)
     × ((later : ℕ) → IsSilentAt old one.place later → one.drops ≡ true)
 
--- The slots after the client in slot `place` sent a request. They are unchanged if slot `place`
--- does not exist.
+-- The slots of HTTP connections after the client in slot `place` sent a request. The slots are
+-- unchanged if slot `place` does not exist.
 abbrev pub asked_in : ℕ → Option Place → List Place → List Place
 asked_in place None places = places
 asked_in place (Some one) places = slice_set places place (asked one)
 
--- The slots after the client in slot `place` sent a request.
+-- The slots of HTTP connections after the client in slot `place` sent a request.
 abbrev pub asked_at : ℕ → List Place → List Place
 asked_at place places = asked_in place (slice_get places place) places
 

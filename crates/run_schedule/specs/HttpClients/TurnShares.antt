@@ -25,24 +25,25 @@ abbrev pub left_after : List (ℕ × ℕ) → TurnShare
 left_after [] = whole
 left_after (one ∷ earlier) = after (left_after earlier) one.0 one.1
 
--- Each response in the list began before a limit of the iteration was used up.
+-- States that each response in the list began before a limit of the main loop's iteration was used
+-- up.
 abbrev pub MayReply : List (ℕ × ℕ) → Type 0
 MayReply [] = Unit {0}
 MayReply (one ∷ earlier) = (is_over (left_after earlier) ≡ false) × MayReply earlier
 
--- The list has at most 64 responses. All responses except the last have less than 256 KiB together,
--- and took less than 20 ms together.
+-- States that the list has at most 64 responses. All responses except the last have less than 256
+-- KiB together, and took less than 20 ms together.
 abbrev pub AreFew : List (ℕ × ℕ) → Type 0
 AreFew [] = Unit {0}
 AreFew (one ∷ earlier) =
     length earlier < 64 × sum_by (λ reply. reply.0) earlier < 262144
     × sum_by (λ reply. reply.1) earlier < 20
 
--- The slot that is `step` slots after `first`. Slot 0 follows the last slot.
+-- The slot of a client that is `step` slots after `first`. Slot 0 follows the last slot.
 abbrev pub place_at : (first step : ℕ) → ℕ
 place_at first step = (first + step) % 64
 
--- The number of slots that are served before slot `place`, in an iteration that begins with slot
--- `first`.
+-- The number of client slots that are served before slot `place`, in an iteration that begins with
+-- slot `first`.
 abbrev pub before : (place first : ℕ) → ℕ
 before place first = (place + (64 - first)) % 64

@@ -14,7 +14,7 @@ pub record IsFirstPast (zone : Zone) (last : ℤ) (moment next : ℕ) : Type 0 w
   pub past : last <ℤ day_at zone next
   pub first : (at : ℕ) → moment < at → at < next → day_at zone at ≤ℤ last
 
--- No day after `last` begins in the time zone after `moment`, up to `LAST_MOMENT`.
+-- States that no day after `last` begins in the time zone after `moment`, up to `LAST_MOMENT`.
 abbrev pub IsNeverPast : Zone → (last : ℤ) → (moment : ℕ) → Type 0
 IsNeverPast zone last moment =
     (at : ℕ) → moment < at → at ≤ LAST_MOMENT → day_at zone at ≤ℤ last

@@ -8,8 +8,6 @@ use Rattle.energy_report.specs.declared.form.Period.{Period}
 use Rattle.energy_report.specs.declared.form.Period.TheVariants as period
 use Rattle.run_schedule.specs.Periods.Names.{file_of, spells}
 
--- ---- The year, month and day in the text of a period.
-
 -- The value of two ASCII digits.
 abbrev pub pair : (tens ones : ℕ) → ℕ
 pair tens ones = 10 * (tens - 48) + (ones - 48)
@@ -33,8 +31,6 @@ day_in _ = 0
 abbrev pub number_in : List ℕ → ℕ
 number_in text = 512 * year_in text + 32 * month_in text + day_in text
 
--- ---- The file names that contain a period.
-
 -- The alternative period length for which the program also looks for files: years if files begin by
 -- month, and months if they begin by year.
 abbrev pub other_length : Period → Period
@@ -42,7 +38,8 @@ other_length period.Day = period.Day
 other_length period.Month = period.Year
 other_length period.Year = period.Month
 
--- True if the text is a period of the configured length or of the alternative length.
+-- True if the text is a period (such as `2026-11`) of the configured length or of the alternative
+-- length.
 abbrev pub reports : Period → List ℕ → Bool
 reports length text = spells length text || spells (other_length length) text
 
@@ -72,8 +69,8 @@ abbrev pub gives_way : {Z : Type 0} → Option (Vec ℕ Z) → Period → List �
 gives_way None length text = true
 gives_way (Some led) length text = nat_lt (rank length led.items) (rank length text)
 
--- The file of the period `text` is the current file: it is among the files with these names, and
--- none of them has a greater rank.
+-- States that the file of the period `text` is the current file: it is among the files with the
+-- given names, and none of them has a greater rank.
 pub record IsLast (file : List ℕ) (length : Period) (names : List (List ℕ))
     (text : List ℕ) : Type 0 where
   pub reported : reports length text ≡ true
@@ -81,8 +78,8 @@ pub record IsLast (file : List ℕ) (length : Period) (names : List (List ℕ))
   pub last : (other : List ℕ) → reports length other ≡ true → Contains names (file_of file other)
       → rank length other ≤ rank length text
 
--- The period of the current file, in which the program records energy, among these file names. None
--- if no name has a period.
+-- The period of the current file (in which the program records energy) among the given file names.
+-- None if no name has a period.
 abbrev pub IsLed : {Z : Type 0} → (file : List ℕ) → Period → (names : List (List ℕ))
     → Option (Vec ℕ Z) → Type 0
 IsLed file length names (Some text) = IsLast file length names text.items

@@ -23,8 +23,6 @@ suffix_of file = if has_suffix file then codes ".db" else []
 abbrev pub file_of : (file text : List ℕ) → List ℕ
 file_of file text = stem_of file ++ codes "-" ++ text ++ suffix_of file
 
--- ---- The text forms of periods.
-
 -- True if the byte is a decimal digit.
 abbrev pub is_digit : ℕ → Bool
 is_digit byte = nat_le 48 byte && nat_le byte 57
@@ -46,8 +44,8 @@ is_day tens ones =
 abbrev pub is_year : (a b c d : ℕ) → Bool
 is_year a b c d = is_digit a && is_digit b && is_digit c && is_digit d
 
--- True if the text has the form of a period of this length: `2026-11-25` for a day, `2026-11` for a
--- month, `2026` for a year.
+-- True if the text has the form of a period of the given length: `2026-11-25` for a day, `2026-11`
+-- for a month, `2026` for a year.
 abbrev pub spells : Period → List ℕ → Bool
 spells period.Year (a ∷ b ∷ c ∷ d ∷ []) = is_year a b c d
 spells period.Year _ = false

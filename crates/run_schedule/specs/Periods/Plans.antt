@@ -1,4 +1,5 @@
--- Decides whether to record in the current file or to begin a new one, and when to decide again.
+-- Decides whether to record energy in the current file or to begin a new file, and when to decide
+-- again.
 use Rattle.std.specs.Prelude.{◌≡◌, ℕ, ◌+◌, ◌*◌, ◌/◌, ◌≤◌, min, nat_lt, Bool, if◌then◌else◌}
 use Rattle.std.specs.Prelude.{List, length, take, Option, Some, None}
 use Rattle.std.specs.Borrow.{Bor}
@@ -12,18 +13,18 @@ use Rattle.run_schedule.specs.Periods.Led.{number_in}
 use Rattle.run_schedule.specs.declared.periods.plans.Plan.{Plan}
 use Rattle.run_schedule.specs.declared.periods.plans.Plan.TheVariants.{Stay, StayAhead, Wait, Carry}
 
--- The text of a period, cut to the length of the text `other` if `other` is shorter. For comparison
--- with a year, a month is cut to its year.
+-- The text of a period such as `2026-11`, cut to the length of the text `other` if `other` is
+-- shorter. For comparison with a year, a month is cut to its year.
 abbrev pub as_far_as : (other text : List ℕ) → List ℕ
 as_far_as other text = take (min (length text) (length other)) text
 
--- True if the period `text` is later than the period `other`. A month and a year are compared by
--- year only.
+-- True if the period `text` is later than the period `other`, such as `2026-11` and `2026-10`. A
+-- month and a year are compared by year only.
 abbrev pub is_later : (text other : List ℕ) → Bool
 is_later text other = nat_lt (number_in (as_far_as text other)) (number_in (as_far_as other text))
 
--- The decision for a file whose period is over: roll over (`Carry`, begin a new file), unless the
--- clock is before the file's last entry.
+-- The decision for a file whose period is over: `Carry` (continue all meters in a new file), unless
+-- the clock is before the file's last entry.
 abbrev pub plan_of_past : (last_entry now : ℕ) → Plan
 plan_of_past last_entry now = if nat_lt now last_entry then Wait else Carry
 
@@ -35,25 +36,23 @@ plan_of (Some led) current last_entry now =
     if bytes_eq led.now current then Stay
     else (if is_later led.now current then StayAhead else plan_of_past last_entry now)
 
--- If the program rolls over to a new file, then the old file's period is not later than the current
--- period. No entry in the old file is then later than the clock.
+-- If the program continues all meters in a new file, then the old file's period is not later than
+-- the current period. No entry in the old file is then later than the clock.
 abbrev pub NothingGoesBack : Type 0
 NothingGoesBack = (led : Bor (List ℕ)) (current : List ℕ) (last_entry now : ℕ)
     → plan_of (Some led) current last_entry now ≡ Carry
     → (number_in (as_far_as current led.now) ≤ number_in (as_far_as led.now current))
     × (last_entry ≤ now)
 
--- ---- When to roll over.
-
--- The time at which the program rolls over from this period's file to a new file: the period's end,
+-- The time at which the program changes from the file of a period to a new file: the period's end,
 -- plus up to 30 s for the last poll. None if the period has no end.
 abbrev pub IsPeriodUntil : Zone → Period → Date → (every now : ℕ) → Option ℕ → Type 0
 IsPeriodUntil zone period day every now (Some until) =
     (next : ℕ) × IsPeriodEnd zone period day now (Some next) × (until ≡ next + min (every / 2) 30)
 IsPeriodUntil zone period day every now None = IsPeriodEnd zone period day now None
 
--- The time of the next attempt after a failed file rollover: the next full hour, plus up to 30 s
--- for the poll at that time.
+-- The time of the next attempt after the program failed to begin a new file: the next full hour,
+-- plus up to 30 s for the poll at that time.
 abbrev pub next_try : (every now : ℕ) → Option ℕ
 next_try every now =
     if nat_lt LAST_MOMENT now then None

@@ -3,8 +3,8 @@ use Rattle.std.specs.Prelude.{ℕ, ◌-◌, max, nat_lt, not, ◌&&◌, Bool, Op
 use Rattle.run_schedule.specs.declared.timing.steady_clock.ClockReading.{ClockReading}
 use Rattle.run_schedule.specs.declared.timing.steady_clock.SteadyClock.{SteadyClock}
 
--- How many seconds the clock is before the latest timestamp. Given only at the first reading after
--- the clock was set back.
+-- The number of seconds by which the clock is before the latest timestamp. Given only at the first
+-- reading after the clock was set back.
 abbrev pub set_back_by : SteadyClock → ℕ → Option ℕ
 set_back_by steady_clock now =
     if nat_lt now steady_clock.latest && not steady_clock.is_back
@@ -14,8 +14,8 @@ set_back_by steady_clock now =
 abbrev pub ahead_by : (latest now : ℕ) → Option ℕ
 ahead_by latest now = if nat_lt 60 (now - latest) then Some latest else None
 
--- The reading when the clock shows `now`. Its timestamp is the clock's time or the latest
--- timestamp, whichever is later.
+-- The reading of the clock when it shows `now`. The timestamp of the reading is the clock's time or
+-- the latest timestamp, whichever is later.
 abbrev pub read_by : SteadyClock → ℕ → ClockReading
 read_by steady_clock now = record {
   moment = max steady_clock.latest now;
@@ -23,7 +23,7 @@ read_by steady_clock now = record {
   ahead_from = ahead_by steady_clock.latest now;
 }
 
--- The state of the clock after a reading.
+-- The state of the clock after a reading of the clock.
 abbrev pub clock_after : SteadyClock → ℕ → SteadyClock
 clock_after steady_clock now =
     record { latest = max steady_clock.latest now; is_back = nat_lt now steady_clock.latest }

@@ -5,7 +5,7 @@ use crate::http_clients::place::Place;
 /// The most HTTP connections that are open at the same time.
 pub const MOST_CLIENTS: usize = 64;
 
-/// The slot that a new HTTP connection got.
+/// The HTTP connection slot that a new connection got.
 #[derive(Clone, Copy, PartialEq, Eq)]
 pub struct Admission {
     pub place: usize,
@@ -24,7 +24,7 @@ impl ClientSlots {
     ghost use Rattle.run_schedule.specs.HttpClients.Places as places;
     ghost use Rattle.run_schedule.specs.HttpClients.Places.{Admits};
 
-    /// Makes 64 free slots.
+    /// Makes 64 free slots for HTTP connections.
     pub fn new() -> ClientSlots
         ensures { result.places ≡ replicate 64 Place.Free }
     {

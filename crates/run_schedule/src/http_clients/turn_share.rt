@@ -24,7 +24,7 @@ pub struct TurnShare {
 }
 
 impl TurnShare {
-    /// Returns the full limits, for an iteration of the main loop that begins.
+    /// Returns the full limits for HTTP responses, for an iteration of the main loop that begins.
     pub fn whole() -> TurnShare
         ensures { result ≡ shares.whole }
     {
@@ -35,16 +35,16 @@ impl TurnShare {
         }
     }
 
-    /// Returns whether one of the limits is used up. Then all further requests wait for the next
-    /// iteration of the main loop.
+    /// Returns whether one of the limits for HTTP responses is used up. Then all further requests
+    /// wait for the next iteration of the main loop.
     pub fn is_over(self) -> bool
         ensures { result ≡ shares.is_over self }
     {
         self.requests == 0 || self.bytes == 0 || self.milliseconds == 0
     }
 
-    /// Returns what remains of the limits after a response of `bytes` bytes that took
-    /// `milliseconds` to make.
+    /// Returns what remains of the limits of a main loop iteration after a response of `bytes`
+    /// bytes that took `milliseconds` to make.
     pub fn after(self, bytes: usize, milliseconds: u64) -> TurnShare
         ensures { result ≡ shares.after self bytes milliseconds }
     {
@@ -63,7 +63,7 @@ pub fn replies_are_few()
     ensures { (replies : List (ℕ × ℕ)) → MayReply replies → AreFew replies }
 {}
 
-/// Returns the slot that is `step` slots after slot `first`. Slot 0 follows the last slot.
+/// Returns the client slot that is `step` slots after slot `first`. Slot 0 follows the last slot.
 pub fn place_at(first: usize, step: usize) -> usize
     ensures place { result < 64 }
     ensures round { first < 64 → step < 64 → result ≡ shares.place_at first step }
@@ -71,8 +71,9 @@ pub fn place_at(first: usize, step: usize) -> usize
     first.saturating_add(step) % MOST_CLIENTS
 }
 
-/// Theorem: each iteration of the main loop reaches every client slot. If the next iteration begins
-/// after a slot that came before a waiting slot, the waiting slot moves forward in the order.
+/// Theorem: each iteration of the main loop reaches every client slot. Suppose that the next
+/// iteration begins after a slot that precedes a waiting slot. Then the waiting slot is served
+/// earlier in the next iteration.
 pub fn turns_go_round()
     ensures each { (first place : ℕ) → first < 64 → place < 64
         → shares.place_at first (shares.before place first) ≡ place }

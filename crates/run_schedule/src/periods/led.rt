@@ -37,7 +37,8 @@ fn numbers_in(text: &[u8]) -> (u32, u32, u32)
     }
 }
 
-/// Returns a number that orders periods of one length: a later period has a greater number.
+/// Returns a number that orders calendar periods of one length: a later period has a greater
+/// number.
 pub(crate) fn number_in(text: &[u8]) -> u32
     ensures { result ≡ numbers.number_in text.now }
 {
@@ -91,15 +92,15 @@ impl ActivePeriod {
     ghost use Rattle.std.specs.Prelude.{◌≡◌, [], OnOk, OnErr, None};
     ghost use Rattle.run_schedule.specs.Periods.Led.{SeesOneMore};
 
-    /// Makes the value before any file name was seen.
+    /// Makes the search result before any file name was seen, which has no period.
     pub fn none() -> ActivePeriod
         ensures { result.text ≡ None }
     {
         ActivePeriod { text: None }
     }
 
-    // Returns whether the file of the period `text` outranks the current file among the names so
-    // far.
+    // Returns whether the file of the period `text` outranks the current file among the file names
+    // seen so far.
     fn gives_way_to(&self, length: Period, text: &[u8]) -> bool
         ensures { result ≡ numbers.gives_way self.now.text length text.now }
     {

@@ -1,4 +1,5 @@
-//! Decides whether to record in the current file or to begin a new one, and when to decide again.
+//! Decides whether to record energy in the current file or to begin a new file, and when to decide
+//! again.
 ghost use Rattle.std.specs.Prelude.{◌≡◌, ◌≤◌, min, length};
 ghost use Rattle.run_schedule.specs.Periods.Plans as specs;
 ghost use Rattle.run_schedule.specs.Periods.Plans.{IsPeriodUntil, NothingGoesBack};
@@ -21,7 +22,7 @@ pub enum Plan {
     /// Continue in the file for now: its period is over, but its last entry is later than the
     /// clock.
     Wait,
-    /// Roll the file over into a new file for the current period.
+    /// Continue all meters in a new file for the current period.
     Carry,
 }
 
@@ -72,15 +73,15 @@ pub fn plan_of(led: Option<&[u8]>, current: &[u8], last_entry: u64, now: u64) ->
     }
 }
 
-/// Theorem: no file is rolled over into a file of an earlier period, or while its last entry is
-/// later than the clock.
+/// Theorem: no file is continued in a file of an earlier period, or while its last entry is later
+/// than the clock.
 pub fn nothing_goes_back()
     ensures { NothingGoesBack }
 {}
 
-/// Returns the time at which the program rolls over from the file of the period that contains
-/// `day`. This is the period's end in the time zone, plus up to 30 s for the last poll. `every` is
-/// the polling interval in seconds. Returns `None` if the period has no end.
+/// Returns the time at which the program changes from the file of the period that contains `day` to
+/// a new file. This is the period's end in the time zone, plus up to 30 s for the last poll.
+/// `every` is the polling interval in seconds. Returns `None` if the period has no end.
 pub fn period_until(zone: &Zone, period: Period, day: Day, every: u64, now: u64) -> Option<u64>
     ensures { IsPeriodUntil zone.now period day every now result }
 {
@@ -90,9 +91,9 @@ pub fn period_until(zone: &Zone, period: Period, day: Day, every: u64, now: u64)
     }
 }
 
-/// Returns when to retry a failed file rollover: at the next full hour, plus up to 30 s for the
-/// poll at that time. `every` is the polling interval in seconds. Returns `None` past
-/// `LAST_MOMENT`.
+/// Returns when to retry after the program failed to begin a new file: at the next full hour, plus
+/// up to 30 s for the poll at that time. `every` is the polling interval in seconds. Returns `None`
+/// past `LAST_MOMENT`.
 pub fn next_try(every: u64, now: u64) -> Option<u64>
     ensures { result ≡ specs.next_try every now }
 {

@@ -11,8 +11,8 @@ pub struct ClockReading {
     /// The timestamp of an event that arrives now: the clock's time or the latest timestamp,
     /// whichever is later.
     pub moment: u64,
-    /// How many seconds the clock is before the latest timestamp. Given only at the first reading
-    /// after the clock was set back.
+    /// The number of seconds by which the clock is before the latest timestamp. Given only at the
+    /// first reading after the clock was set back.
     pub set_back: Option<u64>,
     /// The previous timestamp, if the clock advanced by more than a minute since then.
     pub ahead_from: Option<u64>,

@@ -77,8 +77,8 @@ out P Q past from to done turn = record {
   stands = done.stands;
 }
 
--- If a line does not use the simulator, then it has the same effect in a script with simulated
--- devices as in a script without them.
+-- If a line does not use the simulated devices, then it has the same effect as in a script without
+-- simulated devices.
 pub as_script : (P : Stage → List ℕ → Stage → Type 0) (past : History) (office office' : Office ListBooks) (ok : Unit {0})
     (o o' : Option (List ℕ)) → IsCarriedOut P past office office' (Ok ok) o o' → Carried P past office office' o o'
 as_script P past office office' ok o o' done = record {
@@ -115,8 +115,8 @@ runs_as (Ok false) P Q Wrong Worse from to turn worse runs = (worse runs.0, runs
 runs_as (Err error) P Q Wrong Worse from to turn worse runs = λ past stands.
     begins_as _ _ from.output to.output (λ printed broken. (broken.0, turn (stage_on past from) printed broken.0 broken.1)) (runs past stands)
 
--- If an event does not use the simulator, then it has the same effect in a script with simulated
--- devices as in a script without them.
+-- If an event does not use the simulated devices, then it has the same effect as in a script
+-- without simulated devices.
 pub plain_carried : (at : ℕ) (e : Event) (past : History) (office office' : Office ListBooks) (maps : Maps) (connected : Bool) (o o' : Option (List ℕ))
     → Carried (λ now printed next. EventPrints now at e printed next) past office office' o o'
     → CarriedOut (PlainPrints at e) past (loop_state office maps connected o) (loop_state office' maps connected o')
@@ -159,8 +159,8 @@ broken_alike said past office office' maps connected error o o' (inl done) =
     )
 broken_alike said past office office' maps connected error o o' (inr none) = inl none.1
 
--- If a script line does not use the simulator, then it has the same effect in a script with
--- simulated devices as in a script without them.
+-- If a script line does not use the simulated devices, then it has the same effect as in a script
+-- without simulated devices.
 pub alike : (r : Result (Unit {0}) Error) (said : ScriptLine) (office office' : Office ListBooks) (maps : Maps) (connected : Bool)
     (o o' : Option (List ℕ))
     → ((past : History) → Stands ledger_of past office
@@ -230,8 +230,8 @@ happens_begun at e device past office maps connected o o' is begun =
       record { prints = broken.2; maps = refl; connected = refl },
     )) begun)
 
--- If a call for a line returns `true`, then it executed the line. The line's output and the history
--- after it satisfy the specification.
+-- If a call for a script line returns `true`, then the call executed the line. The line's output
+-- and the history after it satisfy the specification.
 pub line_done : (fine : Bool) (P : LoopStage → List ℕ → LoopStage → Type 0) (Wrong : Type 0) (from to : LoopState) → fine ≡ true
     → LineRuns (Ok fine) P Wrong from to → (past : History) → Stands ledger_of past from.office → CarriedOut P past from to
 line_done true P Wrong from to is runs = runs

@@ -1,5 +1,5 @@
--- Lemmas on events that a script over simulated devices passes to the office (the core of
--- `sunreg`).
+-- Lemmas on events that a script over simulated devices passes to the program, which accepts or
+-- refuses them.
 use Rattle.std.proofs.Common.{◌≡◌, ◌⊎◌, ◌≤◌, ◌+◌, ◌++◌, append-nil, inl, inr, ℕ, Bool, true, false, List, [], ◌∷◌, Option, refl, sym, ap, ◌∙◌, subst, arith, length}
 use Rattle.std.specs.Prelude.{Result, Ok, Err, codes, is_ok}
 use Rattle.std.specs.Io.KnownBytes.{Appends}
@@ -32,8 +32,8 @@ use Rattle.script_run.specs.declared.looping.answers.Came.{Came}
 appended_none : (o m o' : Option (List ℕ)) (text : List ℕ) → Appends o m text → Appends m o' [] → Appends o o' text
 appended_none o m o' text first second = subst (λ (t : List ℕ). Appends o o' t) (append-nil text) (Appends-trans o m o' text [] first second)
 
--- States that `IsReply` allows the reply to an event. Also states that the stored records match the
--- history after the event.
+-- States that `IsReply` allows the program's reply to an event. Also states that the stored records
+-- match the history after the event.
 pub record Replied (past : History) (at : ℕ) (e : Event) (reply : Result Answer Refusal) (office office' : Office ListBooks)
     : Type 0 where
   pub is : IsReply (stage_of past office) at e reply
@@ -92,8 +92,8 @@ was_printed past at e reply office office' text replied same = record {
   stands = replied.stands;
 }
 
--- Loop invariant: the office (the core of `sunreg`) accepted everything that the first `takes`
--- reads received from the simulator.
+-- Loop invariant: the program accepted everything that the first `takes` reads received from the
+-- simulated devices.
 pub record FedSoFar (takes : ℕ) (device : Option (List ℕ)) (at : ℕ) (past : History) (office office' : Office ListBooks)
     (o o' : Option (List ℕ)) : Type 0 where
   pub brought : List Came
@@ -340,8 +340,8 @@ not_started past at device e why office office' maps connected o o' replied = re
   stands = replied.stands;
 }
 
--- If a device has no connection to the simulator, then the output for the device's responses is
--- only the line `ok`.
+-- If a simulated device has no connection, then the output for the device's responses is only the
+-- line `ok`.
 pub only_ok : (device : Option (List ℕ)) (at : ℕ) (office : Office ListBooks) (o o' : Option (List ℕ)) (r : Result (Unit {0}) Error)
     → GotText r (codes "ok\n") o o' → Carries r (λ done now printed next. AnswersPrint device at now printed next) office office o o'
 only_ok device at office o o' (Ok done) ok = λ past stands. fed_ok 0 device at past office office o o o' (omega arith) (none_fed device at past office o stands) ok

@@ -135,7 +135,7 @@ broken past all lines left first from here o' at ran (inr (printed, (next, print
   begun_line (stage_on past from) all lines left first from.output here part at ran (inr (printed, (unwritten, whole), inr (next, prints))),
 )
 
--- If all lines of a script text are run with an empty store and an empty register map, then the
+-- If all lines of a script are run with an empty store and simulated devices without addresses, the
 -- specification of a run is satisfied.
 pub text_from : (status : ExitStatus) (zone : Zone) (past : History) (text : List ℕ) (office : Office ListBooks) (maps : Maps) (o o' : Option (List ℕ))
     → AreUnset maps → stage_of past office ≡ beginning zone → Stands ledger_of past office → LinesRun status text (loop_state office maps false o) o'

@@ -1,4 +1,4 @@
--- Lemmas on the replies of an office (the core of `sunreg`) whose store is in memory.
+-- Lemmas on the replies of the program, with a store in memory, to the events of a script.
 use Rattle.std.proofs.Common.{◌≡◌, ◌⊎◌, ◌+◌, inl, inr, ℕ, Bool, false, Option, List, refl, sym, ap, ◌∙◌}
 use Rattle.std.specs.Prelude.{min, Result, Ok, Err}
 use Rattle.std.specs.declared.io.Error.{Error}
@@ -35,7 +35,7 @@ abbrev raised : ℕ → ℕ
 raised n = min (n + 1) 18446744073709551615
 
 -- With a store in memory, a call fails only because memory ran out, or because an earlier failure
--- had stopped the office (the core of `sunreg`).
+-- had stopped the program.
 pub fails_in_memory : {T : Type 0} (takes_memory : Type 0) (before after : Failures) (reply : Result T Refusal) → before.count ≡ 0 → after.count ≡ 0
     → FailsOutside takes_memory before after reply → Fails reply
 fails_in_memory takes_memory before after (Ok x) none still h = absurd h
@@ -64,8 +64,8 @@ pub right_or_fails : {T : Type 0} (takes_memory : Type 0) (before after : Failur
 right_or_fails takes_memory before after reply right none still (inl h) = inl h.0
 right_or_fails takes_memory before after reply right none still (inr h) = inr (fails_in_memory takes_memory before after reply none still h)
 
--- If the office (the core of `sunreg`) replied to an event and the script printed the reply, then
--- the line of the event was executed.
+-- If the program replied to an event and the script printed the reply, then the line of the event
+-- was executed.
 pub replied : (past : History) (at : ℕ) (e : Event) (office office' : Office ListBooks) (reply : Result Answer Refusal)
     (result : Result (Unit {0}) Error) (o o' : Option (List ℕ)) → IsAnswer past at e (failures_of ledger_of office) (failures_of ledger_of office') reply → Ends ledger_of office office' e reply
     → (is_stopped office ≡ false → SettlesNothing past at e → IsQuiet office office' reply)

@@ -1,4 +1,4 @@
--- Lemmas on the replies to queries of a script (a text of commands, events and queries), and on
+-- Lemmas on queries in a script (a text of commands, events and queries): the replies to them, and
 -- their output.
 use Rattle.std.proofs.Common.{◌≡◌, ◌⊎◌, inl, inr, ℕ, ◌+◌, Bool, true, false, Option, List, [], ◌++◌, length, take, refl, sym, ap, ◌∙◌, arith}
 use Rattle.std.specs.List.{flat_map}
@@ -71,8 +71,8 @@ rows_reported there AreReported row_line past office office' rows reply result o
   stands = asks.stands past stands;
 }
 
--- If a query passes its rows to a visitor, then the visitor received the first rows of the query's
--- result. If the query succeeded, the visitor received all rows.
+-- If a query passes its rows to a row visitor, then the visitor received the first rows of the
+-- query's result. If the query succeeded, the visitor received all rows.
 pub handed : {S T : Type 0} (takes : S → T → S → Type 0) (rows : Option (List T)) (before after : Failures) (from to : S)
     (reply : Result (Unit {0}) Refusal) → HandsRows takes rows before after from to reply
     → (shown : List T) × TakesAll takes from shown to × ((n : ℕ) × (shown ≡ take n (rows_in rows))) × OnOk reply (shown ≡ rows_in rows)

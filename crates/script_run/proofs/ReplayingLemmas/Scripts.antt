@@ -120,7 +120,7 @@ memory_alone refusal.Stopped goes fails = absurd goes
 memory_alone refusal.NotVoidable goes fails = absurd fails
 memory_alone (refusal.NotPlausible cause) goes fails = absurd fails
 
--- If the start over an empty store in memory fails, then memory ran out.
+-- If starting the program over an empty store in memory fails, then memory ran out.
 pub refused_for_memory : (why : Refusal) (old new : Ledger) → old.failures.count ≡ 0 → new.failures.count ≡ 0 → IsNotStopped why
     → IsNotOpened [] 0 old new why → why ≡ refusal.Memory
 refused_for_memory why old new before after goes not_opened = memory_alone why goes (fails_for not_opened.reason)

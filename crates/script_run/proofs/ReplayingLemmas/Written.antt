@@ -10,8 +10,8 @@ use Rattle.energy_report.specs.RowLines.{counted}
 use Rattle.energy_report.specs.declared.row_lines.RowLines.{RowLines}
 use Rattle.energy_report.proofs.RowLinesLemmas.{Fits, TakesLine, all_written, longer}
 
--- If writing the rows of a query fails, then the writer received a beginning of the text of all
--- rows and of the last line.
+-- If writing the rows of a query fails, the writer received a beginning of the text of all rows and
+-- the last line.
 pub got_part : {W T E : Type 0} (contents : W → Option (List ℕ)) (line : T → List ℕ) (rows : List T) (last : List ℕ)
     (from to : RowLines W) (error : E) (o o' : W) → from.failed ≡ false → from.count ≡ 0 → TakesAll (TakesLine contents line) from rows to
     → to.failed ≡ true → from.output.now ≡ o → o' ≡ to.output.now

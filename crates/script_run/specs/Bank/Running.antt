@@ -26,7 +26,7 @@ Carries now said (Err Refused) next output output' = ⊥
 Carries now said (Err Failed) next output output' =
     GotPart (taken_text (takes now.maps said)) output output'
 
--- States that the writer received some text that satisfies `Prints`.
+-- States that the writer received a text that the predicate `Prints` allows.
 pub record Writes (Prints : List ℕ → Type 0) (output output' : Option (List ℕ)) : Type 0 where
   pub printed : List ℕ
   pub appended : Appends output output' printed

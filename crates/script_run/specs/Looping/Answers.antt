@@ -20,14 +20,14 @@ abbrev pub fed : (device : Option (List ℕ)) → Came → Event
 fed device (came.Piece bytes) = event.Bytes device bytes
 fed device (came.Over closing) = event.Gone device closing
 
--- The text that a script prints after the office (the core of `sunreg`) has processed an event. It
--- is the notifications of an accepted event, or the line of a refusal.
+-- The text that a script prints after the program has processed an event: the notifications of an
+-- accepted event, or the line of a refusal.
 abbrev pub fed_text : History → (at : ℕ) → Event → Result Answer Refusal → List ℕ
 fed_text past at e (Ok given) = flat_map note_line (notes_after past at e (Ok given))
 fed_text past at e (Err why) = refused_line why
 
--- States that the office (the core of `sunreg`) accepted or refused an event, and that the script
--- printed its notifications or the refusal.
+-- States that the program accepted or refused an event, and that the script printed its
+-- notifications or the refusal.
 pub record FedPrints (now : Stage) (at : ℕ) (e : Event) (accepted : Bool) (printed : List ℕ)
     (next : Stage)
     : Type 0 where
@@ -37,8 +37,8 @@ pub record FedPrints (now : Stage) (at : ℕ) (e : Event) (accepted : Bool) (pri
   pub text : printed ≡ fed_text now.past at e reply
   pub after : next ≡ after_reply now at e reply
 
--- States that the office (the core of `sunreg`) accepted everything that arrived on a connection.
--- The list of arrivals has the latest arrival first.
+-- States that the program accepted everything that arrived on a connection. The list of arrivals
+-- has the latest arrival first.
 abbrev pub FedAll : (device : Option (List ℕ)) → (at : ℕ) → Stage → List Came → (printed : List ℕ)
     → (next : Stage) → Type 0
 FedAll device at now [] printed next = (printed ≡ []) × (next ≡ now)
@@ -59,8 +59,8 @@ FedEnds device at now printed next =
 abbrev pub most_takes : ℕ
 most_takes = MOST_TAKES
 
--- States that the office (the core of `sunreg`) received everything that arrived on a device's
--- connection, and that the script printed the resulting notifications or refusal.
+-- States that the program received everything that arrived on a device's connection, and that the
+-- script printed the resulting notifications or refusal.
 pub record AnswersPrint (device : Option (List ℕ)) (at : ℕ) (now : Stage) (printed : List ℕ)
     (next : Stage)
     : Type 0 where

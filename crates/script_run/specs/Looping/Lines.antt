@@ -28,7 +28,8 @@ use Rattle.mb_device.specs.StandIn.Exchanges.{Exchanged}
 use Rattle.script_run.specs.Looping.Standings.{LoopStage}
 
 -- States that a loop (a script over simulated devices) allows a setup line at this position. Lines
--- `area` and `trick` must precede the first line that connects a device.
+-- that add addresses (`area`) or inject faults (`trick`) must precede the first line that connects
+-- a device.
 abbrev pub MayStand : (connected : Bool) → BankLine → Type 0
 MayStand connected (bank.Area area) = connected ≡ false
 MayStand connected (bank.Set cell) = Unit {0}
@@ -47,8 +48,8 @@ abbrev pub taken_text : Bool → List ℕ
 taken_text true = codes "ok\n"
 taken_text false = refused_line refusal.Limit
 
--- The simulator's register map after a setup line. If the map refuses the line, the map is
--- unchanged.
+-- The register map of the simulated devices after a setup line. If the map refuses the line, the
+-- map is unchanged.
 abbrev pub maps_with : Maps → BankLine → Maps
 maps_with maps (bank.Area area) = with_area maps area
 maps_with maps (bank.Set cell) = with_cell maps cell
@@ -70,8 +71,8 @@ pub record StandsBy (now next : LoopStage) : Type 0 where
   pub maps : next.maps ≡ now.maps
   pub connected : next.connected ≡ now.connected
 
--- States the output of a line that starts Modbus reads. If the office (the core of `sunreg`)
--- accepts the start, the request frames go to the simulator and the responses go to the office.
+-- States the output of a line that starts Modbus reads. If the program accepts the start, the
+-- request frames go to a simulated device, and its responses go to the program.
 abbrev pub Started : Result Answer Refusal → (at : ℕ) → (device : Option (List ℕ)) → Event
     → (now : LoopStage)
     → (printed : List ℕ) → (next : LoopStage) → Type 0
@@ -83,8 +84,8 @@ Started (Err why) at device e now printed next =
     (printed ≡ refused_line why) × (next.script ≡ after_reply now.script at e (Err why))
     × (next.maps ≡ now.maps)
 
--- States the output of a line that starts Modbus reads: first the reply of the office (the core of
--- `sunreg`), then the output for the device's responses.
+-- States the output of a line that starts Modbus reads: first the reply of the program, then the
+-- output for the device's responses.
 pub record StartsPrint (at : ℕ) (device : Option (List ℕ)) (e : Event) (now : LoopStage)
     (printed : List ℕ) (next : LoopStage) : Type 0 where
   pub reply : Result Answer Refusal
@@ -93,14 +94,14 @@ pub record StartsPrint (at : ℕ) (device : Option (List ℕ)) (e : Event) (now 
   pub connected : next.connected ≡ now.connected
 
 -- States the output of a line whose event uses no connection to a simulated device. The line prints
--- the reply of the office (the core of `sunreg`), and leaves the simulator unchanged.
+-- the reply of the program, and leaves the simulated devices unchanged.
 pub record PlainPrints (at : ℕ) (e : Event) (now : LoopStage) (printed : List ℕ) (next : LoopStage)
     : Type 0 where
   pub prints : EventPrints now.script at e printed next.script
   pub by : StandsBy now next
 
 -- States the output of a line that connects a simulated device. The line prints the reply of the
--- office (the core of `sunreg`), and `connected` is true afterwards.
+-- program, and `connected` is true afterwards.
 pub record ConnectPrints (at : ℕ) (e : Event) (now : LoopStage) (printed : List ℕ)
     (next : LoopStage)
     : Type 0 where
@@ -113,15 +114,15 @@ abbrev pub round_of : Command → Option (Option (List ℕ))
 round_of (command.StartRound round) = Some round.device
 round_of other = None
 
--- States the output of a line with a command: the reply of the office (the core of `sunreg`). If
--- the command starts a round of reads, the output for the device's responses follows.
+-- States the output of a line with a command: the reply of the program. If the command starts a
+-- round of reads, the output for the device's responses follows.
 abbrev pub CommandPrints : (round : Option (Option (List ℕ))) → (at : ℕ) → Event → (now : LoopStage)
     → (printed : List ℕ) → (next : LoopStage) → Type 0
 CommandPrints (Some device) at e now printed next = StartsPrint at device e now printed next
 CommandPrints None at e now printed next = PlainPrints at e now printed next
 
--- States the output of a script line with an event, by the kind of event. A line with bytes of a
--- device is not allowed, because only the simulator sends bytes.
+-- States the output of a script line with an event, by the kind of event. A script cannot give the
+-- bytes that a device sends, because the simulated devices send them.
 abbrev pub HappensPrints : (at : ℕ) → Event → (now : LoopStage) → (printed : List ℕ)
     → (next : LoopStage) → Type 0
 HappensPrints at (event.Connected device) now printed next =
@@ -150,8 +151,8 @@ ReadPrints at start now printed next =
     ⊎ ((IsSpan start.function start.address start.count → ⊥)
     × IsRefused now.script printed next.script × StandsBy now next)
 
--- States that a line of a loop (a script over simulated devices) has the same output as in a plain
--- script, and leaves the simulator unchanged.
+-- States that a line has the same output as in a script without simulated devices, and leaves the
+-- simulated devices unchanged.
 pub record AlikePrints (said : ScriptLine) (now : LoopStage) (printed : List ℕ) (next : LoopStage)
     : Type 0 where
   pub prints : LinePrints now.script said printed next.script

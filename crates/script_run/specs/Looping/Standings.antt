@@ -19,15 +19,16 @@ pub record LoopStage : Type 0 where
   pub maps : Maps
   pub connected : Bool
 
--- The state of a running loop (a script over simulated devices). It has the office (the core of
--- `sunreg`), the simulator's register map, and the bytes written so far.
+-- The state of a running loop (a script over simulated devices). It has the program, the
+-- simulator's register map, and the bytes written so far.
 pub record LoopState : Type 0 where
   pub office : Office ListBooks
   pub maps : Maps
   pub connected : Bool
   pub output : Option (List ℕ)
 
--- Builds the state of a running loop (a script over simulated devices) from its parts.
+-- Builds the state of a running loop (a script over simulated devices) from the program, the
+-- register map and the output.
 abbrev pub loop_state : Office ListBooks → Maps → (connected : Bool)
     → (output : Option (List ℕ)) → LoopState
 loop_state office maps connected output =
@@ -68,8 +69,8 @@ CarriesOut {X = X} (Err error) Prints from to =
     → Begins (λ printed. (x : X) × (next : LoopStage) × Prints x (stage_on past from) printed next)
     from.output to.output
 
--- States that a line printed an output that `Prints` allows. The line may change the office (the
--- core of `sunreg`), but not the simulator.
+-- States that a line printed an output that `Prints` allows. The line may change the state of
+-- `sunreg`, but not the simulated devices.
 pub record Carried (Prints : Stage → List ℕ → Stage → Type 0) (past : History)
     (office office' : Office ListBooks) (output output' : Option (List ℕ)) : Type 0 where
   pub printed : List ℕ
@@ -78,8 +79,8 @@ pub record Carried (Prints : Stage → List ℕ → Stage → Type 0) (past : Hi
   pub appended : Appends output output' printed
   pub stands : Stands ledger_of after office'
 
--- States the outcome of a call for a script line that does not change the simulator. A successful
--- call executed the line, and a failed call wrote a beginning of the line's output.
+-- States the outcome of a call for a script line that does not change the simulated devices. A
+-- successful call executed the line, and a failed call wrote a beginning of the line's output.
 abbrev pub Carries : {X E : Type 0} → Result X E → (X → Stage → List ℕ → Stage → Type 0)
     → (office office' : Office ListBooks) → (output output' : Option (List ℕ)) → Type 0
 Carries (Ok x) Prints office office' output output' =

@@ -36,8 +36,8 @@ abbrev pub WordsRun : Result Bool Error → (words : List (List ℕ)) → (from 
 WordsRun result words from to =
     LineRuns result (WordsPrint words) (AreWrong from.connected words) from to
 
--- States the outcome of a line that starts Modbus reads. The office (the core of `sunreg`) refused
--- the start, or received the simulator's responses.
+-- States the outcome of a line that starts Modbus reads. The program refused the start, or received
+-- the simulator's responses.
 abbrev pub StartRuns : {X E : Type 0} → Result X E → (at : ℕ) → (device : Option (List ℕ)) → Event
     → (from to : LoopState) → Type 0
 StartRuns result at device e from to =

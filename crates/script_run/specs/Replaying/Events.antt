@@ -21,23 +21,23 @@ use Rattle.script_text.specs.declared.script.GivenStart.{GivenStart}
 use Rattle.script_run.specs.Replaying.Stages.{Stage, Fails, ReportsStop, after_reply}
 use Rattle.script_text.specs.AnswerText.{accepted_text, fault_line, refused_line}
 
--- States the possible replies of the office (the core of `sunreg`) to an event: the reply that
--- `decision_of` defines, or a failure. If the office has not stopped and the event ends no poll, it
--- cannot fail.
+-- States the possible replies of the program to an event: the reply that `decision_of` defines, or
+-- a failure. If no failure has stopped the core and the event ends no poll, then there is no
+-- failure.
 pub record IsReply (now : Stage) (at : ℕ) (e : Event) (reply : Result Answer Refusal) : Type 0 where
   pub answer : (reply ≡ decision_of now.past at e) ⊎ Fails reply
   pub stops : ReportsStop now reply
   pub quiet : now.stopped ≡ false → SettlesNothing now.past at e → is_failure reply ≡ false
 
--- The text that a script prints after the office (the core of `sunreg`) has processed an event. It
--- is the notifications and the answer of an accepted event, or the line of a refusal.
+-- The text that a script prints after the program has processed an event: the notifications and the
+-- answer of an accepted event, or the line of a refusal.
 abbrev pub reply_text : History → (at : ℕ) → Event → Result Answer Refusal → List ℕ
 reply_text past at e (Ok given) =
     accepted_text given (notes_after past at e (Ok given)) (outgoing_after past at e (Ok given))
 reply_text past at e (Err why) = refused_line why
 
--- States that a line with an event prints the reply of the office (the core of `sunreg`), and that
--- the script continues in the state after the reply.
+-- States that a line with an event prints the reply of the program, and that the script continues
+-- in the state after the reply.
 pub record EventPrints (now : Stage) (at : ℕ) (e : Event) (printed : List ℕ) (next : Stage)
     : Type 0 where
   pub reply : Result Answer Refusal
@@ -70,7 +70,7 @@ StartPrints now at start printed next =
     × EventPrints now at (start_event start span) printed next)
     ⊎ ((IsSpan start.function start.address start.count → ⊥) × IsRefused now printed next)
 
--- The faulty rows of a point list, from its CSV text.
+-- The rows of a point list's CSV text that have a fault.
 abbrev pub faults_of : List ℕ → List FaultyRow
 faults_of text = list_faults (rows_read text)
 

@@ -33,7 +33,7 @@ pub record BadPrints (bad : Line) (printed : List ℕ) : Type 0 where
   pub none : (said : ScriptLine) → IsLine (words_of bad.text) said → ⊥
   pub text : printed ≡ bad_line bad.number
 
--- States that `part` is a beginning of the text.
+-- States that `part` is a prefix of the text.
 abbrev pub BeginsText : (part text : List ℕ) → Type 0
 BeginsText part text = (rest : List ℕ) × (text ≡ part ++ rest)
 

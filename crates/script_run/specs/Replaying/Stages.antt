@@ -10,8 +10,8 @@ use Rattle.office_books.specs.History.{History, Opened}
 use Rattle.office_books.specs.Refusals.{with_answer}
 use Rattle.office_core.specs.Failing.{stops}
 
--- The state of a script's run: the accepted events, whether a failure has stopped the office (the
--- core of `sunreg`), and the time zone for the script's days.
+-- The state of a script's run: the accepted events, whether a failure has stopped the program, and
+-- the time zone for the script's days.
 pub record Stage : Type 0 where
   pub past : History
   pub stopped : Bool
@@ -23,18 +23,17 @@ abbrev pub beginning : Zone → Stage
 beginning zone = record { past = Opened 0 ∷ []; stopped = false; zone = zone }
 
 -- States that a call failed because memory ran out, or because an earlier failure had stopped the
--- office (the core of `sunreg`). With a store in memory, no other failure is possible.
+-- program. With a store in memory, no other failure is possible.
 abbrev pub Fails : {T : Type 0} → Result T Refusal → Type 0
 Fails (Err refusal.Memory) = Unit {0}
 Fails (Err refusal.Stopped) = Unit {0}
 Fails _ = ⊥
 
--- States that the reply is the refusal `Stopped` if and only if a failure has stopped the office
--- (the core of `sunreg`).
+-- States that the reply is the refusal `Stopped` if and only if a failure has stopped the program.
 abbrev pub ReportsStop : {T : Type 0} → Stage → Result T Refusal → Type 0
 ReportsStop now reply = (reply ≡ Err refusal.Stopped) ↔ (now.stopped ≡ true)
 
--- The state of a script's run after the office (the core of `sunreg`) replied to an event.
+-- The state of a script's run after the program replied to an event.
 abbrev pub after_reply : Stage → (at : ℕ) → Event → Result Answer Refusal → Stage
 after_reply now at e reply =
     record {

@@ -18,8 +18,8 @@ use Rattle.script_run.specs.Replaying.Stages.{Stage}
 use Rattle.script_text.specs.LineWords.Words.{words_of}
 use Rattle.sun_points.specs.Writing.{GotText}
 
--- The modeled state of a script's run, from the history of accepted events and the running `Office`
--- (the core of `sunreg`).
+-- The modeled state of a script's run, from the history of accepted events and the running program
+-- (`Office`).
 abbrev pub stage_of : History → Office ListBooks → Stage
 stage_of past office =
     record { past = past; stopped = is_stopped office; zone = (ledger_of (books_in office)).zone }
@@ -44,7 +44,8 @@ MayCarryOut Prints past office office' result output output' =
     IsCarriedOut Prints past office office' result output output'
     ⊎ (IsErr result × Appends output output' [])
 
--- States that a call executed its line, whichever history of events the stored records match.
+-- States that a call executed its script line. This holds for every history of accepted events that
+-- the stored records match.
 abbrev pub CarriesOut : (Stage → List ℕ → Stage → Type 0) → (office office' : Office ListBooks)
     → Result (Unit {0}) Error → (output output' : Option (List ℕ)) → Type 0
 CarriesOut Prints office office' result output output' =

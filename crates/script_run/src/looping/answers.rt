@@ -1,4 +1,4 @@
-//! Passes the responses of the simulated devices to the office (the core of `sunreg`).
+//! Passes the responses of the simulated devices to the program.
 ghost use Rattle.std.specs.Prelude.{codes};
 ghost use Rattle.script_run.specs.Looping.Answers.{AnswersPrint, FedPrints};
 ghost use Rattle.script_run.specs.Looping.Standings.{Carries};
@@ -60,8 +60,8 @@ fn next_came<L: Link>(alloc: Global, near: &mut L) -> Result<Option<Came>, Alloc
     }
 }
 
-// Passes an event to the `Office` (the core of `sunreg`), and prints the notifications or the
-// refusal. Returns whether the event was accepted.
+// Passes an event to the program (`Office`), and prints the notifications or the refusal. Returns
+// whether the event was accepted.
 fn feed<W: Write>(
     office: &mut Office<ListBooks>,
     at: u64,
@@ -84,9 +84,9 @@ fn feed<W: Write>(
     }
 }
 
-/// Passes everything that arrives on a device's connection to the `Office` (the core of `sunreg`),
-/// until a read times out. Prints the notifications and `ok`, or the first refusal. Returns whether
-/// the connection stays open.
+/// Passes everything that arrives on a device's connection to the program (`Office`), until a read
+/// times out. Prints the notifications and `ok`, or the first refusal. Returns whether the
+/// connection stays open.
 pub(crate) fn feed_answers<L: Link, W: Write>(
     alloc: Global,
     office: &mut Office<ListBooks>,

@@ -22,8 +22,8 @@ use script_text::{BankLine, GivenStart, LineFault, ScriptLine, write_refusal};
 use std::alloc::Global;
 use std::io::{self, ErrorKind, Write};
 
-/// The state of a running loop (a script over simulated devices): the `Office` (the core of
-/// `sunreg`), the simulator, and the connections between them.
+/// The state of a running loop (a script over simulated devices): the program (`Office`), the
+/// simulator, and the connections between them.
 #[derive(Drop)]
 pub(crate) struct Run<'t, L: Link + Drop> {
     pub(crate) office: Office<ListBooks>,
@@ -56,8 +56,8 @@ pub(crate) fn run_line<C: Connects, W: Write>(
     }
 }
 
-// Returns whether a setup line of the simulator is allowed at this position. The lines `area` and
-// `trick` are allowed only before a device is connected.
+// Returns whether a setup line of the simulated devices is allowed at this position. Lines that add
+// addresses (`area`) or inject faults (`trick`) are allowed only before a device is connected.
 fn is_allowed(connected: bool, said: &BankLine) -> bool
     ensures yes { result ≡ true → form.MayStand connected said.now }
     ensures no { result ≡ false → form.MayNotStand connected said.now }
@@ -69,9 +69,9 @@ fn is_allowed(connected: bool, said: &BankLine) -> bool
     }
 }
 
-// Applies a setup line to the simulator's register map, and returns whether the map accepts the
-// line. Skips a line that injects a fault: each connection to the simulator receives these faults
-// when it is opened.
+// Applies a setup line to the register map of the simulated devices, and returns whether the map
+// accepts the line. Skips a line that injects a fault: each connection gets these faults when it is
+// opened.
 fn apply_bank_line(bank: &mut Bank, said: &BankLine) -> bool
     ensures taken { result ≡ setting.takes bank.old said.now }
     ensures after { bank.new ≡ form.maps_with bank.old said.now }
@@ -116,7 +116,7 @@ fn run_bank_line<L: Link + Drop, W: Write>(
 }
 
 // Executes a script line over simulated devices. Returns false for a line with bytes of a device,
-// because only the simulator may send bytes.
+// because only the simulated devices may send bytes.
 fn run_script_line<C: Connects, W: Write>(
     alloc: Global,
     run: &mut Run<'_, C::End>,
@@ -154,7 +154,7 @@ fn run_script_line<C: Connects, W: Write>(
     }
 }
 
-// Executes a script line that does not use the simulator.
+// Executes a script line that does not use the simulated devices.
 fn execute_as_script<L: Link + Drop, W: Write>(
     alloc: Global,
     run: &mut Run<'_, L>,
@@ -169,7 +169,7 @@ fn execute_as_script<L: Link + Drop, W: Write>(
 }
 
 // Executes an event of a script over simulated devices. Returns false for an event with bytes of a
-// device, because only the simulator may send bytes.
+// device, because only the simulated devices may send bytes.
 fn run_event<C: Connects, W: Write>(
     alloc: Global,
     run: &mut Run<'_, C::End>,
@@ -237,7 +237,7 @@ fn round_of(command: &Command) -> Option<Option<Name>>
 }
 
 // Executes a command of a script over simulated devices. A command that starts a round of reads
-// also exchanges frames with the simulator.
+// also exchanges frames with the simulated device.
 fn run_command<L: Link + Drop, W: Write>(
     alloc: Global,
     run: &mut Run<'_, L>,

@@ -1,4 +1,4 @@
-//! Connections to the simulator over the loopback network interface.
+//! Connections to simulated devices over the loopback network interface.
 use crate::looping::wires::{Connects, Ends};
 use mb_wire::sockets::SocketLink;
 use std::io;

@@ -18,8 +18,8 @@ use script_text::{write_accepted, write_refusal};
 use std::alloc::Global;
 use std::io::{self, Write};
 
-/// Starts a read or a round of reads. If the `Office` (the core of `sunreg`) accepts the start, the
-/// request frames go to the simulator, and the responses go to the `Office`.
+/// Starts a read or a round of reads. If the program (`Office`) accepts the start, the request
+/// frames go to the simulated device, and the responses go back to the program.
 pub(crate) fn start<L: Link + Drop, W: Write>(
     alloc: Global,
     office: &mut Office<ListBooks>,
@@ -51,8 +51,8 @@ fn count_of(answer: &Answer) -> u64 {
     }
 }
 
-// Passes the responses on a device's connection to the `Office` (the core of `sunreg`). Without a
-// connection there is nothing to pass.
+// Passes the responses on a device's connection to the program (`Office`). Does nothing without a
+// connection.
 fn feed_responses<L: Link + Drop, W: Write>(
     alloc: Global,
     office: &mut Office<ListBooks>,
@@ -77,8 +77,8 @@ fn feed_responses<L: Link + Drop, W: Write>(
     }
 }
 
-/// Connects a device: passes the event to the `Office` (the core of `sunreg`), and opens a
-/// connection to the simulator.
+/// Connects a device: passes the event to the program (`Office`), and opens a connection to the
+/// simulator.
 pub(crate) fn connect<C: Connects, W: Write>(
     office: &mut Office<ListBooks>,
     wires: &mut Wires<'_, C::End>,
@@ -100,8 +100,8 @@ pub(crate) fn connect<C: Connects, W: Write>(
     }
 }
 
-/// Ends the connection of a device: passes the event to the `Office` (the core of `sunreg`), and
-/// closes the connection to the simulator.
+/// Ends the connection of a device: passes the event to the program (`Office`), and closes the
+/// connection to the simulator.
 pub(crate) fn leave<L: Link + Drop, W: Write>(
     office: &mut Office<ListBooks>,
     wires: &mut Wires<'_, L>,

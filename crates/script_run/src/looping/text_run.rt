@@ -91,8 +91,8 @@ fn run_text<C: Connects, W: Write>(
     run_opened(alloc, zone, text, bank, &tricks, connects, output)
 }
 
-// Runs the lines of a loop (a script over simulated devices) with the given `Office` (the core of
-// `sunreg`) and an empty register map.
+// Runs the lines of a loop (a script over simulated devices) over a new store in memory. The given
+// register map must be empty.
 fn run_opened<C: Connects, W: Write>(
     alloc: Global,
     zone: Zone,
@@ -119,8 +119,8 @@ fn run_opened<C: Connects, W: Write>(
     }
 }
 
-// Prints the refusal that explains why a script could not start, such as `refused 14` if memory ran
-// out.
+// Prints the refusal that explains why a script could not start, such as `refused 14` (out of
+// memory).
 fn print_refused<W: Write>(why: Refusal, output: &mut W) -> ExitStatus
     ensures { ReportsText (refused_line why) result (W.contents output.old) (W.contents output.new) }
 {

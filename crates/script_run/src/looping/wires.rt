@@ -1,4 +1,4 @@
-//! Connections of devices to the simulator.
+//! Connections of a script's devices to the simulator, which answers for all of them.
 ghost use Rattle.std.specs.Prelude.{◌<◌, ◌≤◌, IfSome, length};
 ghost use Rattle.mb_device.specs.StandIn.Exchanges.{Exchanged};
 
@@ -12,23 +12,25 @@ use std::io;
 /// maximum number of times that the simulator reads and answers requests.
 pub(crate) const MOST_TAKES: u32 = 100_000;
 
-/// The two ends of a connection. Each end reads the bytes that are written to the other end.
+/// The two ends of a connection between a device and the simulator. Each end reads the bytes that
+/// are written to the other end.
 #[derive(Drop)]
 pub struct Ends<L: Link + Drop> {
     pub near: L,
     pub far: L,
 }
 
-/// A source of connections to the simulator. A device that a script connects gets one connection.
+/// A source of connections to the simulator. Each device that a script connects gets one
+/// connection.
 pub trait Connects {
     type End: Link + Drop;
 
-    /// Opens a connection, and returns its two ends.
+    /// Opens a connection between a device and the simulator, and returns its two ends.
     fn connect(&mut self) -> io::Result<Ends<Self::End>>;
 }
 
-/// The connection of a device to the simulator, with the faults that the simulator injects. If
-/// there is no far end, the simulator has closed the connection.
+/// The connection of a device to the simulator, with the faults that the simulator injects. If the
+/// far end is missing, the simulator has closed the connection.
 #[derive(Drop)]
 pub(crate) struct Wire<'t, L: Link + Drop> {
     device: Option<Name>,
@@ -94,7 +96,7 @@ impl<'t, L: Link + Drop> Wire<'t, L> {
 }
 
 impl<'t, L: Link + Drop> Wires<'t, L> {
-    /// Creates an empty set of connections.
+    /// Creates an empty set of connections to the simulator.
     pub(crate) fn new(alloc: Global, tricks: &'t [(u64, Trick)]) -> Wires<'t, L> {
         Wires {
             tricks,
@@ -133,7 +135,7 @@ impl<'t, L: Link + Drop> Wires<'t, L> {
         self.all.iter().position(|wire| wire.device == *device)
     }
 
-    /// Returns the device's end of the connection with the given index.
+    /// Returns the near end of the connection with the given index.
     pub(crate) fn near(&mut self, place: usize) -> &mut L
         requires { place < length self.old.all.items }
     {

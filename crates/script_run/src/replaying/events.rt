@@ -17,7 +17,7 @@ use script_text::{GivenList, GivenStart, write_accepted, write_faults, write_ref
 use std::alloc::Global;
 use std::io::{self, ErrorKind, Write};
 
-/// Passes an event to the `Office` (the core of `sunreg`), and prints its answer or refusal.
+/// Passes an event to the program (`Office`), and prints its answer or refusal.
 pub fn feed<W: Write>(
     office: &mut Office<ListBooks>,
     at: u64,

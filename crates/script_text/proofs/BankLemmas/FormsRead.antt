@@ -23,8 +23,8 @@ nothing_spelled : (words : List (List ℕ)) (none : Unit {0}) → end_of_words w
 nothing_spelled [] none h = tt
 nothing_spelled (word ∷ words) none h = cc h
 
--- ---- If the parser returns a setup line of a simulated device, then the words spell the fields of
--- this setup line. The next lemmas prove this for each kind of line.
+-- If the parser returns a setup line of a simulated device, then the words spell the fields of this
+-- setup line. Each of the next lemmas proves one kind of line.
 
 abbrev numbers_form : ℕ × ℕ → List Field
 numbers_form two = Of Number two.0 ∷ Of Number two.1 ∷ []
@@ -130,8 +130,8 @@ read_form (word ∷ words) said h =
           ]
     ]
 
--- ---- If the words spell the fields of a setup line of a simulated device, then the parser returns
--- this setup line. The next lemmas prove this for each kind of line.
+-- If the words spell the fields of a setup line of a simulated device, then the parser returns this
+-- setup line. Each of the next lemmas proves one kind of line.
 
 kind_known : (k : Kind) → kind_of (kind_word k) ≡ Some k
 kind_known kind.Coil = refl

@@ -38,7 +38,7 @@ three_said [] = None
 three_said (word ∷ words) =
     kind_of word >>= λ kind. two_said words >>= λ two. Some (kind, two.0, two.1)
 
--- The table of injected faults that have no argument, by name.
+-- The table of the faults that the simulated device can inject without an argument, by name.
 abbrev pub tricks : List (List ℕ × Trick)
 tricks =
     (codes "drop", trick.Drop)
@@ -49,27 +49,28 @@ tricks =
     ∷ (codes "garble", trick.Garble)
     ∷ []
 
--- The injected fault without an argument that has the given name.
+-- The fault with the given name that the simulated device can inject without an argument, or `None`
+-- for other names.
 abbrev pub plain_of : List ℕ → Option Trick
 plain_of word = meaning_in tricks word
 
--- The injected fault that cuts a response to its first K bytes, if the given words spell a number K
--- of at most 259.
+-- The injected fault of a simulated device that cuts a response to its first K bytes. The given
+-- words must spell a number K of at most 259.
 abbrev pub cut_said : List (List ℕ) → Option Trick
 cut_said words =
     first_value Number words >>= λ count. end_of_words count.1 >>= λ none. if nat_le count.0 259
     then Some (trick.Cut count.0) else None
 
--- The injected fault that the words spell. The words are the fault's name, or `cut` and a number of
--- bytes.
+-- The injected fault of a simulated device that the words of a line spell. The words are the
+-- fault's name, or `cut` and a number of bytes.
 abbrev pub trick_said : List (List ℕ) → Option Trick
 trick_said [] = None
 trick_said (word ∷ words) =
     if bytes_eq word (codes "cut") then cut_said words
     else (plain_of word >>= λ trick. end_of_words words >>= λ none. Some trick)
 
--- The setup line that injects a fault into the simulator's response to one numbered frame, from the
--- words after `trick`.
+-- The setup line that injects a fault into the simulator's response to one numbered frame, parsed
+-- from the words after `trick`.
 abbrev pub frame_said : List (List ℕ) → Option BankLine
 frame_said words =
     first_value Number words >>= λ frame. trick_said frame.1 >>= λ trick.
@@ -85,7 +86,8 @@ abbrev pub set_said : List (List ℕ) → Option BankLine
 set_said words =
     three_said words >>= λ v. Some (line.Set (record { kind = v.0; address = v.1; value = v.2 }))
 
--- The setup line of a simulated device that the words spell, or `None` if they spell none.
+-- The setup line of a simulated device that the words spell, or `None` if the words spell no setup
+-- line.
 abbrev pub bank_said : List (List ℕ) → Option BankLine
 bank_said [] = None
 bank_said (word ∷ words) =

@@ -1,5 +1,5 @@
--- Defines the form of each line that sets up a simulated device, which is a list of fields. The
--- words of the line spell these fields in order.
+-- Defines the fields of each kind of line that sets up a simulated device. The words of the line
+-- spell these fields in order.
 use Rattle.std.specs.Prelude.{ℕ, ◌≤◌, List, [], ◌∷◌, codes}
 use Rattle.mb_device.specs.declared.kinds.Kind.{Kind}
 use Rattle.mb_device.specs.declared.kinds.Kind.TheVariants as kind
@@ -16,7 +16,7 @@ kind_word kind.Discrete = codes "discrete"
 kind_word kind.Holding = codes "holding"
 kind_word kind.Input = codes "input"
 
--- The fields that spell an injected fault of a simulated device.
+-- The fields of a line that name an injected fault of a simulated device.
 abbrev pub trick_form : Trick → List Field
 trick_form trick.Drop = Word (codes "drop") ∷ []
 trick_form trick.Twice = Word (codes "twice") ∷ []

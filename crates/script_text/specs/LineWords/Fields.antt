@@ -6,7 +6,7 @@ use Rattle.script_text.specs.LineWords.Values.{bytes_of, name_of, number_of, sca
 
 -- The kind of value that a word of a script line spells.
 pub data Kind : Type 0 where
-  -- A name. The value is `None` if the word is not a valid name.
+  -- The kind of a word that is a name. The value is `None` if the word is not a valid name.
   AnyName : Kind
   Number : Kind
   Signed : Kind
@@ -25,7 +25,8 @@ Value Hex = List ℕ
 Value Range = ℕ
 Value Moment = Option ℕ
 
--- The value of the given kind that a word spells, or `None` if the word does not fit the kind.
+-- The value of the given kind that a word of a script line spells, or `None` if the word does not
+-- fit the kind.
 abbrev pub spelled : (kind : Kind) → List ℕ → Option (Value kind)
 spelled AnyName word = name_of word
 spelled Number word = number_of word
@@ -35,8 +36,9 @@ spelled Hex word = bytes_of word
 spelled Range word = number_of word
 spelled Moment word = option_map Some (number_of word)
 
--- The default for a word of the given kind that is missing at the end of a line. It is no bytes,
--- the range of an `acc32` counter, or no timestamp. `None` if the word is required.
+-- The default for a word of the given kind that is missing at the end of a line. The default is no
+-- bytes, the range of an `acc32` counter, or no timestamp. The result is `None` if the word is
+-- required.
 abbrev pub missing : (kind : Kind) → Option (Value kind)
 missing AnyName = None
 missing Number = None
@@ -51,20 +53,20 @@ pub data Field : Type 0 where
   Word : List ℕ → Field
   Of : (kind : Kind) → Value kind → Field
 
--- States that a word of a script line spells the given field: it is the field's fixed text, or
--- parses to the field's value.
+-- States that a word of a script line spells the given field: the word is the field's fixed text,
+-- or parses to the field's value.
 abbrev pub Spells : List ℕ → Field → Type 0
 Spells word (Word text) = word ≡ text
 Spells word (Of kind value) = spelled kind word ≡ Some value
 
--- States that a field's word may be missing at the end of a line, because the field's value is the
--- default for its kind.
+-- States that the word of a field may be missing at the end of a script line, because the field's
+-- value is the default for its kind.
 abbrev pub IsMissing : Field → Type 0
 IsMissing (Word text) = ⊥
 IsMissing (Of kind value) = missing kind ≡ Some value
 
--- States that the words spell the fields in order. Optional words at the end of the line may be
--- missing.
+-- States that the words of a script line spell the given fields in order. Optional words at the end
+-- of the line may be missing.
 abbrev pub Spell : List (List ℕ) → List Field → Type 0
 Spell [] [] = Unit {0}
 Spell [] (field ∷ fields) = IsMissing field × Spell [] fields
@@ -78,13 +80,14 @@ abbrev pub ◌>>=◌ : {X Y : Type 0} → Option X → (X → Option Y) → Opti
 None >>= goes_on = None
 Some x >>= goes_on = goes_on x
 
--- The value of the first word, and the words after it. If no word is left, the value is the default
--- for a missing word.
+-- The value of the first remaining word of a script line, and the words after this word. If no word
+-- is left, the value is the kind's default, if it has one.
 abbrev pub first_value : (kind : Kind) → List (List ℕ) → Option (Value kind × List (List ℕ))
 first_value kind [] = option_map (λ value. (value, [])) (missing kind)
 first_value kind (word ∷ words) = option_map (λ value. (value, words)) (spelled kind word)
 
--- A parsing step that checks that no word of the line is left. It returns `None` if words are left.
+-- A parsing step that checks that no word of a script line is left. The result is `None` if words
+-- are left.
 abbrev pub end_of_words : List (List ℕ) → Option (Unit {0})
 end_of_words [] = Some tt
 end_of_words (word ∷ words) = None

@@ -9,7 +9,7 @@ meaning_in [] word = None
 meaning_in (entry ∷ table) word =
     if bytes_eq entry.0 word then Some entry.1 else meaning_in table word
 
--- The model of a table entry: its borrowed word as a list of bytes, and the word's meaning.
+-- A table entry in proofs: its borrowed word as a list of bytes, and the word's meaning.
 abbrev pub entry_of : {T : Type 0} → Bor (List ℕ) × T → List ℕ × T
 entry_of entry = (entry.0.now, entry.1)
 

@@ -1,4 +1,4 @@
--- The numbers, bytes, names and scales that the words of a script line spell.
+-- The numbers, bytes, names and scale factors that the words of a script line spell.
 use Rattle.std.specs.Prelude.{◌≡◌, ℕ, ℤ, Vec, pos, neg_ℤ, [], ◌∷◌, option_and_then, option_map, ◌%◌, ◌==◌, nat_le, Bool, ◌&&◌, if◌then◌else◌, List, length, Some, None}
 use Rattle.std.specs.declared.option.Option.{Option}
 use Rattle.std.specs.List.{list_all}
@@ -49,8 +49,8 @@ signed_of (byte ∷ bytes) =
     if byte == 45 then option_map negative (number_of bytes)
     else option_map pos (number_of (byte ∷ bytes))
 
--- The scale that a word spells: a fixed power of ten, or `@` (64) and the address of the Modbus
--- register with the scale.
+-- The scale factor that a word spells: a fixed power of ten, or `@` (64) and the address of the
+-- Modbus register with the scale factor.
 abbrev pub scale_of : List ℕ → Option GivenScale
 scale_of [] = None
 scale_of (byte ∷ bytes) =

@@ -12,8 +12,8 @@ abbrev pub words_left : Option (List ℕ) → List (List ℕ)
 words_left None = []
 words_left (Some line) = words_of line
 
--- States that a call removed the first word of a line and returned it. The other words remain. If
--- no word is left, the call returns none and changes nothing.
+-- States that a call removed the first remaining word of a line and returned this word. If no word
+-- is left, the call returns none and changes nothing.
 abbrev pub TakesFirst : (words : List (List ℕ)) → (taken : Option (Bor (List ℕ)))
     → (rest : List (List ℕ)) → Type 0
 TakesFirst words taken rest =

@@ -2,7 +2,8 @@
 //! be out of the range of Modbus.
 use mb_device::{Kind, Trick};
 
-/// A range of the simulator's register map: `count` addresses of one kind, from `start` on.
+/// A range in the address map of a simulated Modbus device: `count` addresses of one kind, from
+/// `start` on.
 #[derive(Clone, Copy)]
 pub struct GivenArea {
     pub kind: Kind,

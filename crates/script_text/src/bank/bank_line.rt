@@ -7,7 +7,7 @@ use crate::bank::bank::{BankLine, GivenArea, GivenCell};
 use crate::line_words::{Words, end_of_words, meaning_in, next_number};
 use mb_device::{Kind, Trick};
 
-/// The maximum number of bytes that a cut response keeps.
+/// The greatest number of bytes to which the simulator can cut a response.
 const MOST_CUT: u64 = 259;
 
 const KINDS: &[(&str, Kind)] = &[
@@ -17,7 +17,7 @@ const KINDS: &[(&str, Kind)] = &[
     ("input", Kind::Input),
 ];
 
-// The injected faults that have no argument, by name.
+// The faults that the simulated device can inject and that have no argument, by name.
 const TRICKS: &[(&str, Trick)] = &[
     ("drop", Trick::Drop),
     ("twice", Trick::Twice),
@@ -30,7 +30,7 @@ const TRICKS: &[(&str, Trick)] = &[
 impl BankLine {
     ghost use Rattle.script_text.specs.Bank.Seen.{ReadsBank};
 
-    /// Parses a line that sets up a simulated device, or returns `None` if it has no valid form.
+    /// Parses a line that sets up a simulated device, or returns `None` if the line is malformed.
     pub fn read(line: &[u8]) -> Option<BankLine>
         ensures { ReadsBank (words_of line.now) result }
     {
@@ -54,8 +54,8 @@ fn line_in(line: &[u8]) -> Option<BankLine>
     }
 }
 
-// Parses `KIND START COUNT`, the words after `area` in a line. They describe a range of Modbus
-// addresses.
+// Parses `KIND START COUNT`, the words after `area` in a setup line. These words describe a range
+// of Modbus addresses.
 fn area(words: &mut Words<'_>) -> Option<BankLine>
     ensures { result ≡ said.area_said words.old }
 {
@@ -63,8 +63,8 @@ fn area(words: &mut Words<'_>) -> Option<BankLine>
     Some(BankLine::Area(GivenArea { kind, start, count }))
 }
 
-// Parses `KIND ADDRESS VALUE`, the words after `set` in a line. They describe the value at a Modbus
-// address.
+// Parses `KIND ADDRESS VALUE`, the words after `set` in a setup line. These words describe the
+// value at a Modbus address.
 fn cell(words: &mut Words<'_>) -> Option<BankLine>
     ensures { result ≡ said.set_said words.old }
 {
@@ -76,8 +76,8 @@ fn cell(words: &mut Words<'_>) -> Option<BankLine>
     }))
 }
 
-// Parses `N FAULT` or `N cut K`, the words after `trick` in a line. They describe a fault to inject
-// into the response to frame N.
+// Parses `N FAULT` or `N cut K`, the words after `trick` in a setup line. These words describe a
+// fault to inject into the response to frame N.
 fn frame(words: &mut Words<'_>) -> Option<BankLine>
     ensures { result ≡ said.frame_said words.old }
 {
@@ -121,8 +121,8 @@ fn trick_in(words: &mut Words<'_>) -> Option<Trick>
     Some(trick)
 }
 
-// Parses `K`, the word after `cut` in a line. K is the number of bytes that a cut response keeps,
-// 0 to 259.
+// Parses `K`, the word after `cut` in a setup line. K is the number of bytes that the simulator
+// keeps of a cut response, 0 to 259.
 fn cut(words: &mut Words<'_>) -> Option<Trick>
     ensures { result ≡ said.cut_said words.old }
 {

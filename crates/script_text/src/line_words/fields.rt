@@ -1,4 +1,5 @@
-//! Parses the next word of a line as a name, a number, a scale, a range or a timestamp.
+//! Parses the next word of a script line as a name, a number, a scale factor, a counter range or a
+//! timestamp.
 ghost use Rattle.std.specs.Prelude.{◌≡◌, option_map};
 ghost use Rattle.script_text.specs.LineWords.Fields.{AnyName, Number, Signed, Scale, Range, Moment, first_value, end_of_words};
 ghost use Rattle.script_text.specs.LineWords.Values.{name_of, scale_of, signed_of};
@@ -34,8 +35,8 @@ fn signed_number(word: &[u8]) -> Option<i64>
     }
 }
 
-// Parses a scale: a fixed power of ten, or `@` and the address of the Modbus register with the
-// scale.
+// Parses a scale factor: a fixed power of ten, or `@` and the address of the Modbus register with
+// the scale factor.
 fn given_scale(word: &[u8]) -> Option<GivenScale>
     ensures { result ≡ scale_of word.now }
 {
@@ -66,8 +67,8 @@ pub fn next_signed(words: &mut Words<'_>) -> Option<i64>
     signed_number(words.next_word()?)
 }
 
-/// Parses the next word as a scale: a fixed power of ten, or `@` and the address of the Modbus
-/// register with the scale.
+/// Parses the next word of a script line as a scale factor: a fixed power of ten, or `@` and the
+/// address of the Modbus register with the scale factor.
 pub fn next_scale(words: &mut Words<'_>) -> Option<GivenScale>
     ensures { option_map (λ scale. (scale, words.new)) result ≡ first_value Scale words.old }
 {
@@ -95,7 +96,7 @@ pub fn next_moment(words: &mut Words<'_>) -> Option<Option<u64>>
     }
 }
 
-/// Succeeds if and only if no word of the line is left.
+/// Returns `Some` if no word of a script line is left, otherwise `None`.
 pub fn end_of_words(words: &mut Words<'_>) -> Option<()>
     ensures { result ≡ end_of_words words.old }
 {

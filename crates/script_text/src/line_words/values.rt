@@ -1,4 +1,4 @@
-//! The numbers, bytes, names and scales that the words of a script line spell.
+//! The numbers, bytes, names and scale factors that the words of a script line spell.
 ghost use Rattle.std.specs.Prelude.{◌≡◌, ◌≤◌, IfOk, IfSome, IsErr, IsSome};
 ghost use Rattle.std.specs.List.{list_all};
 ghost use Rattle.hex.specs.Hex.{is_hex_digit};

@@ -1,4 +1,4 @@
-//! Builds and writes the lines for quarter hours and days.
+//! Builds and writes the lines for the energies of quarter hours and of days.
 ghost use Rattle.std.specs.Prelude.{◌≡◌, ◌≤◌, ◌<◌, ◌+◌, ◌++◌, codes, length};
 ghost use Rattle.jiff.specs.Words.{date_text};
 ghost use Rattle.jiff_core.specs.Calendar.{IsYear};

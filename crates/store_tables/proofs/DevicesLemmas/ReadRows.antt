@@ -14,7 +14,7 @@ use Rattle.store_tables.specs.declared.devices.rows.RegisterScale.{RegisterScale
 use Rattle.store_tables.specs.declared.devices.rows.RegisterScale.TheVariants.{Fixed, At}
 use Rattle.store_tables.specs.Devices.Rows.{IsSoundDevice, device_in, point_in, IsSoundPoint, IsSoundRegister, IsSoundScale, register_in, scale_of, fixed_by, at_by, fits_a_read, reached_from}
 
--- ---- if a result row can be read, all numbers that the reader returns are in their ranges
+-- Lemmas: if a result row can be read, all numbers that the reader returns are in their ranges.
 
 pub sound_device : (row : Row) (a : DeviceRow) → device_in row ≡ Ok a → IsSoundDevice a
 sound_device row a is =

@@ -16,7 +16,7 @@ use Rattle.store_tables.specs.Entries.Rows.{Entered, entry_columns, is_entry, ro
 use Rattle.store_tables.specs.Entries.Trees.{entries, voids}
 use Rattle.store_tables.proofs.EntriesLemmas.Texts as text
 
--- ---- writes to the table `entries`
+-- Lemmas on writes to the table `entries`.
 
 entry_cast : (e : Entered) → cast_row (plainly entries_table) (Null ∷ entry_columns e) ≡ Null ∷ entry_columns e
 entry_cast e = simp (cast_null, cast_int)
@@ -35,7 +35,7 @@ module _ (meter : List ℕ) (place rolls : ℕ) where
       (λ n e. rw (text_is e.meter meter, number_is e.entry.place place, and_true (e.entry.place == place)) refl) (λ n e. simp cast_int) rowid_stays
       old new text.set_rollovers r text.roll_entry_is text.roll_entry_plain h
 
--- ---- writes to the table `voids`
+-- Lemmas on writes to the table `voids`.
 
 void_cast : (v : Voided) → cast_row (plainly voids_table) (Null ∷ voided_columns v) ≡ Null ∷ voided_columns v
 void_cast v = simp (cast_null, cast_int)

@@ -37,7 +37,7 @@ sound_installation row a is =
       last = sound_last row last.0 last.1;
     })
 
--- ---- reading an index of `installations`, or a range of a counter, returns the stored number
+-- Lemmas: reading an index of `installations`, or a range of a counter, returns the stored number.
 
 pub reads_installed_place : (row : Row) (r : Result ℕ RowFault) → r ≡ or_damaged (whole_in 1 greatest_place (column row 0)) → ReadsRow row installed_place_shown HasInstalledPlace IsSoundInstalled r
 reads_installed_place = reads_number 1 greatest_place installed_place_shown installed_place IsSoundInstalled (λ i. refl) (λ i is. is.row.place)

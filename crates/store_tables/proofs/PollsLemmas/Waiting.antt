@@ -31,7 +31,7 @@ use Rattle.store_tables.specs.Polls.Pending.{is_pending}
 use Rattle.store_tables.specs.Polls.Trees.{polls, outcomes}
 use Rattle.store_tables.proofs.PollsLemmas.Texts as text
 
--- ---- NOT EXISTS is true exactly if no row passes the test of its subquery
+-- Lemmas: NOT EXISTS is true exactly if no row passes the test of its subquery.
 
 one_at_most : (n : ℕ) → min 1 (suc n) ≡ 1
 one_at_most n = omega arith
@@ -44,7 +44,7 @@ none_counted p f (x ∷ xs) = elim (cases_Bool (p x)) [
   | inr other ↦ rw other (none_counted p f xs)
 ]
 
--- ---- the result of `pending_rows`: the polls without an outcome, in order
+-- Lemmas on the result of `pending_rows`: the polls without an outcome, in order of their numbers.
 
 module _ (db : Trees) where
   -- True if the poll number in a row of `outcomes` equals the number in a row of `polls`.

@@ -21,7 +21,7 @@ use Rattle.store_tables.specs.declared.devices.rows.Register.{Register}
 use Rattle.store_tables.specs.declared.devices.rows.RegisterScale.{RegisterScale}
 use Rattle.store_tables.specs.declared.devices.rows.RegisterScale.TheVariants as scale
 
--- ---- rows of the table `devices`
+-- Definitions of the rows of the table `devices`.
 
 -- A Modbus device, as a row of the table `devices`.
 pub record Added : Type 0 where
@@ -75,7 +75,7 @@ device_in row =
     and_then (or_damaged (whole_in 1 MAX_WINDOW (column row 4))) (λ window.
     Ok (record { place = place; unit = unit; timeout = timeout; window = window })))))
 
--- ---- rows of the table `points`
+-- Definitions of the rows of the table `points`.
 
 -- A point of a device's point list, as a row of the table `points`.
 pub record Listed : Type 0 where
@@ -153,7 +153,7 @@ point_in row =
     and_then (or_damaged (whole_in 0 LAST_ADDRESS (column row 4))) (λ address.
     Ok (record { place = place; function = function; area = area; address = address })))))
 
--- ---- rows of the table `registers`
+-- Definitions of the rows of the table `registers`.
 
 -- The number that encodes a scale's kind in `registers`: 0 for a fixed factor, 1 for the Modbus
 -- address of the factor.
@@ -191,53 +191,54 @@ pub record Registered : Type 0 where
 abbrev pub registered_as : (name device : List ℕ) → RegisterRow → Registered
 registered_as name device row = record { name = name; device = device; row = row }
 
--- The columns of an accounting register in the table `registers`.
+-- The columns of an accounting register (a named counter) in the table `registers`.
 abbrev pub register_columns : Registered → Row
 register_columns r =
     Int (pos r.row.place) ∷ Null ∷ Text r.name ∷ Text r.device ∷ Int (pos (code_of r.row.function))
     ∷ Int (pos r.row.address)
     ∷ Int (pos (scale_kind r.row.scale)) ∷ Int (scale_number r.row.scale) ∷ []
 
--- The columns that a SELECT from `registers` returns for an accounting register.
+-- The columns that a SELECT from `registers` returns for an accounting register (a named counter).
 abbrev pub register_shown : Registered → Row
 register_shown r =
     Int (pos r.row.place) ∷ Text r.name ∷ Text r.device ∷ Int (pos (code_of r.row.function))
     ∷ Int (pos r.row.address)
     ∷ Int (pos (scale_kind r.row.scale)) ∷ Int (scale_number r.row.scale) ∷ []
 
--- The index of an accounting register in the table `registers`.
+-- The index of an accounting register (a named counter) in the table `registers`.
 abbrev pub register_place : Registered → ℕ
 register_place r = r.row.place
 
--- The result row of the query for the last accounting register. The row has only the register's
--- index.
+-- The result row of the query for the last accounting register (a named counter). The row has only
+-- the register's index.
 abbrev pub register_place_shown : Registered → Row
 register_place_shown r = Int (pos r.row.place) ∷ []
 
--- True if an accounting register has the name `name`.
+-- True if an accounting register (a named counter) has the name `name`.
 abbrev pub is_register : (name : List ℕ) → Registered → Bool
 is_register name r = bytes_eq r.name name
 
--- True if an accounting register is a counter of the device `device`.
+-- True if an accounting register (a named counter) belongs to the device `device`.
 abbrev pub is_register_of : (device : List ℕ) → Registered → Bool
 is_register_of device r = bytes_eq r.device device
 
--- True if every number of an accounting register is in its range, and one read covers its counter
--- and its scale.
+-- True if every number of an accounting register (a named counter) is in its range. One Modbus read
+-- must cover the counter and its scale.
 pub record IsSoundRegister (r : RegisterRow) : Type 0 where
   pub place : IsPlace r.place
   pub address : r.address ≤ LAST_COUNTER
   pub scale : IsSoundScale r.scale
   pub span : fits_a_read r.address r.scale ≡ true
 
--- True if the numbers of an accounting register are in their ranges, and its names are UTF-8.
+-- True if the numbers of an accounting register (a named counter) are in their ranges, and the
+-- register's names are UTF-8.
 pub record IsSoundRegistered (r : Registered) : Type 0 where
   pub row : IsSoundRegister r.row
   pub name : IsUtf8 r.name
   pub device : IsUtf8 r.device
 
--- True if the accounting register that was read from a result row has the names and the numbers of
--- the stored one.
+-- True if the accounting register (a named counter) in a result row has the names and the numbers
+-- of the stored accounting register.
 pub record IsRegister (r : Registered) (a : Register) : Type 0 where
   pub name : string_bytes a.name ≡ r.name
   pub device : string_bytes a.device ≡ r.device
@@ -262,8 +263,8 @@ abbrev pub reached_from : (address : ℕ) → Option RegisterScale → Option Re
 reached_from address None = None
 reached_from address (Some scale) = if fits_a_read address scale then Some scale else None
 
--- The numbers of an accounting register in a result row, or `Damaged` if a number is out of its
--- range.
+-- The numbers of an accounting register (a named counter) in a result row, or `Damaged` if a number
+-- is out of its range.
 abbrev pub register_in : Row → Result RegisterRow RowFault
 register_in row =
     and_then (or_damaged (whole_in 1 greatest_place (column row 0))) (λ place.
@@ -273,6 +274,7 @@ register_in row =
     and_then (or_damaged (reached_from address (scale_of kind (column row 6)))) (λ scale.
     Ok (record { place = place; function = function; address = address; scale = scale }))))))
 
--- True if a number is the count of the accounting registers of the device `device`.
+-- True if a number is the count of the accounting registers (named counters) of the device
+-- `device`.
 abbrev pub IsRegisterCount : (device : List ℕ) → List Registered → ℕ → Type 0
 IsRegisterCount device rows count = count ≡ length (filter (is_register_of device) rows)

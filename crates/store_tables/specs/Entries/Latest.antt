@@ -1,5 +1,5 @@
--- The timestamps that the queries for the latest entry and the latest void (cancellation of an
--- entry) return.
+-- The timestamps that the queries for the latest meter entry and the latest cancellation of an
+-- entry return.
 use Rattle.std.specs.Prelude.{◌≡◌, ℕ, pos, ◌≤◌, [], ◌∷◌}
 use Rattle.sqlite.specs.declared.types.Value.TheVariants.{Int}
 use Rattle.sqlite.specs.Order.{Row}
@@ -18,21 +18,21 @@ entry_moment_shown e = Int (pos e.entry.moment) ∷ []
 abbrev pub HasEntryMoment : Entered → ℕ → Type 0
 HasEntryMoment e moment = moment ≡ e.entry.moment
 
--- The time at which an entry was voided, in seconds since 1970-01-01 UTC.
+-- The time at which an entry was voided (cancelled), in seconds since 1970-01-01 UTC.
 abbrev pub void_moment : Voided → ℕ
 void_moment v = v.moment
 
 -- The column that the query for the latest row of `voids` returns: the time at which the entry was
--- voided.
+-- cancelled.
 abbrev pub void_moment_shown : Voided → Row
 void_moment_shown v = Int (pos v.moment) ∷ []
 
--- True if a query returned the time at which an entry was voided. The row `v` of `voids` has this
--- time.
+-- True if a query returned the time at which an entry was cancelled. The row `v` of `voids` has
+-- this time.
 abbrev pub HasVoidMoment : Voided → ℕ → Type 0
 HasVoidMoment v moment = moment ≡ v.moment
 
--- True if the time at which an entry was voided is at most the latest timestamp that the store
+-- True if the time at which an entry was cancelled is at most the latest timestamp that the store
 -- accepts.
 abbrev pub IsTimelyVoid : Voided → Type 0
 IsTimelyVoid v = v.moment ≤ latest_moment

@@ -22,7 +22,8 @@ kind_number Closing = 4
 kind_number Reset = 5
 kind_number Rescale = 6
 
--- The kind of entry that a number in the column `kind` encodes, or None for any other number.
+-- The kind of a meter's entry that a number in the column `kind` encodes, or None for any other
+-- number.
 abbrev pub kind_of : ℕ → Option EntryKind
 kind_of n =
     if n == 1 then Some Opening else
@@ -113,7 +114,7 @@ entry_in row =
 abbrev pub entry_place : Entered → ℕ
 entry_place e = e.entry.place
 
--- ---- rows of `voids`, which cancel entries
+-- Definitions of the rows of `voids`, which cancel entries of meters.
 
 -- A void: a record that cancels the entry of a meter at index `place`.
 pub record Voided : Type 0 where
@@ -128,7 +129,7 @@ voided_at meter place moment = record { meter = meter; place = place; moment = m
 abbrev pub voided_columns : Voided → Row
 voided_columns v = Text v.meter ∷ Int (pos v.place) ∷ Int (pos v.moment) ∷ []
 
--- The column that a SELECT from `voids` returns: the index of the voided entry.
+-- The column that a SELECT from `voids` returns: the index of the cancelled entry.
 abbrev pub voided_shown : Voided → Row
 voided_shown v = Int (pos v.place) ∷ []
 
@@ -140,10 +141,10 @@ is_void_of meter v = bytes_eq v.meter meter
 abbrev pub voided_place : Voided → ℕ
 voided_place v = v.place
 
--- True if the index of a voided entry is within its bounds.
+-- True if the index of a cancelled entry is within its bounds.
 abbrev pub IsSoundVoided : Voided → Type 0
 IsSoundVoided v = IsPlace v.place
 
--- True if a query returned the index of the voided entry.
+-- True if a query returned the index of the cancelled entry.
 abbrev pub HasPlace : Voided → ℕ → Type 0
 HasPlace v place = place ≡ v.place

@@ -58,7 +58,8 @@ installed_shown i =
 abbrev pub is_meter : (meter : List ℕ) → Installed → Bool
 is_meter meter i = bytes_eq i.meter meter
 
--- True if a row of `installations` has a meter at the accounting register `register`.
+-- True if a row of `installations` has a meter at the accounting register `register`, a named
+-- counter.
 abbrev pub is_at : (register : List ℕ) → Installed → Bool
 is_at register i = bytes_eq i.register register
 
@@ -135,7 +136,8 @@ installed_place_shown i = Int (pos i.row.place) ∷ []
 abbrev pub HasInstalledPlace : Installed → ℕ → Type 0
 HasInstalledPlace i place = place ≡ i.row.place
 
--- ---- rows of `ranges`: how many values each meter's counter has before it rolls over
+-- Definitions of the rows of `ranges`: how many values each meter's counter has before it rolls
+-- over.
 
 -- The range of a meter's counter: how many values the counter has before it rolls over.
 pub record Ranged : Type 0 where

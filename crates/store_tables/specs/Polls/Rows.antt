@@ -25,7 +25,7 @@ use Rattle.office_events.specs.declared.answers.CommandKind.TheVariants as kind
 use Rattle.store_tables.specs.declared.polls.rows.Repeat.{Repeat}
 use Rattle.store_tables.specs.declared.polls.rows.Repeat.TheVariants.{Same, Other}
 
--- ---- rows of the table `polls`
+-- Definitions of the rows of the table `polls`.
 
 -- A poll of a device, as a row of the table `polls`. A poll is one Modbus read that was started.
 pub record Started : Type 0 where
@@ -107,7 +107,7 @@ poll_in row =
       count = count;
     }))))))))
 
--- ---- rows of the table `outcomes`
+-- Definitions of the rows of the table `outcomes`.
 
 -- The columns of a row of `outcomes`, which says how a poll ended.
 abbrev pub outcome_columns : OutcomeRow → Row
@@ -184,7 +184,7 @@ outcome_in row =
     and_then (or_damaged (outcome_of number code)) (λ outcome.
     Ok (record { poll = poll; moment = moment; outcome = outcome }))))))
 
--- ---- rejected readings of meters in the table `holds`
+-- Definitions of rejected readings of meters, which are rows of the table `holds`.
 
 -- A rejected reading of a meter, as a row of the table `holds`.
 pub record Held : Type 0 where
@@ -224,7 +224,7 @@ pub record IsSoundHold (h : RejectedRow) : Type 0 where
 abbrev pub IsSoundHeld : Held → Type 0
 IsSoundHeld h = IsSoundHold h.row
 
--- ---- stored requests in the table `replies`
+-- Definitions of stored requests, which are rows of the table `replies`.
 
 -- The word that the table `replies` stores for a kind of command.
 abbrev pub kind_word : CommandKind → List ℕ
@@ -327,7 +327,7 @@ repeat_in request row =
     and_then (or_damaged (kind_in (column row 1))) (λ kind.
     Ok (repeat_as kind same)))
 
--- ---- reading the latest timestamp of a table
+-- Definitions of the queries for the latest timestamp of a table.
 
 -- The time at which a poll started, in seconds since 1970-01-01 UTC.
 abbrev pub start_of : Started → ℕ

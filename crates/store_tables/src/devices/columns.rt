@@ -77,8 +77,8 @@ pub fn read_point(row: &Row) -> Result<Point, RowFault>
     })
 }
 
-/// Reads the scale of an accounting register from the column at index `at`. By `kind`, the column
-/// has a fixed factor or the Modbus address of the factor.
+/// Reads the scale of an accounting register (a named counter) from the column at index `at`. By
+/// `kind`, the column has a fixed factor or the Modbus address of the factor.
 fn scale_at(row: &Row, kind: u64, at: usize) -> Result<RegisterScale, RowFault>
     ensures { result ≡ or_damaged (scale_of kind (column row.now at)) }
 {
@@ -116,8 +116,8 @@ fn reached_scale(row: &Row, address: u16, kind: u64) -> Result<RegisterScale, Ro
     }
 }
 
-/// Reads all columns of a row of `registers` except the names of the accounting register and of its
-/// device.
+/// Reads all columns of a row of `registers` except the names of the accounting register (a named
+/// counter) and of its device.
 fn register(row: &Row) -> Result<RegisterRow, RowFault>
     ensures { result ≡ register_in row.now }
 {

@@ -71,7 +71,7 @@ pub fn insert_register<S: Alter>(
     )
 }
 
-/// Queries the row of the accounting register with the name `name`.
+/// Queries the row of the accounting register (a named counter) with the name `name`.
 fn rows_of<S: Alter>(conn: &mut Connection<S>, name: &str) -> Result<Vec<Row>, Error>
     ensures asks { Asks S.Store conn.old conn.new }
     ensures shows { ReportsRows S.Store conn.old conn.new registers register_columns result
@@ -83,8 +83,8 @@ fn rows_of<S: Alter>(conn: &mut Connection<S>, name: &str) -> Result<Vec<Row>, E
     )
 }
 
-/// Returns the accounting register with the name `name`, or None if no accounting register has the
-/// name.
+/// Returns the accounting register (a named counter) with the name `name`, or None if no accounting
+/// register has the name.
 pub fn register_of<S: Alter>(
     conn: &mut Connection<S>,
     name: &str,
@@ -101,8 +101,8 @@ pub fn register_of<S: Alter>(
     }
 }
 
-/// Queries the accounting registers of a device in the order in which they were added.
-/// `read_register` reads each row.
+/// Queries the accounting registers (named counters) of a device in the order in which they were
+/// added. `read_register` reads each row.
 pub fn register_rows<S: Alter>(conn: &mut Connection<S>, device: &str) -> Result<Vec<Row>, Error>
     ensures asks { Asks S.Store conn.old conn.new }
     ensures shows { ReportsRows S.Store conn.old conn.new registers register_columns result
@@ -114,7 +114,7 @@ pub fn register_rows<S: Alter>(conn: &mut Connection<S>, device: &str) -> Result
     )
 }
 
-/// Queries the indices of a device's accounting registers, to count them.
+/// Queries the indices of a device's accounting registers (named counters), to count them.
 fn places_of<S: Alter>(conn: &mut Connection<S>, device: &str) -> Result<Vec<Row>, Error>
     ensures asks { Asks S.Store conn.old conn.new }
     ensures shows { ReportsRows S.Store conn.old conn.new registers register_columns result
@@ -126,7 +126,7 @@ fn places_of<S: Alter>(conn: &mut Connection<S>, device: &str) -> Result<Vec<Row
     )
 }
 
-/// Returns the number of accounting registers of a device.
+/// Returns the number of accounting registers (named counters) of a device.
 pub fn register_count<S: Alter>(conn: &mut Connection<S>, device: &str) -> Result<usize, Error>
     ensures asks { Asks S.Store conn.old conn.new }
     ensures counts { ReportsAnswer S.Store conn.old conn.new registers register_columns result
@@ -136,8 +136,8 @@ pub fn register_count<S: Alter>(conn: &mut Connection<S>, device: &str) -> Resul
     Ok(rows.len())
 }
 
-/// Queries the index of the last accounting register inside a transaction, to number the next one.
-/// The result has one column.
+/// Queries the index of the last accounting register (a named counter) inside a transaction, to
+/// number the next register. The result has one column.
 pub fn last_register_rows<S: Alter>(tx: &mut Transaction<'_, S>) -> Result<Vec<Row>, Error>
     ensures same_reference { IsSameBorrow tx.old.conn tx.new.conn }
     ensures asks { AsksInside S.Store tx.old.conn.now tx.new.conn.now result }

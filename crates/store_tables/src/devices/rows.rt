@@ -13,7 +13,7 @@ pub struct DeviceRow {
     pub unit: u8,
     /// The timeout of a poll in seconds, 1 to 60.
     pub timeout: u8,
-    /// How many polls of the device may be pending at once, 1 to 16.
+    /// How many polls of the device may wait for their responses at once, 1 to 16.
     pub window: u8,
 }
 
@@ -45,7 +45,8 @@ pub struct Point {
     pub row: PointRow,
 }
 
-/// The source of an accounting register's scale factor: a fixed number, or a Modbus register.
+/// The source of the scale factor of an accounting register (a named counter): a fixed number, or a
+/// Modbus register.
 #[derive(Clone, Copy, PartialEq, Eq)]
 pub enum RegisterScale {
     /// A fixed scale factor, -3 to 3.
@@ -58,7 +59,7 @@ pub enum RegisterScale {
 /// device.
 #[derive(Clone, Copy, PartialEq, Eq)]
 pub struct RegisterRow {
-    /// The index of the accounting register, from 1.
+    /// The index of the accounting register (a named counter), from 1.
     pub place: u64,
     pub function: ReadFunction,
     /// The address of the counter's high word, 0 to 65534.

@@ -52,7 +52,7 @@ pub fn read_entry(row: &Row) -> Result<EntryRow, RowFault>
     entry(row)
 }
 
-/// Reads the index of a voided entry from a result row of the query `void_rows`.
+/// Reads the index of a cancelled entry from a result row of the query `void_rows`.
 pub fn read_void(row: &Row) -> Result<u64, RowFault>
     ensures read { ReadsRow row.now voided_shown HasPlace IsSoundVoided result }
     ensures sound { IfOk result IsPlace }

@@ -1,5 +1,6 @@
-//! Queries for the latest timestamps of `entries` and `voids`, in seconds since 1970-01-01 UTC.
-//! Each query scans a complete table, which has no index on timestamps, when a database is opened.
+//! Queries for the latest timestamps of `entries` and `voids`, in seconds since 1970-01-01 UTC. The
+//! queries run when a database is opened, and scan a complete table, because no index has
+//! timestamps.
 ghost use Rattle.std.specs.Prelude.{◌≤◌, IfOk, IfSome};
 ghost use Rattle.store_tables.specs.Limits.{latest_moment};
 ghost use Rattle.store_tables.specs.Answer.{IsLast, LastFirst, every};
@@ -36,7 +37,7 @@ pub fn latest_entry<S: Alter>(conn: &mut Connection<S>) -> Result<Option<u64>, R
     first_whole(&rows, 0, LATEST_MOMENT)
 }
 
-/// Queries the latest time at which an entry was voided.
+/// Queries the latest time at which an entry was voided (cancelled).
 fn void_moments<S: Alter>(conn: &mut Connection<S>) -> Result<Vec<Row>, Error>
     ensures asks { Asks S.Store conn.old conn.new }
     ensures shows { ReportsRows S.Store conn.old conn.new voids voided_columns result
@@ -45,7 +46,8 @@ fn void_moments<S: Alter>(conn: &mut Connection<S>) -> Result<Vec<Row>, Error>
     conn.query_all("SELECT moment FROM voids ORDER BY moment DESC LIMIT 1", &[])
 }
 
-/// Returns the latest time at which an entry was voided, or None if no entry was voided.
+/// Returns the latest time at which an entry was voided (cancelled), or None if no entry was
+/// voided.
 pub fn latest_void<S: Alter>(conn: &mut Connection<S>) -> Result<Option<u64>, RowFault>
     ensures finds { LooksUp S.Store conn.old conn.new voids voided_columns IsTimelyVoid result
         (IsLast every HasVoidMoment void_moment) }

@@ -8,16 +8,16 @@ ghost use Rattle.store_tables.specs.Entries.Rows.{kind_number, kind_of};
 pub enum EntryKind {
     /// The first entry of a meter: the counter's value when the meter was installed.
     Opening,
-    /// A reading that the device reported and the rules accepted.
+    /// A reading that the device reported and the program's rules accepted.
     Reading,
     /// A reading that a person entered.
     Manual,
-    /// The last value of a meter, when it was closed.
+    /// The last value of a meter's counter, when the meter was closed.
     Closing,
-    /// A reset: the counter was set to another value.
+    /// A reset of a meter: the counter was set to another value.
     Reset,
-    /// A rescale: the counter was set to another value, with another scale factor (decimal
-    /// exponent).
+    /// A rescale of a meter: the counter was set to another value, with another scale factor
+    /// (decimal exponent).
     Rescale,
 }
 
@@ -61,12 +61,14 @@ pub struct EntryRow {
     pub place: u64,
     pub kind: EntryKind,
     pub moment: u64,
-    /// The counter's value. For a reset or a rescale, the value before the counter was set.
+    /// The counter's value in the entry. For a reset or a rescale, the value before the counter was
+    /// set.
     pub raw: u32,
-    /// How often the counter rolled over since the previous entry.
+    /// How often the meter's counter rolled over since the previous entry.
     pub rolls: u8,
-    /// The value that the counter was set to. 0 for all kinds except a reset and a rescale.
+    /// The value that the meter's counter was set to. 0 for all kinds of entries except a reset and
+    /// a rescale.
     pub after: u32,
-    /// The scale factor after the entry.
+    /// The scale factor (decimal exponent) of the meter's counter after the entry.
     pub sf: i16,
 }

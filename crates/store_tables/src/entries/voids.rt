@@ -13,10 +13,10 @@ ghost use Rattle.store_tables.specs.Entries.Trees.{voids};
 use crate::number;
 use sqlite::{Alter, Connection, Error, Row, Transaction, params};
 
-/// The query for the indices of a meter's voided entries, in ascending order.
+/// The query for the indices of a meter's cancelled entries, in ascending order.
 const OF_METER: &str = "SELECT place FROM voids WHERE meter = ?1 ORDER BY place";
 
-/// Inserts a row that cancels a meter's entry at index `place`, voided at the time `moment`.
+/// Inserts a row that cancels a meter's entry at index `place`, at the time `moment`.
 pub fn insert_void<S: Alter>(
     tx: &mut Transaction<'_, S>,
     meter: &str,
@@ -37,7 +37,8 @@ pub fn insert_void<S: Alter>(
     )
 }
 
-/// Queries the indices of a meter's voided entries in ascending order. `read_void` reads each row.
+/// Queries the indices of a meter's cancelled entries in ascending order. `read_void` reads each
+/// row.
 pub fn void_rows<S: Alter>(conn: &mut Connection<S>, meter: &str) -> Result<Vec<Row>, Error>
     ensures asks { Asks S.Store conn.old conn.new }
     ensures shows { ReportsRows S.Store conn.old conn.new voids voided_columns result

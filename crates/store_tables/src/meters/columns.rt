@@ -39,7 +39,7 @@ fn last(row: &Row) -> Result<LastRow, RowFault>
 }
 
 /// Reads all columns of a row of `installations` except the names of the meter and the accounting
-/// register.
+/// register (a named counter).
 fn numbers(row: &Row) -> Result<InstallationRow, RowFault>
     ensures { result ≡ installation_in row.now }
 {

@@ -126,7 +126,8 @@ pub fn installation_of<S: Alter>(
     }
 }
 
-/// Queries the row of the meter that was installed last at an accounting register.
+/// Queries the row of the meter that was installed last at an accounting register (a named
+/// counter).
 fn rows_at<S: Alter>(conn: &mut Connection<S>, register: &str) -> Result<Vec<Row>, Error>
     ensures asks { Asks S.Store conn.old conn.new }
     ensures shows { ReportsRows S.Store conn.old conn.new installations installed_columns result
@@ -138,8 +139,8 @@ fn rows_at<S: Alter>(conn: &mut Connection<S>, register: &str) -> Result<Vec<Row
     )
 }
 
-/// Returns the row of the meter that was installed last at an accounting register, or None if no
-/// meter was installed there.
+/// Returns the row of the meter that was installed last at an accounting register (a named
+/// counter), or None if no meter was installed there.
 pub fn installation_at<S: Alter>(
     conn: &mut Connection<S>,
     register: &str,

@@ -11,10 +11,10 @@ pub struct LastRow {
 }
 
 /// The columns of a meter's row in `installations`, except the names of the meter and its
-/// accounting register.
+/// accounting register (a named counter).
 #[derive(Clone, Copy, PartialEq, Eq)]
 pub struct InstallationRow {
-    /// The index of the row, from 1 in the order of installation.
+    /// The index of the meter's row in `installations`, from 1 in the order of installation.
     pub place: u64,
     /// The greatest power that can flow through the meter, in W.
     pub ceiling: u64,

@@ -32,7 +32,7 @@ pub(crate) fn request_of(asked: Asked) -> &'static [u8] {
     }
 }
 
-/// Returns the HTTP response for a request that was carried out.
+/// Returns the HTTP response to a request that was executed.
 pub(crate) fn reply_of(asked: Asked) -> &'static [u8] {
     match asked {
         Asked::Exchange => EXCHANGE_DONE,

@@ -1,4 +1,4 @@
-//! Tests crashes at each call of the log and of the database file.
+//! Tests crashes of the machine at each call of the write-ahead log and of the database file.
 use crate::acts::{Act, act_in, empty_files};
 use crate::stops::asked::Asked;
 use crate::stops::files::{Stop, Stopping, files, restarted};
@@ -8,7 +8,7 @@ use std::alloc::Global;
 use std::process::Abort;
 
 /// A task that is interrupted by crashes, with its number of steps. For each count in `after`, some
-/// crash must come after exactly this many acknowledged steps. The task makes more than `calls`
+/// crash must come when exactly this many steps have succeeded. The task makes more than `calls`
 /// calls of the write-ahead log.
 struct Case {
     act: Act,
@@ -53,7 +53,7 @@ fn given(rt: &impl Abort, alloc: Global, act: Act) -> Files<Fuse<Memory>> {
 }
 
 /// Runs a task with a crash, and asserts which rows the files have afterwards. Returns how many
-/// steps were acknowledged before the crash.
+/// steps of the task succeeded before the crash.
 fn stopped(
     rt: &impl Abort,
     alloc: Global,
@@ -72,7 +72,7 @@ fn stopped(
 }
 
 /// Repeats a task with a crash at each call of a file, until the task makes no further call.
-/// Returns how many steps were acknowledged before each crash.
+/// Returns how many steps of the task succeeded before each crash.
 fn stop_each(
     rt: &impl Abort,
     alloc: Global,
@@ -97,8 +97,8 @@ fn stop_each(
     panic!(rt; "it stops each time")
 }
 
-/// Returns true if, for each count in `after`, some crash came after exactly this many acknowledged
-/// steps.
+/// Returns true if, for each count in `after`, some crash came when exactly this many steps of the
+/// task had succeeded.
 fn each_came_up(after: &[usize], stops: &[usize]) -> bool {
     for steps in after {
         if !stops.contains(steps) {

@@ -1,7 +1,7 @@
 //! SQL statements that fill a test file with a meter that was read every quarter of an hour for a
 //! day, and queries about its rows.
 
-/// SQL statements that insert the rows of a meter with one reading.
+/// SQL statements that insert the rows of a meter that has one reading.
 pub(crate) const READ: &str = "INSERT INTO devices VALUES (1, 'inv', 1, 5, 1);
 INSERT INTO registers VALUES (1, 'main', 'inv', 3, 40094, 1, 40096);
 INSERT INTO installations VALUES (1, 'm1', 'main', 100000, 0, 1900, 5200, 0, 200000);
@@ -25,7 +25,8 @@ INSERT INTO intervals VALUES ('m1', 88200, 11112)";
 /// SQL statements that turn a file of version 3 into a file of version 1.
 pub(crate) const FIRST: &str = "DROP TABLE voids; DROP TABLE ranges; UPDATE meta SET version = 1";
 
-/// Queries about the rows of a file of any version, each with the number that it returns.
+/// Queries about the rows of a test file of any version, each with the number that the query
+/// returns.
 pub(crate) static ROWS: [(&str, i64); 12] = [
     (
         "SELECT count(*) FROM meta WHERE id = 1 AND zone = 'UTC0'",
@@ -47,7 +48,7 @@ pub(crate) static ROWS: [(&str, i64); 12] = [
     ),
 ];
 
-/// Queries about a file of version 1, each with the number that it returns.
+/// Queries about a file of version 1, each with the number that the query returns.
 pub(crate) static OLD: [(&str, i64); 2] = [
     ("SELECT version FROM meta", 1),
     (
@@ -56,7 +57,7 @@ pub(crate) static OLD: [(&str, i64); 2] = [
     ),
 ];
 
-/// Queries about a file of version 3, each with the number that it returns.
+/// Queries about a file of version 3, each with the number that the query returns.
 pub(crate) static NEW: [(&str, i64); 5] = [
     ("SELECT version FROM meta", 3),
     (

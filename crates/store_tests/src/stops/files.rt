@@ -5,15 +5,15 @@ use sqlite_disk::{Crash, Disk, Fuse, Memory};
 use std::alloc::Global;
 use std::process::Abort;
 
-/// The file during one of whose calls the machine crashes.
+/// The file (log or database) during one of whose calls the machine crashes.
 #[derive(Clone, Copy)]
 pub(crate) enum Stopping {
     Log,
     Database,
 }
 
-/// A crash after `calls` calls of one file. If `is_lost` is true, data that was not synced is then
-/// lost. Otherwise it is in the file.
+/// A crash of the machine after `calls` calls of one file. If `is_lost` is true, data that was not
+/// synced is then lost. Otherwise the data is in the file.
 #[derive(Clone, Copy)]
 pub(crate) struct Stop {
     pub(crate) file: Stopping,
@@ -21,7 +21,7 @@ pub(crate) struct Stop {
     pub(crate) is_lost: bool,
 }
 
-/// Returns a file with the given bytes on which every call after the first `calls` calls fails.
+/// Returns a file with the given bytes. Every call of the file after the first `calls` calls fails.
 fn file(rt: &impl Abort, alloc: Global, bytes: &[u8], calls: u64) -> Fuse<Memory> {
     let mut file = Memory::new(alloc);
     file.write_at(0, bytes).expect(rt, "not written");
@@ -29,8 +29,8 @@ fn file(rt: &impl Abort, alloc: Global, bytes: &[u8], calls: u64) -> Fuse<Memory
     Fuse::new(file, calls)
 }
 
-/// Returns a log and a database file with the given bytes. The machine crashes at the given call of
-/// one of the files.
+/// Returns a write-ahead log and a database file with the given bytes. The machine crashes at the
+/// given call of one of the files.
 pub(crate) fn files(
     rt: &impl Abort,
     alloc: Global,

@@ -21,9 +21,9 @@ const READ: &str = "1000 device inv 1 5 1
 1898 start inv 3 40094 3
 1900 bytes inv 000000000009010306000014500000";
 
-/// Runs all steps except the first over a new store. They open the store, process the events of the
-/// script, and send a request. Returns how many steps were acknowledged, including the first, and
-/// the store.
+/// Runs all steps of a test except the first over a new store: opens the store, processes the
+/// events of the script, and sends a request. Returns how many steps succeeded, including the
+/// first, and the store.
 fn play_over<B: Books>(rt: &impl Abort, alloc: Global, books: B, asked: Asked) -> (usize, B) {
     let mut office = match Office::open(alloc, books, 0) {
         Ok(office) => office,
@@ -33,8 +33,8 @@ fn play_over<B: Books>(rt: &impl Abort, alloc: Global, books: B, asked: Asked) -
     (steps, office.into_books())
 }
 
-/// Runs all steps over a new database. The first step creates the tables. Returns how many steps
-/// were acknowledged before the store refused one.
+/// Runs all steps of a test over a new database. The first step creates the tables. Returns how
+/// many steps succeeded before the store refused a step.
 pub(crate) fn play<S: Alter + Drop>(
     rt: &impl Abort,
     alloc: Global,
@@ -56,7 +56,7 @@ fn start_of(rt: &impl Abort, given: &GivenStart) -> Command {
     })
 }
 
-/// Returns the event of a script line, and its time.
+/// Returns the event of a script line, and the event's time.
 fn event_of(rt: &impl Abort, alloc: Global, line: &str) -> (u64, Event) {
     match ScriptLine::read(alloc, line.as_bytes()).expect(rt, "no line") {
         ScriptLine::Event { at, event } => (at, event),
@@ -81,8 +81,8 @@ pub(crate) fn accepts<B: Books>(
     }
 }
 
-/// Returns true if the request is acknowledged. Any other response must report that the store
-/// failed.
+/// Returns true if the response to the request reports success. Any other response must report that
+/// the store failed.
 pub(crate) fn acknowledges<B: Books>(
     rt: &impl Abort,
     alloc: Global,
@@ -103,7 +103,7 @@ pub(crate) fn acknowledges<B: Books>(
     panic!(rt; "another reply")
 }
 
-/// Returns how many steps are acknowledged before the store refuses one. The first step, which
+/// Returns how many steps of a test succeed before the store refuses a step. The first step, which
 /// created the tables, is already done and counts. The other steps are the events of the script,
 /// and then the request.
 fn steps<B: Books>(rt: &impl Abort, alloc: Global, office: &mut Office<B>, asked: Asked) -> usize {

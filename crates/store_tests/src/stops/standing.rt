@@ -11,7 +11,8 @@ use std::process::Abort;
 
 /// Queries, each with the number that the query returns in each state of the file, after a restart
 /// at time 5000. The states are: no tables, new tables, after each of the six events of the script,
-/// after the exchange, and after the void. A restart records a pending poll as lost.
+/// after the meter was replaced, and after its reading was cancelled. A restart records a poll
+/// without an outcome as lost.
 static STATES: [(&str, &[i64]); 17] = [
     (
         "SELECT count(*) FROM meta WHERE id = 1 AND version = 3 AND zone = 'UTC0'",
@@ -83,8 +84,8 @@ static STATES: [(&str, &[i64]); 17] = [
     ),
 ];
 
-/// Queries, each with the number that it returns after a retry of the request that exchanges the
-/// meter.
+/// Queries, each with the number that the query returns after a retry of the request that replaces
+/// the meter.
 static EXCHANGED_ROWS: [(&str, i64); 5] = [
     ("SELECT count(*) FROM installations", 2),
     (
@@ -99,8 +100,8 @@ static EXCHANGED_ROWS: [(&str, i64); 5] = [
     ("SELECT count(*) FROM replies", 1),
 ];
 
-/// Queries, each with the number that it returns after a retry of the request that voids (cancels)
-/// the reading.
+/// Queries, each with the number that the query returns after a retry of the request that voids
+/// (cancels) the reading.
 static VOIDED_ROWS: [(&str, i64); 5] = [
     ("SELECT count(*) FROM voids", 1),
     (
@@ -115,7 +116,7 @@ static VOIDED_ROWS: [(&str, i64); 5] = [
     ("SELECT count(*) FROM replies", 1),
 ];
 
-/// Returns true if each query returns the expected number for the state `state` of the file.
+/// Returns true if each query returns the expected number for the given state of the database file.
 fn is_in_state<S: Alter>(rt: &impl Abort, connection: &mut Connection<S>, state: usize) -> bool {
     for (query, numbers) in &STATES {
         let is_shown = match numbers.get(state) {
@@ -129,7 +130,7 @@ fn is_in_state<S: Alter>(rt: &impl Abort, connection: &mut Connection<S>, state:
     true
 }
 
-/// Returns true if the store has the changes of all acknowledged steps, and possibly those of the
+/// Returns true if the store has the changes of all steps that succeeded, and possibly those of the
 /// step in progress. The last step is the request.
 fn may_be_recorded<S: Alter>(
     rt: &impl Abort,
@@ -158,8 +159,8 @@ fn assert_recorded_once<S: Alter>(rt: &impl Abort, connection: &mut Connection<S
     }
 }
 
-/// Restarts at time 5000 over a store that survived a crash. If a request is given, sends it again
-/// and asserts that it is acknowledged. Returns the store.
+/// Restarts the program at time 5000 over a store that survived a crash. If a request is given,
+/// sends it again and asserts that it is acknowledged. Returns the store.
 fn reopened<B: Books>(rt: &impl Abort, alloc: Global, books: B, again: Option<Asked>) -> B {
     let mut office = opened(rt, alloc, books, 5000);
     if let Some(asked) = again {
@@ -168,7 +169,8 @@ fn reopened<B: Books>(rt: &impl Abort, alloc: Global, books: B, again: Option<As
     office.into_books()
 }
 
-/// Sends a request again, and asserts that the store recorded it exactly once. Returns the store.
+/// Sends a request again, and asserts that the store recorded the request exactly once. Returns the
+/// store.
 fn retried<S: Alter + Drop>(
     rt: &impl Abort,
     alloc: Global,
@@ -191,8 +193,8 @@ fn remade<S: Alter + Drop>(rt: &impl Abort, alloc: Global, mut connection: Conne
     connection.into_store()
 }
 
-/// Asserts that all acknowledged steps are recorded, and no other step except possibly the one in
-/// progress. If no step was acknowledged, the tables may be missing. Returns the store.
+/// Asserts that all steps that succeeded are recorded, and no other step except possibly the step
+/// in progress. If no step succeeded, the tables may be missing. Returns the store.
 pub(crate) fn assert_recovered<S: Alter + Drop>(
     rt: &impl Abort,
     alloc: Global,

@@ -17,8 +17,8 @@ pub(crate) fn prepare<S: Alter + Drop>(rt: &impl Abort, mut conn: Connection<S>)
     (1, conn.into_store())
 }
 
-/// Opens a file of version 1, which upgrades it to version 3. Returns 1 if the opening was
-/// acknowledged or 0 if the store failed, and the store.
+/// Opens a file of version 1, which upgrades it to version 3. Returns 1 if the opening succeeded or
+/// 0 if the store failed, and the store.
 pub(crate) fn bring<S: Alter + Drop>(rt: &impl Abort, mut conn: Connection<S>) -> (usize, S) {
     let fault = fault(open(&mut conn));
     assert!(rt; fault == 0 || fault == 3, "{fault}");
@@ -26,8 +26,8 @@ pub(crate) fn bring<S: Alter + Drop>(rt: &impl Abort, mut conn: Connection<S>) -
     (steps, conn.into_store())
 }
 
-/// Asserts that the file has every row and can be opened. If the opening of the file was
-/// acknowledged, the file has version 3, otherwise version 1 or version 3. Returns the store.
+/// Asserts that the file has every row and can be opened. If the opening of the file succeeded
+/// before the crash, the file has version 3, otherwise version 1 or version 3. Returns the store.
 pub(crate) fn is_brought<S: Alter + Drop>(
     rt: &impl Abort,
     mut conn: Connection<S>,

@@ -23,8 +23,8 @@ use Rattle.carried_books.specs.declared.carrying.faults.CarryFault.{CarryFault}
 use Rattle.stored_files.specs.Carries.GoingOn.{GoesOn, GoesOnFrom, GoesOnIn, IsCarriedInto}
 use Rattle.stored_files.specs.Carries.ReportedZone.{ReportsZone}
 
--- If a file rollover executes its commands on a new store that was opened at time 0, then the
--- history of the new store consists of these commands.
+-- If a file rollover (the continuation of all open meters in a new database) executes its commands
+-- on a new store, the store's history consists of these commands.
 pub goes_on : {O N : Type 0} (of_old : O → Ledger) (of_new : N → Ledger) (old asked : O) (until : Option ℕ) (before after : Office N) (result : Result ℕ CarryFault)
     → StandsIfClean of_new (Opened 0 ∷ []) before → Carries (of_old old) (of_old asked) until of_new before after result
     → OnlyAsked (of_old old) (of_old asked) result → Passes of_new before after → IfOk result (GoesOn of_old of_new old until)
@@ -38,8 +38,8 @@ goes_on of_old of_new old asked until before after (Ok meters) opened carried as
 }
 goes_on of_old of_new old asked until before after (Err why) opened carried asks passes = tt
 
--- If the contract of a file rollover is satisfied for an old store, then it is also satisfied for
--- the database file from which the old store was opened.
+-- If the contract of continuing the open meters in a new database is satisfied for an old store, it
+-- is also satisfied for the old store's database file.
 pub goes_on_from : {S E : Type 0} (g : Ghosts S) (old : Held S) (facts : List Fact) (its zone : List ℕ) (until : Option ℕ) (new : Held S) (books : SqlBooks S g) (result : Result ℕ E)
     → (HasCleanDisk (state g books.connection) → HasCleanDisk (state g old)) → HoldsAlone g its books.connection facts
     → IfOk result (GoesOnIn g (ledger_beneath g) books zone until new) → IfOk result (GoesOnFrom g old facts zone until new)
@@ -54,7 +54,7 @@ goes_on_from g old facts its zone until new books (Ok meters) clean holds it = r
 }
 goes_on_from g old facts its zone until new books (Err why) clean holds it = tt
 
--- ---- reading the time zone of an office's file before a file rollover
+-- Lemmas on reading the time zone of a database file before its open meters continue in a new file.
 
 -- After the time zone of a file is read, the file has the same records as before.
 pub still_has : {S Z : Type 0} (g : Ghosts S) (old new : Held S) (zone : List ℕ) (facts : List Fact) (reported : String Z) → HasFile g zone old facts

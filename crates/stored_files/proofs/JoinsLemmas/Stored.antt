@@ -77,7 +77,7 @@ module _ {K : Type 0} (k : keepings.Ghosts K) (range : DayRange) (register : Lis
       parts = it.parts;
     }
 
-    -- ---- reading the time zone of a file before adding the file to a merged report
+    -- Lemmas on reading the time zone of a database file before adding the file to a merged report.
 
     module _ (old mid : Held S) (reported zone : List ℕ) (before : Option (JoinedOffice K)) (cleans : HasCleanDisk (state g mid) → HasCleanDisk (state g old))
         (is : HasCleanDisk (state g mid) → reported ≡ zone) where

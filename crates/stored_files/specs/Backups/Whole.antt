@@ -13,22 +13,23 @@ use Rattle.office_books.specs.Lawfulness.{IsPast}
 use Rattle.store_tables.specs.declared.layouts.Layout.{Layout}
 use Rattle.office_store.specs.Laws.Files.{HasFactsIn}
 
--- States that opening a database with these B-trees finds the records of the history `past`. Any
--- program version may have created the tables.
+-- States that opening a database with these B-trees finds the records of the accepted events
+-- `past`. Any program version may have created the tables.
 pub record TreesHavePast (trees : Trees) (past : History) : Type 0 where
   pub zone : List ℕ
   pub is_past : IsPast past
   pub has : (found : Database) → IsDatabase found → found.trees ≡ trees
       → (layout : Layout) × HasFactsIn layout zone (facts_of past) found
 
--- States that a database file and its log together have the records of the history `past`.
+-- States that a database file and its write-ahead log together have the records of the accepted
+-- events `past`.
 pub record HasPastIn (image : Image) (past : History) : Type 0 where
   pub trees : Trees
   pub holds : HoldsDatabase image trees
   pub has : TreesHavePast trees past
 
--- States that the database file has the records of the history `past`, both alone and with its
--- write-ahead log. The same holds for any files that a crash leaves.
+-- States that the database file has the records of the accepted events `past`, both alone and with
+-- its write-ahead log. The same holds for any files that a crash leaves.
 pub record HasPastAlone {D : Type 0} (g : Ghosts D) (files : Files D) (past : History) :
     Type 0 where
   pub trees : Trees

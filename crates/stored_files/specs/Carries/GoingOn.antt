@@ -21,9 +21,9 @@ use Rattle.carried_books.specs.declared.carrying.commands.TimedCommand.{TimedCom
 abbrev pub set_up_by : List TimedCommand → History
 set_up_by commands = history_with (Opened 0 ∷ []) commands
 
--- States that the meters of an old store were rolled over into a new store. The old store was only
--- queried. The commands `commands` follow from its records, and install `meters` meters. The new
--- store was opened at time 0, and accepted only these commands.
+-- States that the open meters of an old store continue in a new store. The old store was only
+-- queried. The commands `commands` follow from the old store's records, and install `meters`
+-- meters. The new store was opened at time 0, and accepted only these commands.
 pub record GoesOn {O N : Type 0} (of_old : O → Ledger) (of_new : N → Ledger) (old : O)
     (until : Option ℕ) (meters : ℕ) : Type 0 where
   pub asked : O
@@ -34,15 +34,15 @@ pub record GoesOn {O N : Type 0} (of_old : O → Ledger) (of_new : N → Ledger)
   pub stands : StandsIfClean of_new (set_up_by commands) office
 
 module _ {S : Type 0} (g : Ghosts S) where
-  -- States the contract `GoesOn` of a file rollover, for a new store in a database whose tables
-  -- were created for the time zone `zone`.
+  -- States that the open meters of an old store continue in a new store, whose database tables were
+  -- created for the time zone `zone`.
   pub record GoesOnIn {O : Type 0} (of_old : O → Ledger) (old : O) (zone : List ℕ)
       (until : Option ℕ) (new : Held S) (meters : ℕ) : Type 0 where
     pub made : IsMade g zone new
     pub goes_on : GoesOn of_old (ledger_beneath g) old until meters
 
-  -- States the contract `GoesOn` of a file rollover, for an old and a new store in databases. The
-  -- file of the old store has the records `facts`.
+  -- States that the open meters of an old store continue in a new store, and that both stores are
+  -- in databases. The file of the old store has the records `facts`.
   pub record GoesOnFrom (old : Held S) (facts : List Fact) (zone : List ℕ) (until : Option ℕ)
       (new : Held S) (meters : ℕ) : Type 0 where
     pub asked : SqlBooks S g
@@ -53,9 +53,9 @@ module _ {S : Type 0} (g : Ghosts S) where
     pub office : Office (SqlBooks S g)
     pub stands : StandsIfClean (ledger_beneath g) (set_up_by commands) office
 
-  -- States that the records `facts` of an old database were rolled over into a new database with
-  -- the same time zone. The new database accepted only the commands `commands`, which install
-  -- `meters` meters. The claims hold only if the disks returned what was written to them.
+  -- States that the open meters in the records `facts` of an old database continue in a new
+  -- database with the same time zone. The new database accepted only the commands `commands`, which
+  -- install `meters` meters. The claims hold only if the disks returned what was written to them.
   pub record IsCarriedInto (facts : List Fact) (zone : List ℕ) (until : Option ℕ)
       (new : Held S) (meters : ℕ) : Type 0 where
     pub asked : SqlBooks S g

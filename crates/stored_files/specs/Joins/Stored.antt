@@ -1,5 +1,5 @@
--- Defines the merged report on several successive database files, which are opened one at a time. A
--- `Keeping` collects the data that the report needs from each file.
+-- Defines the merged report on several successive database files, which are opened one at a time.
+-- The type `Keeping` collects the data that the report needs from each file.
 use Rattle.std.specs.Prelude.{◌≡◌, ℕ, List, [], ◌∷◌, Option, Some, None, MatchOption, string_bytes}
 use Rattle.sqlite.specs.Store.{Ghosts}
 use Rattle.sqlite.specs.Held.{Held, state}
@@ -22,8 +22,8 @@ IsOfZone zone before =
     MatchOption before (Unit {0}) (λ joined. string_bytes joined.zone ≡ zone)
 
 module _ {K : Type 0} (k : keepings.Ghosts K) where
-  -- States that `kept` is the data of a merged report so far. Before the first file, this is the
-  -- data of an empty report in the time zone `zone`.
+  -- States that `kept` is the data of a merged report on the files so far. Before the first file,
+  -- this is the data of an empty report in the time zone `zone`.
   abbrev pub AreBefore : (zone : List ℕ) → DayRange → Option (JoinedOffice K) → K → Type 0
   AreBefore zone range None kept = (its : Zone) × HasRule zone its
       × ((register : List ℕ) → k.keeps its range register [] kept)
@@ -55,8 +55,8 @@ module _ {K : Type 0} (k : keepings.Ghosts K) where
     pub joins : (known : List Fact) → (ledger books).holds known → (ledger asked).is_clean
         → JoinsOne range register known old new
 
-  -- States why a file with the records `facts` can't be added to a merged report, for the reason
-  -- `why`. Only the reason `Unjoined` says something about the records.
+  -- States why a file with the records `facts` can't be added to a merged report of several files,
+  -- for the reason `why`. Only the reason `Unjoined` says something about the records.
   abbrev pub Parts : DayRange → (register : List ℕ) → (facts : List Fact) → K → JoinFault → Type 0
   Parts range register facts kept (fault.Unjoined why) = k.parts range register facts kept why
   Parts range register facts kept why = Unit {0}
@@ -121,7 +121,7 @@ module _ {K : Type 0} (k : keepings.Ghosts K) where
       pub parts : (ledger_beneath g asked).is_clean → Parts range register facts kept why
 
     -- States why a file with the time zone of the earlier files was not added to a merged report.
-    -- The data about the earlier files is `before`.
+    -- The report's data on the earlier files is `before`.
     abbrev pub RefusesIn : (old : Held S) → (zone : List ℕ) → DayRange → (register : List ℕ)
         → (facts : List Fact) → (before : Option (JoinedOffice K)) → JoinFault → Type 0
     RefusesIn old zone range register facts before (fault.Unopened why) = Unit {0}

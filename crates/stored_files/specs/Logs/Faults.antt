@@ -15,14 +15,16 @@ IsCause page_size log Count = (k : ℕ) → ¬ Replays page_size log k
 IsCause page_size log (Commits at) = (k : ℕ) × (at ≡ frame_at page_size k) × LosesFrom page_size log k
 IsCause page_size log Memory = ⊤
 
--- States why recovery can't read the frames of a write-ahead log, for the reason of a `LogFault`.
+-- States why SQLite's recovery can't read the frames of a write-ahead log, for the reason of a
+-- `LogFault`.
 abbrev pub IsUnread : ℕ → List ℕ → LogFault → Type 0
 IsUnread page_size log Count = (k : ℕ) → ¬ Replays page_size log k
 IsUnread page_size log Memory = ⊤
 IsUnread page_size log Header = ⊥
 IsUnread page_size log (Commits at) = ⊥
 
--- The reason for rejecting a log, if reading its frames failed with an SQLite error.
+-- The reason for rejecting a write-ahead log, if reading the log's frames failed with an SQLite
+-- error.
 abbrev pub fault_of : Error → LogFault
 fault_of Corrupt = Count
 fault_of _ = Memory

@@ -18,7 +18,8 @@ pub enum CopyFault {
     Reserved,
     /// The copy can't be opened or written.
     Unwritable,
-    /// At each attempt, another process merged the log into the original file during the copying.
+    /// At each attempt to copy, another process merged the log into the original file during the
+    /// copying.
     Changing,
     /// The copy is not a database, or its database is damaged.
     Torn,
@@ -27,7 +28,8 @@ pub enum CopyFault {
     Memory,
 }
 
-// Writes the reason and its remedy. The program prints this text after the name of the file.
+// Writes the reason why a file can't be copied, and the remedy. The program prints this text after
+// the name of the file.
 impl Display for CopyFault {
     fn fmt<W: fmt::Write>(&self, f: &mut Formatter<W>) -> fmt::Result {
         f.write_str(match self {

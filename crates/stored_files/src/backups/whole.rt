@@ -15,7 +15,8 @@ use sqlite::{Connection, FileFrom, FileStore, Files, Start};
 use sqlite_disk::Disk;
 use store_tables::layout_of;
 
-// Merges the log of a database into its file, closes the database, and returns both files.
+// Merges the write-ahead log of a database into its file, closes the database, and returns both
+// files.
 fn close_alone<D: Disk + Drop>(connection: Connection<FileStore<D>>) -> Result<Files<D>, CopyFault>
     ensures { (past : History) → HasPast over_files connection past
         → IfOk result (λ files. AreClean D.Disk files.log files.db
@@ -48,10 +49,10 @@ pub fn whole_files<D: Disk + Drop>(
     }
 }
 
-/// Merges the log beside the file at a path into the file, even if the log has lost commits. The
-/// file then has the records that SQLite's recovery finds. No other process may have the file or
-/// the log open, because the result would lack that process's writes. `S` specifies the earlier
-/// content of the file and the log.
+/// Merges the write-ahead log beside the file at a path into the file, even if the log has lost
+/// commits. The file then has the records that SQLite's recovery finds. No other process may have
+/// the file or the log open, because the result would lack that process's writes. `S` specifies the
+/// earlier content of the file and the log.
 pub fn recovered_file<S: Start>(
     rt: &HostRuntime,
     path: &str,
@@ -67,8 +68,8 @@ pub fn recovered_file<S: Start>(
     }
 }
 
-/// Merges the log beside the file at a path into the file, as `recovered_file` does, but only if
-/// the log has lost no commits.
+/// Merges the write-ahead log beside the file at a path into the file, as `recovered_file` does,
+/// but only if the log has lost no commits.
 pub fn whole_file<S: Start>(
     rt: &HostRuntime,
     path: &str,

@@ -1,5 +1,4 @@
-//! Rolls the meters of one database over into a new database, in which each open meter continues
-//! from its last entry.
+//! Lets the open meters of one database continue in a new database, each from its last entry.
 ghost use Rattle.std.specs.Prelude.{◌≡◌, ℕ, List, [], Err, IfOk};
 ghost use Rattle.office_events.specs.declared.facts.Fact.{Fact};
 ghost use Rattle.office_books.specs.History.{History, facts_of};
@@ -25,12 +24,13 @@ pub enum CarryEnd {
     Unopened(OpenFault),
     /// The tables of the new database could not be created.
     Unmade(OpenFault),
-    /// The file rollover began, but was not completed.
+    /// The file rollover (the continuation of all open meters in a new database) began, but was not
+    /// completed.
     Ended(CarryFault),
 }
 
-// Rolls the store `old` over into the store `new`, in which each open meter continues from its last
-// entry. Returns the number of meters that continue.
+// Lets each open meter of the store `old` continue in the store `new`, from its last entry. Returns
+// the number of these meters.
 fn carry_into<O: Books, N: Books>(
     alloc: Global,
     old: O,
@@ -49,7 +49,8 @@ fn carry_into<O: Books, N: Books>(
     }
 }
 
-// Creates the tables of a new store, and rolls the store `old` over into the new store.
+// Creates the tables of a new store, and lets each open meter of the store `old` continue in the
+// new store.
 fn carry_into_created<O: Books, S: Alter + Drop>(
     alloc: Global,
     old: O,
@@ -68,7 +69,7 @@ fn carry_into_created<O: Books, S: Alter + Drop>(
     }
 }
 
-// Opens the old store, and rolls its open meters over into a new store.
+// Opens the old store, and lets its open meters continue in a new store.
 fn carry_opened<S: Alter + Drop>(
     alloc: Global,
     old: Connection<S>,

@@ -45,8 +45,8 @@ fn zone_of(row: &Row) -> Result<String, OpenFault>
     }
 }
 
-// Reads the text of the time zone from the rows of the query. Fails unless there is exactly one
-// row.
+// Reads the text of the time zone from the rows of the query's result. Fails unless there is
+// exactly one row.
 fn zone_in(rows: &[Row]) -> Result<String, OpenFault>
     ensures { (m : Meta) → rows.now ≡ zone_shown m ∷ []
         → IfOk result (λ zone. string_bytes zone ≡ m.zone) }

@@ -7,13 +7,13 @@ use crate::ends::named::Named;
 use command_io::ExitStatus;
 use std::io::Write;
 
-/// How a command ended. The exit status and the message follow from this.
+/// How a command ended. The exit status and the message of the command follow from this value.
 #[derive(Drop)]
 pub enum Ending<'a> {
     Fine,
     /// The input is wrong, or the rules refused the input. The output states the reason.
     Refused,
-    /// The arguments are wrong. The text is the message with the reason.
+    /// The arguments of the command are wrong. The text is the message with the reason.
     Wrong(String),
     /// The command line arguments are not valid UTF-8.
     NoText,
@@ -26,7 +26,7 @@ pub enum Ending<'a> {
     /// The file in the option `--against` does not have the text of a seal, which has digests of a
     /// database's records.
     NoSeal(&'a str),
-    /// This database file was given twice.
+    /// The same database file, with this name, was given twice.
     Twice(&'a str),
     Failed(Failure<'a>),
 }

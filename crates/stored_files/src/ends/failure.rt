@@ -51,7 +51,8 @@ pub enum Failure<'a> {
     LogAlone {
         path: &'a str,
     },
-    /// The write-ahead log of the file has lost no commits, so recovery has nothing to do.
+    /// The write-ahead log of the file has lost no commits, so the recovery command has nothing to
+    /// do.
     Undamaged {
         path: &'a str,
     },
@@ -81,8 +82,8 @@ pub enum Failure<'a> {
         host: &'a str,
         port: u16,
     },
-    /// A round of polls ended at the limit of reads and writes on the connection, because the
-    /// device sent data without end but no valid response.
+    /// A round of polls of a device ended at the limit of reads and writes on the connection,
+    /// because the device sent data without end but no valid response.
     Endless {
         host: &'a str,
         port: u16,

@@ -101,8 +101,8 @@ fn check_log_for(rt: &HostRuntime, path: &str, log: &[u8], size: PageSize) -> Re
     }
 }
 
-// Checks the log beside the file at a path once. Accepts a file whose header has no valid page
-// size, because opening the file reports that it is no database.
+// Checks the write-ahead log beside the file at a path once. Accepts a file whose header has no
+// valid page size, because opening the file reports that it is no database.
 fn check_once(rt: &HostRuntime, path: &str) -> Result<(), FileFault>
     ensures { IfErr result (λ fault. fault ≢ FileFault.Missing) }
 {

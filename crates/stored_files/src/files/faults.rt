@@ -42,7 +42,8 @@ impl FileFault {
     }
 }
 
-// Writes the reason and its remedy. The program prints this text after the name of the file.
+// Writes the reason why a database file can't be opened, and the remedy. The program prints this
+// text after the name of the file.
 impl Display for FileFault {
     fn fmt<W: fmt::Write>(&self, f: &mut Formatter<W>) -> fmt::Result {
         f.write_str(match self {

@@ -15,8 +15,8 @@ use std::fs;
 /// A connection to a database in a file. `S` specifies the file's content when it is opened.
 pub type FileConnection<S> = Connection<FileStore<FileFrom<S>>>;
 
-/// A way to open databases. Functions that use a connection are generic over it, because proofs
-/// about a connection to a file would take minutes each.
+/// A trait for opening databases. Functions that use a connection are generic over the trait,
+/// because proofs about a connection to a file take minutes each.
 pub trait Databases {
     type Store: Alter + Drop;
 
@@ -28,7 +28,7 @@ pub trait Databases {
 }
 
 /// Opens the database in a file, or creates an empty database if the file does not exist. Unlike
-/// [`make_file`], this function does not check whether the log has lost commits.
+/// [`make_file`], this function does not check whether the write-ahead log has lost commits.
 pub fn connect<S: Start>(
     rt: &HostRuntime,
     path: &str,
@@ -49,7 +49,8 @@ pub fn connect<S: Start>(
 }
 
 /// Opens the database in a file, or creates an empty database if the file does not exist. If the
-/// file's log has lost commits, the function fails, and changes neither the file nor the log.
+/// file's write-ahead log has lost commits, the function fails, and changes neither the file nor
+/// the log.
 pub fn make_file<S: Start>(
     rt: &HostRuntime,
     path: &str,

@@ -9,11 +9,11 @@ use std::io::{self, Write};
 /// The result of repairing the header of a write-ahead log.
 #[derive(Clone, Copy)]
 pub enum LogHeader {
-    /// The header of the log was not damaged, or there is nothing to repair.
+    /// The header of the write-ahead log was not damaged, or there is nothing to repair.
     Sound,
-    /// One byte of the header was damaged, and was repaired.
+    /// One byte of the write-ahead log's header was damaged, and was repaired.
     Mended,
-    /// No change of one byte repairs the header, so the log can't be read.
+    /// No change of one byte repairs the header of the write-ahead log, so the log can't be read.
     Lost,
 }
 

@@ -1,4 +1,4 @@
-//! Merges the reports on several successive database files, with one file open at a time.
+//! Merges the reports on several successive database files. Only one file is open at a time.
 ghost use Rattle.std.specs.Prelude.{◌≡◌, ◌≢◌, ◌↔◌, ℕ, List, Err, IfErr, IfOk, IsTrue, string_bytes};
 ghost use Rattle.office_events.specs.declared.facts.Fact.{Fact};
 ghost use Rattle.office_books.specs.History.{History, facts_of};
@@ -26,7 +26,7 @@ pub enum JoinFault {
     Unopened(OpenFault),
     /// The file has another time zone than the earlier files of the merged report.
     OtherZone,
-    /// The accounting register (a named counter of a device), or one of its meters, does not
+    /// The accounting register (a named counter of a device), or a meter at this register, does not
     /// continue from the earlier files.
     Unjoined(Unjoined),
     /// The file's store failed, or memory ran out.
@@ -73,7 +73,7 @@ fn kept_before<K: Keeping>(
     }
 }
 
-// Adds what a merged report needs from a store to the report's data.
+// Adds the data that a merged report of several files needs from a store.
 fn join_books<B: Books, K: Keeping>(
     books: B,
     kept: K,
@@ -97,7 +97,8 @@ fn join_books<B: Books, K: Keeping>(
     }
 }
 
-// Opens the store in a database, and adds what a merged report needs from it to the report's data.
+// Opens the store in a database, and adds the data that a merged report of several files needs from
+// the store.
 fn join_opened<S: Alter + Drop, K: Keeping>(
     alloc: Global,
     connection: Connection<S>,
@@ -144,7 +145,8 @@ fn join_in_zone<S: Alter + Drop, K: Keeping>(
     }
 }
 
-// Drops the data of a merged report, and returns the reason why the next file could not be added.
+// Drops the data of a merged report of several files, and returns the reason why the next file
+// could not be added.
 fn refused<K: Keeping>(
     before: Option<JoinedOffice<K>>,
     why: JoinFault,

@@ -19,8 +19,7 @@ use std::io;
 /// The offset of the first salt byte in a write-ahead log's header.
 const SALT: usize = 16;
 
-/// The offset of the first salt byte in a frame of a write-ahead log. This byte is called the
-/// frame's gate.
+/// The offset of the first salt byte (the frame's gate) in a frame of a write-ahead log.
 const GATE: usize = 8;
 
 /// The page number that marks a count frame, an extra frame of a commit. From the count frame,
@@ -30,17 +29,19 @@ const COUNT_PAGE: u32 = 0xff00_0000;
 /// A reason why a write-ahead log is rejected.
 #[derive(Clone, Copy, Debug, PartialEq, Eq)]
 pub enum LogFault {
-    /// The header is damaged, or its page size differs from that of the database file.
+    /// The header of the write-ahead log is damaged, or its page size differs from that of the
+    /// database file.
     Header,
-    /// The count frame of a commit shows lost bytes, although more was written after the commit.
+    /// The count frame of a commit (an extra frame that shows lost bytes) reports a loss, although
+    /// more was written after the commit.
     Count,
-    /// Recovery would end at byte offset `at`, and would lose a complete transaction that begins
-    /// there.
+    /// SQLite's recovery would end at byte offset `at` of the write-ahead log, and would lose a
+    /// complete transaction that begins there.
     Commits { at: u64 },
     Memory,
 }
 
-// Writes how a log is damaged, for a message that begins with the log's name.
+// Writes how a write-ahead log is damaged, for a message that begins with the log's name.
 impl Display for LogFault {
     fn fmt<W: fmt::Write>(&self, f: &mut Formatter<W>) -> fmt::Result {
         match self {
@@ -52,8 +53,8 @@ impl Display for LogFault {
     }
 }
 
-// Returns whether the first transaction that recovery would lose was complete when the transaction
-// at frame `i` began. `taken` is the number of frames that recovery replays.
+// Returns whether the first transaction that SQLite's recovery would lose was complete when the
+// transaction at frame `i` began. `taken` is the number of frames that recovery replays.
 fn was_complete(log: &[u8], page_size: usize, taken: usize, i: usize) -> bool
     requires behind { taken < i }
     requires size { page_size ≤ 65536 }
@@ -74,8 +75,8 @@ fn is_cut_off(log: &[u8], page_size: usize, taken: usize, i: usize) -> bool
     begins(log, page_size, i) && was_complete(log, page_size, taken, i)
 }
 
-// Returns the first frame that proves a loss: it begins a transaction, and an earlier complete
-// transaction would be lost. `taken` is the number of frames that recovery replays.
+// Returns the first frame that proves a loss: it begins a transaction, and recovery would lose an
+// earlier complete transaction. `taken` is the number of frames that recovery replays.
 fn find_cut_off(log: &[u8], page_size: usize, taken: usize) -> Option<usize>
     requires room { 32 ≤ length log.now }
     requires size { page_size ≤ 65536 }
@@ -112,7 +113,7 @@ fn fault_of(error: Error) -> LogFault
     }
 }
 
-/// Returns the page number of each frame that recovery would replay from a log.
+/// Returns the page number of each frame of a write-ahead log that SQLite's recovery would replay.
 pub(crate) fn taken_frames(alloc: Global, log: &[u8], size: PageSize) -> Result<Vec<u32>, LogFault>
     ensures taken { IfOk result (λ pages. AreFramesOf (bytes_of size) log.now pages.items) }
     ensures cause { IfErr result (IsUnread (bytes_of size) log.now) }
@@ -126,8 +127,9 @@ pub(crate) fn taken_frames(alloc: Global, log: &[u8], size: PageSize) -> Result<
     }
 }
 
-/// Checks that recovery would replay all complete transactions of a log. A damaged transaction
-/// looks as if a crash had left it incomplete. Only a later transaction shows that it was complete.
+/// Checks that SQLite's recovery would replay all complete transactions of a write-ahead log. A
+/// damaged transaction looks as if a crash had left it incomplete. Only a later transaction shows
+/// that the damaged one was complete.
 pub(crate) fn check_log(alloc: Global, log: &[u8], size: PageSize) -> Result<(), LogFault>
     ensures sound { OnOk result (IsSound (bytes_of size) log.now) }
     ensures cause { IfErr result (IsCause (bytes_of size) log.now) }

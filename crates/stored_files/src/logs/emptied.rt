@@ -1,5 +1,5 @@
-//! Checks logs that a checkpoint began to empty. Once the database file has all pages of its log,
-//! the checkpoint changes the first byte of the log. SQLite then ignores the log.
+//! Checks write-ahead logs that a checkpoint began to empty. Once the database file has all pages
+//! of its log, the checkpoint changes the first byte of the log. SQLite then ignores the log.
 ghost use Rattle.std.specs.Prelude.{◌≡◌, ◌⊎◌, ◌+◌, ◌-◌, ◌*◌, ◌<◌, ◌≤◌, ◌↔◌, length, IfOk, IfErr, OnOk, IsTrue};
 ghost use Rattle.sqlite_wal.specs.PageSize.{bytes_of};
 ghost use Rattle.sqlite_wal.specs.Recovery.{AreFramesOf, file_page, page_after};
@@ -13,8 +13,8 @@ use std::alloc::{AllocError, Global};
 /// The first byte of a write-ahead log that is in use.
 const OPEN: u8 = 0x37;
 
-/// Returns whether the first byte of a log was changed, as a checkpoint does when it empties the
-/// log. Returns false for a log that is too short for a frame.
+/// Returns whether the first byte of a write-ahead log was changed, as a checkpoint does when it
+/// empties the log. Returns false for a log that is too short for a frame.
 pub(crate) fn is_shut(log: &[u8]) -> bool
     ensures { IsTrue result ↔ (HasRoom log.now × IsShut log.now) }
 {
@@ -32,8 +32,8 @@ fn page_in(db: &[u8], page_size: usize, number: usize) -> &[u8]
     &db[at..at + page_size]
 }
 
-// Returns whether replaying the log's frames would leave page `number` of the database file
-// unchanged.
+// Returns whether replaying the write-ahead log's frames would leave page `number` of the database
+// file unchanged.
 fn has_page(log: &[u8], db: &[u8], page_size: usize, pages: &[u32], number: usize) -> bool
     requires first { 0 < number }
     requires size { page_size ≤ 65536 }
@@ -52,7 +52,7 @@ fn has_page(log: &[u8], db: &[u8], page_size: usize, pages: &[u32], number: usiz
     page == page_in(db, page_size, number)
 }
 
-/// Returns whether replaying the log's frames would leave the database file unchanged.
+/// Returns whether replaying the write-ahead log's frames would leave the database file unchanged.
 fn has_all_pages(log: &[u8], db: &[u8], page_size: usize, pages: &[u32]) -> bool
     requires some { 0 < page_size }
     requires size { page_size ≤ 65536 }
@@ -86,7 +86,7 @@ fn opened_log(alloc: Global, log: &[u8]) -> Result<Vec<u8>, AllocError>
     Ok(bytes)
 }
 
-// Checks that the database file already has all committed pages of a log.
+// Checks that the database file already has all committed pages of a write-ahead log.
 fn check_kept(alloc: Global, log: &[u8], db: &[u8], size: PageSize) -> Result<(), LogFault>
     requires { HasRoom log.now }
     ensures kept { OnOk result (KeepsAll (bytes_of size) log.now db.now) }
@@ -107,7 +107,8 @@ fn check_kept(alloc: Global, log: &[u8], db: &[u8], size: PageSize) -> Result<()
     }
 }
 
-/// Checks that SQLite loses nothing when it ignores a log because of its changed first byte.
+/// Checks that SQLite loses nothing when it ignores a write-ahead log because of the log's changed
+/// first byte.
 pub(crate) fn check_emptied(
     alloc: Global,
     log: &[u8],

@@ -73,8 +73,9 @@ pub(crate) fn frame_offset(page_size: usize, i: usize) -> usize
     HEADER_LEN + i * (FRAME_HEADER_LEN + page_size)
 }
 
-/// Returns whether SQLite accepts a frame. It must have the salts of the log's header `head`, a
-/// page number, and a checksum that continues the previous frame's checksum `before`.
+/// Returns whether SQLite accepts a frame of a write-ahead log. The frame must have the salts of
+/// the log's header `head`, a page number, and a checksum that continues the previous frame's
+/// checksum `before`.
 fn is_frame(head: &[u8], before: (u32, u32), frame: &[u8]) -> bool
     requires head { length head.now ≡ 32 }
     requires frame { 24 ≤ length frame.now }
@@ -100,8 +101,8 @@ pub(crate) fn frame_in(log: &[u8], page_size: usize, i: usize) -> &[u8]
     &log[at..at + FRAME_HEADER_LEN + page_size]
 }
 
-/// Returns whether frame `i` is valid and begins a transaction, directly after the last frame of an
-/// earlier transaction.
+/// Returns whether frame `i` of a write-ahead log is valid and begins a transaction, directly after
+/// the last frame of an earlier transaction.
 pub(crate) fn begins(log: &[u8], page_size: usize, i: usize) -> bool
     requires first { 0 < i }
     requires size { page_size ≤ 65536 }
@@ -125,8 +126,8 @@ pub(crate) fn content_in(log: &[u8], page_size: usize, i: usize) -> &[u8]
     &frame_in(log, page_size, i)[FRAME_HEADER_LEN..]
 }
 
-/// Returns the number of pages of the database after the commit that frame `i` ends, or 0 if the
-/// frame ends no commit.
+/// Returns the number of pages of the database after the commit that frame `i` of a write-ahead log
+/// ends, or 0 if the frame ends no commit.
 pub(crate) fn commit_size_in(log: &[u8], page_size: usize, i: usize) -> usize
     requires size { page_size ≤ 65536 }
     requires within { frame_at page_size (i + 1) ≤ length log.now }

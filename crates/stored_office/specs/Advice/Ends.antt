@@ -45,7 +45,7 @@ is_refused_polling (Unopened why) = is_refusal why
 is_refused_polling Unconnected = false
 
 -- True if a task may have failed because the latest record in the database is later than the clock.
--- These tasks print only the number of the refusal, and not this cause.
+-- The task itself prints only the number of the refusal, and not this cause.
 abbrev pub may_be_ahead : Done → Bool
 may_be_ahead (task.Reported status) = false
 may_be_ahead (task.Served end) = is_refused_serving end

@@ -6,14 +6,14 @@ use Rattle.stored_office.specs.Advice.Remarks.{Says, remark_of}
 use Rattle.stored_office.specs.declared.advice.remarks.Remark.{Remark}
 use Rattle.stored_office.specs.declared.advice.remarks.Remark.TheVariants.{Refused, Held}
 
--- True if `say_remarks` explains a printed refusal or rejected reading. It leaves refusal 1, for an
--- unknown device or list, to `say_lacks`.
+-- True if `say_remarks` explains a printed refusal or rejected reading. Another function,
+-- `say_lacks`, explains refusal 1, for an unknown device or list.
 abbrev pub is_left : Remark → Bool
 is_left (Refused number) = not (number == 1)
 is_left (Held meter number) = true
 
 -- States that the explanation of a refusal or rejected reading is appended to a text. Nothing is
--- appended if `left` is false, because `say_lacks` then explains the refusal.
+-- appended if `left` is false, because another function, `say_lacks`, then explains the refusal.
 abbrev pub SaysIf : (left : Bool) → (device : Option (List ℕ)) → Remark → (old new : List ℕ)
     → Type 0
 SaysIf true device remark old new = Says device remark old new

@@ -57,7 +57,7 @@ MeansIf true subject k before number old new =
     MeansAfter k number before (with_subject subject old) new
 MeansIf false subject k before number old new = new ≡ old
 
--- States that the explanation of a number is appended to a text, if the program can print this
+-- States that the explanation of a printed number is appended to a text, if the program prints this
 -- number for the kind `k`.
 abbrev pub MayMean : (subject : Option (List ℕ)) → Kind → (before : List ℕ) → (number : ℕ)
     → (old new : List ℕ) → Type 0

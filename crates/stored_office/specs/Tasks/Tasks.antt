@@ -21,7 +21,7 @@ use Rattle.stored_office.specs.declared.tasks.tasks.Task.TheVariants as task
 use Rattle.stored_office.specs.declared.tasks.tasks.Done.{Done}
 use Rattle.stored_office.specs.declared.tasks.tasks.Done.TheVariants.{Reported, Served, Entered, Checked, Polled, Ran}
 
--- States that a result is of the same kind as its task.
+-- States that a task's result is of the kind that the task returns, such as an exit status.
 abbrev pub IsOf : Task → Done → Type 0
 IsOf (task.Report register) (Reported end) = Unit {0}
 IsOf (task.ReportRange register form) (Reported end) = Unit {0}
@@ -68,7 +68,8 @@ module _ {B : Type 0} (ledger : B → Ledger) (reports : Reporting) (past : Hist
       BooksRun (texts settings.now.host_names.now) moments later (ledger left) past
   Does moments later had holds found left _ _ = ⊥
 
--- States that the task ran over the store that was opened from a database.
+-- States that the task ran over the store that was opened from a database, with the changes, the
+-- output and the result that `Does` states.
 abbrev pub DoesOver : {S : Type 0} → Ghosts S → Reporting → (past : History)
     → (moments later had holds : Option (List ℕ)) → Task → Done → Type 0
 DoesOver g reports past moments later had holds asked end = OverBooks g past (λ found left.

@@ -61,7 +61,7 @@ fn is_refused_polling(end: PollEnd) -> bool
 }
 
 /// Returns whether a task may have failed because the latest record in the database is later than
-/// the clock. These tasks print only the number of the refusal, and not this cause. The command
+/// the clock. Such a task prints only the number of the refusal, and not this cause. The command
 /// `run` explains the refusal itself.
 pub fn may_be_ahead(done: Done) -> bool
     ensures { result ≡ ends.may_be_ahead done }

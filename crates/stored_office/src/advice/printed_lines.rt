@@ -13,8 +13,8 @@ use office_program::PollEnd;
 use std::alloc::{AllocError, Global};
 use std::io::Write;
 
-// Returns whether `say_remarks` explains a printed refusal or rejected reading. It leaves refusal
-// 1, for an unknown device or list, to `say_lacks`.
+// Returns whether `say_remarks` explains a printed refusal or rejected reading. Another function,
+// `say_lacks`, explains refusal 1, for an unknown device or list.
 fn is_left(remark: &Remark) -> bool
     ensures { result ≡ printing.is_left remark.now }
 {

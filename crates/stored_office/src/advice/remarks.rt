@@ -94,7 +94,7 @@ fn write_subject(text: &mut Vec<u8>, name: &Option<Name>) -> Result<(), AllocErr
     }
 }
 
-// Appends `before` to a text, then the meaning of a printed number, and what to do about it.
+// Appends `before` to a text, then the meaning of a printed number, and then what the user can do.
 fn append_meaning(text: &mut Vec<u8>, before: &[u8], meaning: &Meaning) -> Result<(), AllocError>
     ensures { OnOk result (text.new.items ≡ with_meaning before.now meaning.now text.old.items) }
 {
@@ -106,7 +106,7 @@ fn append_meaning(text: &mut Vec<u8>, before: &[u8], meaning: &Meaning) -> Resul
 }
 
 // Appends a line with the meaning and the remedy of a printed number to a text. Appends nothing if
-// the program never prints this number for its kind.
+// the program never prints this number with the word for its kind, such as `fault`.
 fn write_number_of(
     text: &mut Vec<u8>,
     subject: &Option<Name>,

@@ -29,18 +29,20 @@ use std::rt::Files;
 /// What a command does with the store in a database file.
 #[derive(Clone, Copy)]
 pub enum Task<'a> {
-    /// Prints the energy of an accounting register, as `report_books` does.
+    /// Prints the energy of an accounting register (a named counter of a device), as `report_books`
+    /// does.
     Report {
         register: &'a str,
     },
-    /// Prints the energy of an accounting register in a range of days, in the form `form`, as
-    /// `report_range_books` does.
+    /// Prints the energy of an accounting register (a named counter of a device) in a range of
+    /// days, as `report_range_books` does. `form` has the days, the period, the unit and the
+    /// format.
     ReportRange {
         register: &'a str,
         form: &'a ReportForm,
     },
-    /// Prints the statements of the meters of an accounting register for a range of days, as
-    /// `statement_books` does.
+    /// Prints the statements (reports to check a bill) of the meters of an accounting register for
+    /// a range of days, as `statement_books` does.
     Statement {
         register: &'a str,
         form: &'a StatementForm,

@@ -1,4 +1,4 @@
--- Checks the definitions at both ends of each limit.
+-- Examples of scans for SunSpec models, at both ends of each limit.
 use Rattle.std.specs.Prelude.{pos, negsuc}
 use Rattle.std.proofs.Common.{◌≡◌, ℕ, ◌+◌, ◌==◌, ◌||◌, ◌&&◌, nat_le, nat_lt, Bool, true, false, if◌then◌else◌, List, [], ◌∷◌, length, Some, None, refl}
 use Rattle.sun_chain.specs.Image.{Words}
@@ -11,11 +11,11 @@ use Rattle.sun_chain.specs.Scanning.Stages.{begun, holding, is_known, model_at, 
 use Rattle.sun_chain.specs.declared.scans.counter.CounterScale.TheVariants.{Fixed, Register}
 use Rattle.sun_chain.specs.declared.scans.stage.Stage.TheVariants.{Mark, Head, Ending, Registers, Over}
 
--- A memory image with two words at consecutive addresses.
+-- A memory image (the words read from a device) with two words at consecutive addresses.
 abbrev two : (address first second : ℕ) → Words
 two address first second at = if at == address then Some first else if at == address + 1 then Some second else None
 
--- The stages after a read of the `SunS` mark.
+-- Examples of the stage of a scan after a read of the `SunS` mark.
 
 first_read : wanted begun ≡ Some (holding 40000 2)
 first_read = refl
@@ -32,7 +32,7 @@ no_mark = refl
 marked : stage_after (two 50000 0x5375 0x6E53) (Mark 50000) ≡ Head 50002 0
 marked = refl
 
--- The stages after a read of a model's head.
+-- Examples of the stage of a scan after a read of a model's head (ID and length).
 
 unknown_between : stage_after (two 10 9 4) (Head 10 3) ≡ Head 16 4
 unknown_between = refl
@@ -67,7 +67,7 @@ ending = refl
 no_ending : stage_after nothing (Head 65535 1) ≡ Over
 no_ending = refl
 
--- The reads of a model's registers.
+-- Examples of the reads of a model's registers.
 
 in_a_model : stage_after (two 10 1 126) (Head 10 0) ≡ Registers (model_at 10 1 126) 0 1
 in_a_model = refl
@@ -104,7 +104,8 @@ known_has_points id = tests (id == 1) (nat_le 101 id && nat_le id 103) (nat_le 2
     tests false false true = refl
     tests false false false = refl
 
--- The results of responses to a read of register 0 of unit 1 with transaction identifier 7.
+-- Examples of the results of responses to a read of register 0 of unit 1 with transaction
+-- identifier 7.
 
 abbrev one_read : Ask
 one_read = record { id = 7; unit = 1; span = holding 0 1 }
@@ -127,7 +128,7 @@ another_unit = refl
 excepted : settled one_read ((0 ∷ 7 ∷ 0 ∷ 0 ∷ 0 ∷ 3 ∷ 1 ∷ 131 ∷ 1 ∷ []) ∷ []) ≡ Some None
 excepted = refl
 
--- The registers that one request must read to get a counter and its scale factor.
+-- Examples of the registers that one request must read to get a counter and its scale factor.
 
 two_alone : counter_span HoldingRegisters 40000 (Fixed (pos 0)) ≡ Some (holding 40000 2)
 two_alone = refl
@@ -156,7 +157,7 @@ last_two = refl
 half_a_counter : counter_span HoldingRegisters 65535 (Fixed (pos 0)) ≡ None
 half_a_counter = refl
 
--- The count and the power of ten of a counter in words.
+-- Examples of the count and the power of ten of a counter in words.
 
 high_word_first : decode_counter 10 (1 ∷ 2 ∷ []) 10 (Fixed (pos 0)) ≡ Some (record { raw = 65538; sf = pos 0 })
 high_word_first = refl

@@ -39,7 +39,7 @@ frames-then a b =
       ends = next.ends;
     }
 
--- An incomplete or invalid frame contains no complete frame: all of its bytes are left over.
+-- An incomplete or invalid frame contains no complete frame: all bytes of the frame are left over.
 pub rest_alone : (b : List ℕ) → IsOpen b ⊎ IsBad b → (frames b ≡ []) × (rest b ≡ b)
 rest_alone b ends = Reads-only b [] b record { joined = refl; each = tt; ends = ends }
 
@@ -63,14 +63,15 @@ bad_stays b left bad =
     let alone = rest_alone (b ++ left) (inr still) in
     subst IsBad (sym alone.1) still
 
--- A feed that ends a frame completes exactly that frame.
+-- A call of `feed` that ends a frame completes exactly this frame.
 pub reported : (what : Framing) (b : List ℕ) → ReportsFraming what b → (frames b ≡ ended what b) × (rest b ≡ (buffered_after what b).rest)
 reported Need b reports = rest_alone b (inl reports)
 reported Whole b reports = frame_alone b reports.0
 reported Foreign b reports = frame_alone b reports.0
 reported Garbled b reports = rest_alone b (inr reports.0)
 
--- A chunk consists of the bytes that a feed consumed and the remaining bytes.
+-- A chunk of a stream consists of the bytes that a call of `feed` consumed, followed by the
+-- remaining bytes.
 pub piece_is : (r piece : List ℕ) (taken : ℕ) → r ++ piece ≡ (r ++ take taken piece) ++ from taken piece
 piece_is r piece taken = ap (λ y. r ++ y) (sym (whole_again taken piece)) ∙ sym (append_assoc r (take taken piece) (from taken piece))
 
@@ -81,7 +82,8 @@ piece_rest what r piece taken buffered reports is =
     let stays : rest b ≡ buffered.rest = (reported what b reports).1 ∙ ap (λ (h : Buffered). h.rest) (sym is) in
     ap rest (piece_is r piece taken) ∙ (frames-then b (from taken piece)).1 ∙ ap (λ y. rest (y ++ from taken piece)) stays
 
--- A feed that consumes all of a chunk and completes no frame buffers all bytes.
+-- If a call of `feed` consumes all of a chunk and completes no frame, then all bytes of the chunk
+-- are buffered.
 pub need_rest : (what : Framing) (r piece : List ℕ) (taken : ℕ) (buffered : Buffered) → ReportsFraming what (r ++ take taken piece) → buffered ≡ buffered_after what (r ++ take taken piece)
     → what ≡ Need → taken ≡ length piece → (buffered.rest ≡ rest (r ++ piece)) × IsOpen buffered.rest × (frames (r ++ piece) ≡ []) × (buffered ≡ buffered_after Need (r ++ piece))
 need_rest what r piece taken buffered reports is need all =
@@ -94,15 +96,16 @@ need_rest what r piece taken buffered reports is need all =
     let stays : buffered.rest ≡ r ++ piece = ap (λ (h : Buffered). h.rest) is_need in
     (stays ∙ sym alone.1, subst IsOpen (sym stays) is_open, alone.0, is_need)
 
--- After a feed that ends at an invalid length field, the stream has that invalid header after its
--- last complete frame.
+-- If a call of `feed` ends at an invalid length field, then the stream has this invalid header
+-- after its last complete frame.
 pub garbled_rest : (what : Framing) (r piece : List ℕ) (taken : ℕ) → ReportsFraming what (r ++ take taken piece) → what ≡ Garbled → IsBad (rest (r ++ piece))
 garbled_rest what r piece taken reports garbled =
     let b = r ++ take taken piece in
     let bad : ReportsFraming Garbled b = subst (λ w. ReportsFraming w b) garbled reports in
     subst (λ y. IsBad (rest y)) (sym (piece_is r piece taken)) (bad_stays b (from taken piece) bad.0)
 
--- If no bytes follow an incomplete frame, no frame is completed, and all bytes are left over.
+-- If no bytes follow an incomplete frame, then no frame is completed, and all bytes of the frame
+-- are left over.
 pub nothing_came : (r : List ℕ) → IsOpen r → (frames (r ++ []) ≡ []) × (r ≡ rest (r ++ []))
 nothing_came r is_open =
     let alone = rest_alone r (inl is_open) in

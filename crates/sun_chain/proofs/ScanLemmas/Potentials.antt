@@ -1,4 +1,4 @@
--- Bounds the number of reads that a scan can still make.
+-- Bounds the number of reads that a scan for SunSpec models can still make.
 use Rattle.std.proofs.Common.{◌≡◌, ℕ, ◌+◌, ◌-◌, ◌*◌, ◌<◌, ◌≤◌, Bool, true, false, ◌==◌, ◌&&◌, nat_le, nat_lt, if◌then◌else◌, Option, None, Some, refl, sym, ap, arith}
 use Rattle.std.specs.Prelude.{option_and_then}
 use Rattle.std.specs.Option.{option_map_or}
@@ -39,7 +39,7 @@ marked_potential address =
       | false ↦ elim (address == 50000) as (λ b. 250 + 250 * 64 + (65536 - (address + 2)) + 125 ≤ (if b then 82036 else 81911)) [ true ↦ omega arith | false ↦ omega arith ]
     ]
 
--- True if the model at this address is valid after `models` models.
+-- True if the model at the address is valid as the next model after `models` earlier models.
 pub record Standing (models address : ℕ) (model : Model) : Type 0 where
   pub at : model.address ≡ address
   pub few : models < 64

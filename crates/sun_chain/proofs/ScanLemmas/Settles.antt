@@ -1,4 +1,4 @@
--- Lemmas about the result of a request, by the frames that arrive after it.
+-- Lemmas about the result of a Modbus request, by the frames that arrive after it.
 use Rattle.std.proofs.Common.{Global, ◌≡◌, ◌≢◌, ℕ, List, [], ◌∷◌, ◌++◌, length, Option, None, Some, Result, Ok, Err, Bool, true, false, cond, ◌==◌, ◌&&◌, take, refl, sym, ap, ◌∙◌, subst, option_map, find}
 use Rattle.std.specs.Prelude.{IfOk, IfSome, Vec, unwrap_or}
 use Rattle.std.proofs.lemmas.Bool.{eq-eqb, ne_eqb}
@@ -54,7 +54,7 @@ own_reply ask f own = ap (λ (b : Bool). b && (tid_of f == ask.id)) (eq-eqb _ _ 
 foreign_reply : (ask : Ask) (f : List ℕ) → (IsOwn f → ⊥) → is_reply ask f ≡ false
 foreign_reply ask f foreign = ap (λ (b : Bool). b && (tid_of f == ask.id)) (ne_eqb _ _ foreign)
 
--- If the frame reader has no frame, the request has no response yet.
+-- If the frame reader has no complete frame, then the request has no response yet.
 pub none_held : (ask : Ask) (held : Option (List ℕ)) → None ≡ option_map fields_of held → settled ask (frames_held held) ≡ None
 none_held ask None is = refl
 none_held ask (Some f) is = cc
@@ -118,13 +118,14 @@ need_settles ask what r piece taken buffered reports is need all =
     let so = need_rest what r piece taken buffered reports is need all in
     ap (λ (h : Buffered). settled ask (frames_held h.frame)) so.3 ∙ ap (settled ask) (sym so.2)
 
--- An earlier result has precedence over the result of a later chunk.
+-- If earlier bytes gave a request its result, then a later chunk does not change this result.
 pub heard_piece : (heard later : Option (Option (List ℕ))) (held piece : Option (Option (List ℕ))) (result : Option (Option (List ℕ))) → later ≡ first_of heard held → result ≡ first_of later piece
     → result ≡ first_of heard (first_of held piece)
 heard_piece heard later held piece result first next =
     next ∙ ap (λ (x : Option (Option (List ℕ))). first_of x piece) first ∙ first_assoc heard held piece
 
--- If a turn (one read of the link) receives no bytes, the incomplete frame is unchanged.
+-- If a turn (one read of the link to the device) receives no bytes, the incomplete frame is
+-- unchanged.
 pub hears_nothing : (a b : Option (List ℕ)) (r : List ℕ) → IsOpen r → Keeps a b → Hears a b r r []
 hears_nothing a b r is_open kept = record { took = Consumes-kept a a b [] (Consumes-nil a) kept; read = (nothing_came r is_open).1; is_open = is_open }
 
@@ -153,7 +154,7 @@ garbles_both a b c r s came first next = record {
       next.bad;
 }
 
--- Lemmas about turns that read the link once.
+-- Lemmas about single reads of a link to a device while waiting for a response.
 
 pub kept_idle : (a b : Option (List ℕ)) (piece : List ℕ) (answer : Took) → TakeConsumes a b (Ok answer) piece → answer ≡ took.Idle → Keeps a b
 kept_idle a b piece answer took is = subst (λ (t : Took). TakeConsumes a b (Ok t) piece) is took
@@ -164,7 +165,8 @@ turn_bytes ask a b r s bytes turn took read is_open reports = record { came = by
 pub turn_idle : (ask : Ask) (a b : Option (List ℕ)) (r : List ℕ) → IsOpen r → Keeps a b → HearsTurn ask a b r r Idle
 turn_idle ask a b r is_open kept = record { came = []; hears = hears_nothing a b r is_open kept; reports = ap (settled ask) (nothing_came r is_open).0 }
 
--- True if the bytes that arrived over the link do not include the response to the request.
+-- True if the bytes that arrived over the link to the device do not include the response to the
+-- request.
 pub record Waits (ask : Ask) (a b : Option (List ℕ)) (r s : List ℕ) : Type 0 where
   pub came : List ℕ
   pub hears : Hears a b r s came

@@ -1,4 +1,5 @@
--- Lemmas about the count and the power of ten that a read over a new link returns.
+-- Lemmas about the count and the power of ten of a counter that a read over a new link to a device
+-- returns.
 use Rattle.std.proofs.Common.{◌≡◌, ℕ, List, [], Option, Some, Result, refl, ap, ◌∙◌, subst}
 use Rattle.mb_wire.specs.Spans.{Span}
 use Rattle.sun_chain.specs.Scanning.Counters.{AsksCounter, ShowsCounter, shown_by, decode_counter}
@@ -8,7 +9,8 @@ use Rattle.sun_chain.specs.declared.scans.counter.CounterScale.{CounterScale}
 use Rattle.sun_chain.specs.declared.scans.counter.Shown.{Shown}
 use Rattle.sun_chain.proofs.ScanLemmas.Talking.{standing}
 
--- A new client has the state of a new link.
+-- A client without buffered bytes, whose next transaction identifier is 1, has the state of a new
+-- link to a device.
 begun_here : (bytes given : Option (List ℕ)) (open_bytes : List ℕ) (next : ℕ) → open_bytes ≡ [] → next ≡ 1 → standing bytes given open_bytes next ≡ fresh bytes given
 begun_here bytes given open_bytes next nothing first =
     ap (λ (o : List ℕ). standing bytes given o next) nothing ∙ ap (λ (n : ℕ). standing bytes given [] n) first

@@ -31,7 +31,7 @@ use Rattle.sun_chain.proofs.ScanLemmas.Gives.{got_both, part_after}
 use Rattle.sun_chain.proofs.ScanLemmas.Settles.{hears_both, hears_nothing}
 use Rattle.sun_chain.proofs.ScanLemmas.Potentials.{less_potential, potential}
 
--- Lemmas about the bytes written to the link.
+-- Lemmas about the bytes written to the link (the connection to a device).
 
 pub requests_one : {X E : Type 0} (unit : ℕ) (span : Span) (id : ℕ) (result : Result X E) (a b : Option (List ℕ)) → GotText result (request_under unit span id) a b → OnlyRequests unit span result a b
 requests_one unit span id result a b got =
@@ -77,7 +77,7 @@ wanted_holding (Ending at) span is = same_function span _ is
 wanted_holding (InModel model asked models) span is = same_function span _ is
 wanted_holding Over span is = cc
 
--- Lemmas about the bytes that arrive over the link.
+-- Lemmas about the bytes that arrive over the link (the connection to a device).
 
 pub hears_kept : (a b c : Option (List ℕ)) (r s came : List ℕ) → Keeps a b → Hears b c r s came → Hears a c r s came
 hears_kept a b c r s came kept heard = record {
@@ -100,7 +100,7 @@ garbles_kept a b c r kept garbles = record {
   bad = garbles.bad;
 }
 
--- All bytes that arrived over the link during a read.
+-- All bytes that arrived over the link to the device during a read.
 pub record Heard (a b : Line) : Type 0 where
   pub came : List ℕ
   pub hears : Hears a.bytes b.bytes a.open_bytes b.open_bytes came
@@ -171,8 +171,8 @@ talks_more : (unit : ℕ) (a : Line) (xs : List Exchange) (x : Exchange) (b c : 
 talks_more unit a [] x b c talk reads = (c, subst (λ (l : Line). Reads unit l c x.span x.words) (sym talk) reads, refl)
 talks_more unit a (first ∷ xs) x b c talk reads = (talk.0, talk.1, talks_more unit talk.0 xs x b c talk.2 reads)
 
--- True if the exchanges (the scan's reads and their results) lead to this state of the link, these
--- words and this stage.
+-- True if a scan's exchanges (reads and their results) lead to the given state of the link, the
+-- given words and the given stage.
 pub record Progress (unit : ℕ) (old now : Line) (word : Words) (stage : Stage) (exchanges : List Exchange) : Type 0 where
   pub asked : (later : List Exchange) → AsksInTurn word stage later → AsksInTurn nothing begun (exchanges ++ later)
   pub words : word ≡ words_reported nothing exchanges
@@ -207,7 +207,7 @@ progress_more unit old now next word later stage later_stage xs x before is read
       few = omega arith;
     }
 
--- Lemmas about a scan that is in progress.
+-- Lemmas about a scan for SunSpec models that is in progress.
 
 abbrev pub standing : (bytes given : Option (List ℕ)) (open_bytes : List ℕ) (next : ℕ) → Line
 standing bytes given open_bytes next = record { bytes = bytes; given = given; open_bytes = open_bytes; next = next }
@@ -299,14 +299,14 @@ pub part_of_all : (a b : Option (List ℕ)) (unit : ℕ) → ((inquiries : List 
 part_of_all a b unit inquires =
     (inquires.0, (flat_map (inquiry_frame unit) inquires.0, [], sym (append-nil (flat_map (inquiry_frame unit) inquires.0)), inquires.1))
 
--- Each read lowers the bound on the remaining reads.
+-- Each read of a scan lowers the bound on the number of remaining reads.
 pub smaller : (word : Words) (stage next : Stage) (span : Span) → wanted stage ≡ Some span → next ≡ stage_after word stage → potential next < potential stage
 smaller word stage next span is goes =
     let less : potential (stage_after word stage) + 125 ≤ potential stage = less_potential word stage span is in
     let same : potential next ≡ potential (stage_after word stage) = ap potential goes in
     omega arith
 
--- If a response has words, their number is the requested number.
+-- If a response has words, the number of these words is the requested number.
 pub seen_full : {Z : Type 0} (answer : Option (Vec ℕ Z)) (count : ℕ) → ((words : List ℕ) → words_seen answer ≡ Some words → length words ≡ count) → IfSome answer (λ words. length words.items ≡ count)
 seen_full None count full = tt
 seen_full (Some words) count full = full words.items refl

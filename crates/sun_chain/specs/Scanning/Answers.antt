@@ -10,14 +10,14 @@ use Rattle.mb_wire.specs.Spans.{Span, request_of, span_view}
 use Rattle.mb_wire.specs.declared.replies.ReplyFault.{ReplyFault}
 use Rattle.sun_chain.specs.declared.scans.tries.Try.{Try}
 
--- A read request as a value: its transaction identifier, its unit identifier, and the requested
--- registers.
+-- A Modbus read request as a value: the transaction identifier, the unit identifier, and the
+-- requested registers.
 pub record Ask : Type 0 where
   pub id : ℕ
   pub unit : ℕ
   pub span : Span
 
--- The value of a `Try`, which is one read request.
+-- The value of a `Try`, which is one Modbus read request.
 abbrev pub ask_of : Try → Ask
 ask_of attempt = record { id = attempt.id; unit = attempt.unit; span = span_view attempt.span }
 
@@ -46,22 +46,22 @@ words_in ask fields =
     then brought (answer_in (query_of (request_of ask.span)) fields.pdu)
     else None
 
--- The result of the request: the registers of the first frame with its transaction identifier,
--- possibly none. `None` if no frame has that identifier.
+-- The result of a request: the registers of the first frame with the request's transaction
+-- identifier, possibly none. `None` if no frame has that identifier.
 abbrev pub settled : Ask → List (List ℕ) → Option (Option (List ℕ))
 settled ask frames =
     option_map (λ frame. words_in ask (fields_of frame)) (find (is_reply ask) frames)
 
--- The first value if there is one, otherwise the second.
+-- The first of two optional values if it is present, otherwise the second.
 abbrev pub first_of : {X : Type 0} → Option X → Option X → Option X
 first_of None next = next
 first_of (Some x) next = Some x
 
--- The items of a vector of words, as a list.
+-- The words in a vector, as a list.
 abbrev pub items_of : {Z : Type 0} → Vec ℕ Z → List ℕ
 items_of words = words.items
 
--- The items of an optional vector of words, as a list, or `None` without a vector.
+-- The words in an optional vector, as a list, or `None` without a vector.
 abbrev pub words_seen : {Z : Type 0} → Option (Vec ℕ Z) → Option (List ℕ)
 words_seen words = option_map items_of words
 

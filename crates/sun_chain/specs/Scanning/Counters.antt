@@ -90,8 +90,8 @@ pub record ReadsCounter (unit : ℕ) (span : Span)
   pub given : end.given ≡ new_given
   pub shows : shown ≡ shown_by span.address words address scale
 
--- The effect of reading a counter whose registers are this span. Without a span, nothing is read
--- and `shown` is `None`.
+-- The effect of reading a counter whose registers are the given span. Without a span, nothing is
+-- read and `shown` is `None`.
 abbrev pub ShowsCounter : (unit : ℕ) → Option Span
     → (old_bytes old_given new_bytes new_given : Option (List ℕ))
     → (address : ℕ) → CounterScale → Option Shown → Type 0
@@ -100,8 +100,8 @@ ShowsCounter unit None old_bytes old_given new_bytes new_given address scale sho
 ShowsCounter unit (Some span) old_bytes old_given new_bytes new_given address scale shown =
     ReadsCounter unit span old_bytes old_given new_bytes new_given address scale shown
 
--- True if only requests for this span were written to the link. Without a span, nothing was
--- written.
+-- True if only requests for the given span of registers were written to the link to the device.
+-- Without a span, nothing was written.
 abbrev pub AsksCounter : {X E : Type 0} → (unit : ℕ) → Option Span → Result X E
     → (old new : Option (List ℕ)) → Type 0
 AsksCounter unit None result old new = new ≡ old

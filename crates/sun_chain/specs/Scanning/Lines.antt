@@ -16,16 +16,16 @@ use Rattle.sun_chain.specs.declared.scans.fault.ScanFault.TheVariants.{Gone, Fai
 use Rattle.sun_chain.specs.declared.scans.hearing.Turn.{Turn}
 use Rattle.sun_chain.specs.declared.scans.hearing.Turn.TheVariants.{Idle, More, Settled}
 
--- The state of a link and its client: `bytes` are the bytes that later reads will return, `given`
--- those written until now, `open_bytes` an incomplete frame, and `next` the next transaction
--- identifier. Bytes are `None` if unknown.
+-- The state of a link to a device and its client: `bytes` are the bytes that later reads will
+-- return, `given` those written until now, `open_bytes` an incomplete frame, and `next` the next
+-- transaction identifier. Bytes are `None` if unknown.
 pub record Line : Type 0 where
   pub bytes : Option (List ℕ)
   pub given : Option (List ℕ)
   pub open_bytes : List ℕ
   pub next : ℕ
 
--- The state of a link with these bytes and this client.
+-- The state of a link to a device with the given bytes and the given client.
 abbrev pub line : (bytes given : Option (List ℕ)) → Client → Line
 line bytes given client = record {
   bytes = bytes;
@@ -34,7 +34,8 @@ line bytes given client = record {
   next = client.next;
 }
 
--- True if the bytes `came` arrived over the link after the incomplete frame that was buffered.
+-- True if the bytes `came` arrived over the link to the device after the buffered bytes of an
+-- incomplete frame.
 pub record Hears (old_bytes new_bytes : Option (List ℕ)) (old_open new_open came : List ℕ) : Type 0
   where
     pub took : Consumes old_bytes new_bytes came
@@ -42,14 +43,14 @@ pub record Hears (old_bytes new_bytes : Option (List ℕ)) (old_open new_open ca
     pub is_open : IsOpen new_open
 
 -- States for each result of a turn whether the frames that arrived include the response to the
--- request. A turn is one read of the link.
+-- request. A turn is one read of the link to the device.
 abbrev pub TurnReports : Ask → List (List ℕ) → Turn → Type 0
 TurnReports ask frames Idle = settled ask frames ≡ None
 TurnReports ask frames More = settled ask frames ≡ None
 TurnReports ask frames (Settled answer) = settled ask frames ≡ Some (words_seen answer)
 
--- The effect of a turn, which is one read of the link. The result of the turn follows from the
--- frames that the new bytes complete.
+-- The effect of a turn, which is one read of the link to the device. The result of the turn follows
+-- from the frames that the new bytes complete.
 pub record HearsTurn (ask : Ask) (old_bytes new_bytes : Option (List ℕ))
     (old_open new_open : List ℕ) (turn : Turn) : Type 0 where
   pub came : List ℕ
@@ -75,12 +76,12 @@ pub record Garbles (old_bytes new_bytes : Option (List ℕ)) (old_open : List �
 abbrev pub next_id : ℕ → ℕ
 next_id id = (id + 1) % 65536
 
--- The next request for a span of registers over this link.
+-- The next Modbus request for a span of registers over a link to a device.
 abbrev pub ask : (unit : ℕ) → Line → Span → Ask
 ask unit line span = record { id = line.next; unit = unit; span = span }
 
--- The effect of one request: it is written, and `words` are the registers in the bytes that arrive
--- after it.
+-- The effect of one request: the request is written to the link to the device, and `words` are the
+-- registers in the bytes that arrive afterwards.
 pub record Tries (unit : ℕ) (old new : Line) (span : Span) (words : Option (List ℕ)) : Type 0 where
   pub asked : Appends old.given new.given (request_frame (ask unit old span))
   pub heard : HearsAnswer (ask unit old span) old.bytes new.bytes old.open_bytes new.open_bytes
@@ -107,12 +108,13 @@ abbrev pub AnswersRead : {Z E : Type 0} → (unit : ℕ) → Result (Option (Vec
 AnswersRead unit result old new span =
     IfOk result (λ answer. Reads unit old new span (words_seen answer))
 
--- The bytes of the request to a unit for a span of registers, with this transaction identifier.
+-- The bytes of the request to a unit for a span of registers, with the given transaction
+-- identifier.
 abbrev pub request_under : (unit : ℕ) → Span → (id : ℕ) → List ℕ
 request_under unit span id = request_frame (record { id = id; unit = unit; span = span })
 
--- True if at most two requests for this span, and nothing else, were written to the link. If the
--- call failed, the last request may be incomplete.
+-- True if at most two requests for the given span of registers, and nothing else, were written to
+-- the link to the device. If the call failed, the last request may be incomplete.
 abbrev pub OnlyRequests : {X E : Type 0} → (unit : ℕ) → Span → Result X E
     → (old new : Option (List ℕ)) → Type 0
 OnlyRequests unit span result old new =
@@ -135,14 +137,14 @@ inquiry_frame unit inquiry =
       span = holding inquiry.address inquiry.count;
     })
 
--- True if only requests for holding registers were written to the link. If the call failed, the
--- last request may be incomplete.
+-- True if only requests for holding registers were written to the link to the device. If the call
+-- failed, the last request may be incomplete.
 abbrev pub OnlyInquires : {X E : Type 0} → (unit : ℕ) → Result X E
     → (old new : Option (List ℕ)) → Type 0
 OnlyInquires unit result old new =
     (inquiries : List Inquiry) × GotText result (flat_map (inquiry_frame unit) inquiries) old new
 
--- True if the result is a failed read or write of the link.
+-- True if the result is a failed read or write of the link to the device.
 abbrev pub has_failed : {X : Type 0} → Result X ScanFault → Bool
 has_failed (Ok x) = false
 has_failed (Err Gone) = false

@@ -1,4 +1,4 @@
--- Defines a scan: a list of reads in order, and the words that they return.
+-- Defines a scan of a device: a list of reads in order, and the words that the reads return.
 use Rattle.std.specs.Prelude.{◌≡◌, ℕ, ◌≤◌, List, [], ◌∷◌, length, Some, None}
 use Rattle.std.specs.declared.option.Option.{Option}
 use Rattle.mb_wire.specs.Spans.{Span}
@@ -13,7 +13,7 @@ use Rattle.sun_chain.specs.declared.scans.scanning.TheConstants.{MOST_READS}
 abbrev pub words_of : Scan → Words
 words_of scan = word_in scan.image
 
--- The stage of a scan, which determines its next read.
+-- The stage of a scan of a device, which determines the scan's next read.
 abbrev pub stage_of : Scan → Stage
 stage_of scan = scan.stage
 
@@ -42,8 +42,8 @@ abbrev pub words_reported : Words → List Exchange → Words
 words_reported word [] = word
 words_reported word (exchange ∷ exchanges) = words_reported (words_after word exchange) exchanges
 
--- True if the stage requires each read, given the words read until then, and requires no read after
--- the last.
+-- True if a scan requires each read of a list in turn, given the words read until then, and
+-- requires no read after the last.
 abbrev pub AsksInTurn : Words → Stage → List Exchange → Type 0
 AsksInTurn word stage [] = wanted stage ≡ None
 AsksInTurn word stage (exchange ∷ exchanges) =
@@ -52,19 +52,19 @@ AsksInTurn word stage (exchange ∷ exchanges) =
     (stage_after (words_after word exchange) stage)
     exchanges
 
--- The effects of a list of reads on the link, one after another.
+-- The effects of a list of reads on the link to the device, one after another.
 abbrev pub Talks : (unit : ℕ) → Line → List Exchange → Line → Type 0
 Talks unit old [] new = old ≡ new
 Talks unit old (exchange ∷ exchanges) new =
     (mid : Line) × Reads unit old mid exchange.span exchange.words × Talks unit mid exchanges new
 
--- The state of a new link: no incomplete frame is buffered, and the next transaction identifier is
--- 1.
+-- The state of a new link to a device: no incomplete frame is buffered, and the next transaction
+-- identifier is 1.
 abbrev pub fresh : (bytes given : Option (List ℕ)) → Line
 fresh bytes given = record { bytes = bytes; given = given; open_bytes = []; next = 1 }
 
--- The effect of a scan over a new link: the scan executes a list of reads, and `word` has the words
--- that they return.
+-- The effect of a scan over a new link to a device: the scan executes a list of reads, and `word`
+-- has the words that they return.
 pub record Scans (unit : ℕ) (old_bytes old_given new_bytes new_given : Option (List ℕ))
     (word : Words) : Type 0 where
   pub exchanges : List Exchange

@@ -8,7 +8,7 @@ ghost use Rattle.sun_chain.specs.Scanning.Answers.{ask_of, request_frame};
 use crate::scans::tries::Try;
 use mb_wire::{Link, LinkFailed, MAX_ADU, MAX_PDU, encode_request, give_all, write_frame};
 
-/// Writes the frame of a read request to the link.
+/// Writes the frame of a read request to the link to the device.
 pub(crate) fn give_request<L: Link>(link: &mut L, attempt: Try) -> Result<(), LinkFailed>
     ensures given { GotText result (request_frame (ask_of attempt))
         (L.given link.old) (L.given link.new) }

@@ -13,8 +13,8 @@ use crate::scans::tries::Try;
 use mb_wire::{FrameReader, Link, LinkFailed, ReadSpan};
 use std::alloc::Global;
 
-/// A Modbus client on one link: the bytes of an incomplete frame, the unit identifier, and the next
-/// transaction identifier.
+/// A Modbus client on one link to a device: the bytes of an incomplete frame, the unit identifier,
+/// and the next transaction identifier.
 #[derive(Drop)]
 pub(crate) struct Client {
     reader: FrameReader,

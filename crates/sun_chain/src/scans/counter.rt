@@ -116,15 +116,13 @@ fn decode_counter(first: u16, words: &[u16], address: u16, scale: CounterScale) 
     }
 }
 
-/// Reads a counter of a unit over a new link: two registers from `address`, high word first, and
-/// the register of the scale. One read requests all of these registers, and is retried once if it
-/// returns no words.
+/// Reads a counter of a unit over a new link (the connection to a device): two registers from
+/// `address`, high word first, and the register of the scale. One read requests all of these
+/// registers, and is retried once if it returns no words.
 ///
-/// Returns `None` in these cases:
-/// - Both tries returned no words.
-/// - The scale's register is not implemented.
-/// - The scale is not from -3 to 3.
-/// - No single Modbus read can request all registers. In this case no request is sent.
+/// Returns `None` in these cases: - Both tries returned no words. - The scale's register is not
+/// implemented. - The scale is not from -3 to 3. - No single Modbus read can request all registers.
+/// In this case no request is sent.
 pub fn read_counter<L: Link>(
     alloc: Global,
     link: &mut L,

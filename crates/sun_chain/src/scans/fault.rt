@@ -8,7 +8,7 @@ use std::fmt::{Display, Formatter};
 pub enum ScanFault {
     /// The device closed the connection.
     Gone,
-    /// A read or a write of the link failed, or a write accepted no bytes.
+    /// A read or a write of the link to the device failed, or a write accepted no bytes.
     Failed,
     /// A length field in the bytes from the device is out of range.
     Garbled,

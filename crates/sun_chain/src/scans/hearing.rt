@@ -19,16 +19,16 @@ use mb_wire::{
 };
 use std::alloc::{AllocError, Global};
 
-/// The maximum number of reads of the link while waiting for one response.
+/// The maximum number of reads of the link to the device while waiting for one response.
 pub const MOST_TAKES: u64 = 1000;
 
 /// The registers in a device's response, or `None` if the response has none.
 pub(crate) type Answer = Option<Vec<u16>>;
 
-/// The result of one read of the link while waiting for a response.
+/// The result of one read of the link to the device while waiting for a response.
 #[derive(Drop)]
 pub(crate) enum Turn {
-    /// The read of the link timed out.
+    /// The read of the link to the device timed out.
     Idle,
     /// Bytes arrived, but no complete response to the request.
     More,
@@ -157,8 +157,8 @@ fn hear_turn<L: Link>(
     }
 }
 
-/// Reads the link until the response to the request arrives or a read times out, at most
-/// `MOST_TAKES` times. Returns the registers in the response, or `None`.
+/// Reads the link to the device until the response to the request arrives or a read times out, at
+/// most `MOST_TAKES` times. Returns the registers in the response, or `None`.
 pub(crate) fn hear<L: Link>(
     alloc: Global,
     link: &mut L,

@@ -1,4 +1,5 @@
-//! Chooses the next read of a scan, and stores the responses in a memory image.
+//! Chooses the next read of a scan, and stores the responses in a memory image (the words read from
+//! a device).
 ghost use Rattle.std.specs.Prelude.{◌≡◌, ◌<◌, ◌≤◌, ◌+◌, ◌-◌, ℕ, length, min, Some, None, IfSome, IsSome, IsTrue, OnOk, OnErr};
 ghost use Rattle.std.specs.Option.{option_map};
 ghost use Rattle.mb_wire.specs.Spans.{span_view};
@@ -34,7 +35,7 @@ pub struct Scan {
 impl Scan {
     ghost use Rattle.sun_chain.specs.Scanning.Scans.{stage_of, words_of};
 
-    /// Creates a scan that has read no words yet.
+    /// Creates a scan of a device that has read no words yet.
     pub fn new(alloc: Global) -> Self
         ensures words { (address : ℕ) → words_of result address ≡ None }
         ensures stage { stage_of result ≡ begun }
@@ -62,7 +63,7 @@ impl Scan {
     }
 
     /// Returns the model whose registers the scan reads next. Returns `None` if the next read is of
-    /// a mark or a head, or the scan is over.
+    /// the `SunS` mark or of a model's ID and length, or if the scan is over.
     pub fn model(&self) -> Option<Model>
         ensures { result ≡ model_of (stage_of self.now) }
     {
@@ -94,7 +95,8 @@ impl Scan {
         }
     }
 
-    /// Records that the device returned no words for the scan's next read.
+    /// Records that the device returned no words for the scan's next read, so that the scan
+    /// continues without them.
     pub fn unread(&mut self)
         ensures words { (address : ℕ) → words_of self.new address ≡ words_of self.old address }
         ensures stage { stage_of self.new ≡ stage_after (words_of self.new) (stage_of self.old) }
@@ -154,8 +156,8 @@ fn after_mark(image: &Image, address: u16) -> Stage
     }
 }
 
-// Returns the stage after a base address without the `SunS` mark. The search ends after base
-// address 0.
+// Returns the stage of a scan after a base address without the `SunS` mark. The search ends after
+// base address 0.
 fn other_mark(address: u16) -> Stage
     ensures stage { result ≡ other_mark address }
     ensures inside { IsTrue (fits result) }
@@ -183,8 +185,9 @@ fn after_head(image: &Image, address: u16, models: u8) -> Stage
     }
 }
 
-// Returns the stage after a model's head was not read. The next read is of the ID alone, because
-// the end of the chain may be the device's last register. At address 65535 the scan is over.
+// Returns the stage of a scan after a model's head (ID and length) was not read. The next read is
+// of the ID alone, because the end of the chain may be the device's last register. At address 65535
+// the scan is over.
 fn ending_at(address: u16) -> Stage
     ensures stage { result ≡ ending_at address }
     ensures inside { IsTrue (fits result) }
@@ -217,8 +220,8 @@ fn model_in(image: &Image, address: u16, models: u8) -> Option<Model>
     }
 }
 
-// Returns the stage after the head (ID and length) of a model was read. The registers are read only
-// if the model's points are known.
+// Returns the stage of a scan after the head (ID and length) of a model was read. The registers are
+// read only if the model's points are known.
 fn in_model(model: Model, models: u8) -> Stage
     requires inside { next_after model ≤ ADDRESSES }
     requires few { models ≤ 64 }

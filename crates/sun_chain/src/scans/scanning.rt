@@ -21,7 +21,7 @@ use std::alloc::{AllocError, Global};
 /// of models, and one for the end's ID. The other reads are for the registers of 64 models.
 pub const MOST_READS: u64 = 657;
 
-/// An observer of the progress of a scan.
+/// An observer that receives each model that a scan is about to read, to display the progress.
 pub trait ScanObserver {
     fn reads(&mut self, model: Model);
 }
@@ -49,9 +49,9 @@ fn take_in(scan: &mut Scan, span: ReadSpan, answer: Answer) -> Result<(), AllocE
     }
 }
 
-/// Scans a unit over a new link: the `SunS` mark, the ID and length of each model, and the
-/// registers of known models. A read that returns no words is retried once. The image has exactly
-/// the words of the responses.
+/// Scans a unit over a new link to a device: the `SunS` mark, the ID and length of each model, and
+/// the registers of known models. A read that returns no words is retried once. The image has
+/// exactly the words of the responses.
 pub fn scan_over<L: Link, W: ScanObserver>(
     alloc: Global,
     link: &mut L,

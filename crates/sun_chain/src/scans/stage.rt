@@ -4,15 +4,15 @@ use crate::Model;
 /// The kind of words that a scan reads next.
 #[derive(Clone, Copy, PartialEq, Eq)]
 pub(crate) enum Stage {
-    /// The `SunS` mark, at this base address.
+    /// The scan next reads the `SunS` mark at this base address.
     Mark(u16),
-    /// The ID and length of the next model, or the end of the chain, at this address. The second
-    /// number counts the earlier models.
+    /// The scan next reads the ID and length of a model, or the end of the chain, at this address.
+    /// The second number counts the earlier models.
     Head(u16, u8),
-    /// The ID at this address alone, because it may end the chain.
+    /// The scan next reads the ID at this address alone, because it may end the chain.
     Ending(u16),
-    /// The registers of a model, after this number of them was read. The last number counts the
-    /// models until now.
+    /// The scan next reads registers of a model, after this number of them was read. The last
+    /// number counts the models until now.
     Registers(Model, u16, u8),
     /// The scan is over.
     Over,

@@ -1,7 +1,7 @@
-//! One request of a read of a device's registers.
+//! One Modbus request of a read of a device's registers.
 use mb_wire::ReadSpan;
 
-/// One request of a read: its transaction identifier, its unit identifier, and the requested
+/// One Modbus request of a read: its transaction identifier, its unit identifier, and the requested
 /// registers.
 #[derive(Clone, Copy)]
 pub(crate) struct Try {

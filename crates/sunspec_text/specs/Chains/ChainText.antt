@@ -34,19 +34,20 @@ model_line model =
 abbrev pub model_lines : Words → Model → List ℕ
 model_lines word model = model_line model ++ flat_map point_line (points_in word model)
 
--- The lines of a SunSpec chain: its base address, its models, and the address of its end.
+-- The lines that are printed for a SunSpec chain: its base address, its models, and the address of
+-- its end.
 abbrev pub chain_lines : Words → ℕ → List Model → ℕ → List ℕ
 chain_lines word base models end =
     codes "base " ++ decimal base ++ codes "\n" ++ flat_map (model_lines word) models
     ++ codes "end "
     ++ decimal end ++ codes "\n"
 
--- The lines of a SunSpec chain that was parsed from a device's Modbus registers.
+-- The lines that are printed for a SunSpec chain that was parsed from a device's Modbus registers.
 abbrev pub lines_of : Chain → List ℕ
 lines_of chain =
     chain_lines (words_of chain) (base_of chain) (models_of chain) (end_of chain)
 
--- The part of a fault's line that names the faulty Modbus address, after a space. Empty if the
+-- The part of a printed fault that names the faulty Modbus address, after a space. Empty if the
 -- fault concerns no single address.
 abbrev pub place_text : ChainFault → List ℕ
 place_text NoMark = []
@@ -93,8 +94,8 @@ abbrev pub LinesPrint : Result Words ℕ → (printed : List ℕ) → ExitStatus
 LinesPrint (Err number) printed status = (status ≡ Refused) × (printed ≡ bad_line number)
 LinesPrint (Ok word) printed status = WordsPrint word printed status
 
--- States the output for an input that describes Modbus registers. The output is `too long` if the
--- input exceeds the maximum length.
+-- States the output for a complete input, which describes Modbus registers. The output is `too
+-- long` if the input exceeds the maximum length.
 pub record ChainPrints (input printed : List ℕ) (status : ExitStatus) : Type 0 where
   pub long : most_bytes < length input → (status ≡ Refused) × (printed ≡ too_long)
   pub lines : length input ≤ most_bytes

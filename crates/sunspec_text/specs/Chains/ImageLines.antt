@@ -68,8 +68,8 @@ words_after_put word put =
 abbrev pub words_after : Words → List ℕ → Option Words
 words_after word line = option_and_then (words_after_put word) (write_of line)
 
--- Applies the next parsing step to the register image. If there is no image, returns the number of
--- the malformed line.
+-- Applies the next parsing step to a register image. If there is no image because a line was
+-- malformed, returns the number of this line.
 abbrev pub or_bad_line : Option Words → ℕ → (Words → Result Words ℕ) → Result Words ℕ
 or_bad_line None number goes_on = Err number
 or_bad_line (Some word) number goes_on = goes_on word

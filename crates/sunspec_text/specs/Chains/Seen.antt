@@ -18,8 +18,8 @@ seen_put put = record { address = put.address; words = put.words.items }
 abbrev pub ReportsImage : (text : List ℕ) → Image → Type 0
 ReportsImage text image = words_reported nothing_read (speaking_lines text) ≡ Ok (word_in image)
 
--- States that a line is malformed or extends past address 65,535, and that `number` is the line's
--- number.
+-- States that a line `ADDRESS HEX` is malformed or extends past address 65,535, and that `number`
+-- is the line's number.
 pub record IsBad (word : Words) (line : Line) (number : ℕ) : Type 0 where
   pub number_of : number ≡ line.number
   pub wrong : words_after word line.text ≡ None
@@ -30,12 +30,12 @@ abbrev pub ExplainsLine : LoadFault → Words → Line → Type 0
 ExplainsLine (BadLine number) word line = IsBad word line number
 ExplainsLine Memory word line = Unit {0}
 
--- States that the fault explains why the lines give no register image. The fault has the number of
--- the first malformed line, or memory ran out.
+-- States that the fault explains why the lines describe no register image: a line is malformed (the
+-- fault has the first such line's number), or memory ran out.
 abbrev pub Explains : LoadFault → Result Words ℕ → Type 0
 Explains (BadLine number) reported = reported ≡ Err number
 Explains Memory reported = Unit {0}
 
--- States that the fault explains why the lines of the text give no register image.
+-- States that the fault explains why the lines of a text describe no register image.
 abbrev pub ExplainsText : (text : List ℕ) → LoadFault → Type 0
 ExplainsText text fault = Explains fault (words_reported nothing_read (speaking_lines text))

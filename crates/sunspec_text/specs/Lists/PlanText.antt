@@ -61,7 +61,7 @@ point_line placed =
     codes "point " ++ placed.point.name ++ codes " " ++ decimal (placed.read + 1) ++ codes " "
     ++ decimal placed.offset ++ codes "\n"
 
--- States that the writer received some text for which `Prints` is true.
+-- States that the writer received a text, and that the property `Prints` holds for this text.
 abbrev pub Writes : (Prints : List ℕ → Type 0) → (output output' : Option (List ℕ)) → Type 0
 Writes Prints output output' =
     (printed : List ℕ) × Appends output output' printed × Prints printed
@@ -90,7 +90,7 @@ pub record PlanPrints (list : List ListedPoint) (printed : List ℕ) : Type 0 wh
   pub lawful : IsLawful (runs_of list) (items_of list) (read_runs reads)
   pub lines : LinesPrint list reads printed
 
--- States that a valid point list prints its plan, with status `Fine`.
+-- States that a valid point list prints its plan of Modbus reads, with status `Fine`.
 pub record PrintsPlan (list : List ListedPoint) (printed : List ℕ) (status : ExitStatus) :
     Type 0 where
   pub fine : status ≡ Fine

@@ -18,7 +18,7 @@ use Rattle.sunspec_text.specs.declared.scans.scan_printout.ScanForm.{ScanForm}
 use Rattle.sunspec_text.specs.declared.scans.scan_printout.ScanForm.TheVariants as form
 
 -- States that a device's Modbus registers contain a chain of SunSpec models, and that these models
--- satisfy `P`.
+-- have the property `P`.
 abbrev pub WithChain : Words → (List Model → Type 0) → Type 0
 WithChain word P =
     (base : ℕ) × (models : List Model) × (end : ℕ) × IsChain word base models end × P models
@@ -57,22 +57,22 @@ RowsPrint rows printed Fine = ⊥
 RowsPrint rows printed Refused = printed ≡ flat_map fault_line rows
 RowsPrint rows printed Failed = ⊥
 
--- States that the exit status is `Fine`, and allows any setup lines as output. Only tests check the
--- text of setup lines.
+-- States that the exit status is `Fine`, and allows any setup lines (which add a device to
+-- `sunreg`) as output. Only tests check the text of setup lines.
 abbrev pub LinesPrint : (printed : List ℕ) → ExitStatus → Type 0
 LinesPrint printed Fine = Unit {0}
 LinesPrint printed Refused = ⊥
 LinesPrint printed Failed = ⊥
 
 -- States that the output for a device's Modbus registers has the requested form: a SunSpec chain, a
--- point list or setup lines.
+-- point list, or setup lines (which add the device to `sunreg`).
 abbrev pub FormPrints : ScanForm → Words → (printed : List ℕ) → ExitStatus → Type 0
 FormPrints form.Chain word printed status = WordsPrint word printed status
 FormPrints form.List word printed status = ListPrints word printed status
 FormPrints (form.Setup site) word printed status = SetupPrints word printed status
 
--- States that a scan read a device's Modbus registers over a link and wrote the requested output,
--- or that the scan failed.
+-- States that a scan read a device's Modbus registers over a connection and wrote the requested
+-- output, or that the scan failed.
 pub record ScanPrints {P : Type 0} (p : printers.Ghosts P) (unit : ℕ) (form : ScanForm)
     (old_bytes old_given new_bytes new_given : Option (List ℕ)) (old new : P) (status : ExitStatus)
     : Type 0 where

@@ -1,4 +1,5 @@
-//! Scans a live SunSpec device, and prints its chain, its point list or its setup lines.
+//! Scans a live SunSpec device, and prints its chain of models, its point list, or its setup lines
+//! (which add the device to `sunreg`).
 ghost use Rattle.std.specs.Prelude.{◌≡◌, ◌≤◌, ◌+◌, ◌*◌, [], Err, IfOk, OnErr};
 ghost use Rattle.command_io.specs.Printing.{PrintsAs, PrintsOn};
 ghost use Rattle.sun_chain.specs.Scanning.Lines.{Garbles, OnlyInquires, has_failed, is_gone};
@@ -24,18 +25,18 @@ use sun_chain::{Chain, Image, walk};
 pub enum ScanForm<'a> {
     /// The chain of SunSpec models, in the format of `chain_text`.
     Chain,
-    /// The point list of the chain, in CSV.
+    /// The list of the points in the SunSpec chain, in CSV.
     List,
     /// The script lines that set up the device and its energy counters.
     Setup(Site<'a>),
 }
 
-/// Scans the device with a unit identifier over a new link, and prints its chain of SunSpec models
-/// in the requested form.
+/// Scans the device with a unit identifier over a new connection, and prints its chain of SunSpec
+/// models in the requested form.
 ///
 /// Prints only `fault N` if the device has no valid chain, and only `row R fault N` if its list
-/// would have too many points. If the link fails, ends or carries no Modbus, returns the fault and
-/// prints nothing.
+/// would have too many points. If the connection fails, ends or carries no Modbus, returns the
+/// fault and prints nothing.
 pub fn scan_text<L: Link, V: ScanObserver, P: Printer>(
     alloc: Global,
     link: &mut L,
@@ -61,8 +62,8 @@ pub fn scan_text<L: Link, V: ScanObserver, P: Printer>(
     }
 }
 
-// Builds the complete output for an image of Modbus registers in memory, and then prints this
-// output as a chain, a point list or setup lines.
+// Builds the complete output for an image of Modbus registers in memory, and then prints it: a
+// SunSpec chain, a point list, or setup lines (which add a device to `sunreg`).
 fn print_scanned<P: Printer>(
     alloc: Global,
     image: &Image,
@@ -77,8 +78,8 @@ fn print_scanned<P: Printer>(
     print_end(&lines, meant, output)
 }
 
-// Writes the output for an image of Modbus registers, as a SunSpec chain, a point list or setup
-// lines.
+// Writes the output for an image of Modbus registers: a SunSpec chain, a point list, or setup lines
+// (which add a device to `sunreg`).
 fn print_form<W: Write>(
     alloc: Global,
     image: &Image,

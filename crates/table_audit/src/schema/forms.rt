@@ -1,10 +1,10 @@
-//! Short forms of the tables and indexes that the program creates.
+//! Short descriptions of the tables and indexes that the program creates.
 use sqlite_schema::schema::Kind;
 
 /// A column of a STRICT table: its name and type. It is NOT NULL and has no default.
 pub type ColumnForm = (&'static str, Kind);
 
-/// A foreign key. Its columns are indices into a row, which begins with the rowid.
+/// A foreign key of a table. Its columns are indices into a row, which begins with the rowid.
 #[derive(Clone, Copy)]
 pub struct KeyForm {
     pub columns: &'static [usize],

@@ -359,7 +359,7 @@ fn is_voids(table: &Table) -> bool
     )
 }
 
-/// Compares the tables of a schema with the program's. Names the first table that differs.
+/// Compares the tables of a schema with the program's tables. Names the first table that differs.
 pub(crate) fn check_tables(tables: &[Table]) -> Result<(), SchemaFault>
     ensures same { OnOk result (tables.now ≡ books_schema.tables) }
     ensures other { IfErr result (λ fault. tables.now ≢ books_schema.tables) }
@@ -382,7 +382,7 @@ pub(crate) fn check_tables(tables: &[Table]) -> Result<(), SchemaFault>
     check_meters(rest)
 }
 
-// Compares the tables from `installations` on.
+// Compares the table `installations` and the tables after it with the program's tables.
 fn check_meters(tables: &[Table]) -> Result<(), SchemaFault>
     ensures same { OnOk result (tables.now ≡ drop 4 books_schema.tables) }
     ensures other { IfErr result (λ fault. tables.now ≢ drop 4 books_schema.tables) }
@@ -402,7 +402,7 @@ fn check_meters(tables: &[Table]) -> Result<(), SchemaFault>
     check_polls(rest)
 }
 
-// Compares the tables from `holds` on.
+// Compares the table `holds` and the tables after it with the program's tables.
 fn check_polls(tables: &[Table]) -> Result<(), SchemaFault>
     ensures same { OnOk result (tables.now ≡ drop 7 books_schema.tables) }
     ensures other { IfErr result (λ fault. tables.now ≢ drop 7 books_schema.tables) }
@@ -422,7 +422,7 @@ fn check_polls(tables: &[Table]) -> Result<(), SchemaFault>
     check_last(rest)
 }
 
-// Compares the tables from `replies` on.
+// Compares the table `replies` and the tables after it with the program's tables.
 fn check_last(tables: &[Table]) -> Result<(), SchemaFault>
     ensures same { OnOk result (tables.now ≡ drop 10 books_schema.tables) }
     ensures other { IfErr result (λ fault. tables.now ≢ drop 10 books_schema.tables) }

@@ -10,8 +10,9 @@ use Rattle.interval_core.proofs.OrderLemmas.{earlier-take, le_from_cmp, lt_from_
 use Rattle.interval_core.proofs.PlaceLemmas.{NotEarlier, account-at}
 use Rattle.interval_core.proofs.totals.place_of.Goals as goal
 
--- No day account from an index on is of an earlier day, if this holds for the day account at the
--- index and for all later day accounts.
+-- Suppose that no day account (the energy of a civil day) at or after the next index is of an
+-- earlier day. If the account at an index is not either, no account from this index on is of an
+-- earlier day.
 one_more : (day : ℤ) (accounts : List DayAccount) (n : ℕ) (d : DayAccount) → n < length accounts → day ≤ℤ (get_or accounts n d).day
     → All (NotEarlier day) (drop (suc n) accounts) → All (NotEarlier day) (drop n accounts)
 one_more day accounts n d within here others =

@@ -1,4 +1,5 @@
--- The joint report of several files about a meter that continues from each file into the next.
+-- Lemmas on the joint report of several database files about a meter that continues from each file
+-- into the next.
 use Rattle.std.proofs.Common.{◌≡◌, ℕ, ◌+◌, ◌≤◌, false, List, [], ◌∷◌, ◌++◌, map, refl, sym, ap, subst, ◌∙◌, arith}
 use Rattle.energy_core.specs.declared.entries.Entry.{Entry}
 use Rattle.energy_core.specs.declared.entries.Last.{Last}
@@ -24,8 +25,8 @@ use Rattle.meter_journal.proofs.AuditLemmas.CarriedLemmas.Fitting.{carried_journ
 use Rattle.meter_journal.proofs.AuditLemmas.CarriedLemmas.Over.{well_carried}
 use Rattle.meter_journal.proofs.AuditLemmas.CarriedLemmas.Quarters.{carries_go_on}
 
--- The tables report the state of a list of entries that were recorded one after another, without
--- voids.
+-- The tables of a meter report the state after a list of entries that were recorded one after
+-- another, none of them voided (cancelled).
 record AreEntered (meter : Installed) (tables : Tables) : Type 0 where
   pub rows : List EntryRow
   pub fit : AreFitting meter (entering rows)
@@ -34,7 +35,8 @@ record AreEntered (meter : Installed) (tables : Tables) : Type 0 where
   pub intervals : tables.intervals ≡ interval_rows meter (entering rows)
   pub ended : tables.ended ≡ has_closing (entering rows)
 
--- Consistent tables of one file report the state of a list of entries without voids.
+-- Consistent tables of one database file report the state of a meter after a list of entries, none
+-- of them voided (cancelled).
 fine_entered : (meter : Installed) (tables : Tables) → AreFine meter tables → AreEntered meter tables
 fine_entered meter tables fine =
     let alone = matching_rows_are_independent meter fine.rows fine.fit in
@@ -48,8 +50,6 @@ fine_entered meter tables fine =
       ended = ap (λ (t : Tables). t.ended) fine.are ∙ alone_ended meter fine.rows fine.fit;
     }
 
--- ---- entries that follow the entries of another file
-
 moved_entering : (count : ℕ) (rows : List EntryRow) → map (moved_line count) (entering rows) ≡ entering rows
 moved_entering count [] = refl
 moved_entering count (row ∷ rows) = ap (λ (lines : Journal). Entered row.kind row.entry ∷ lines) (moved_entering count rows)
@@ -58,8 +58,8 @@ entering_both : (new old : List EntryRow) → entering new ++ entering old ≡ e
 entering_both [] old = refl
 entering_both (row ∷ new) old = ap (λ (lines : Journal). Entered row.kind row.entry ∷ lines) (entering_both new old)
 
--- If the energy after the last entry is within the limit, so is the energy after each earlier
--- entry, because no entry lowers the energy.
+-- If a meter's total energy after the last entry is within the limit, so is the energy after each
+-- earlier entry, because no entry lowers the energy.
 within : (meter : Installed) (lines : Journal) (rows : List EntryRow) → IsWellInstalled (carried meter lines)
     → AreFitting (carried meter lines) (entering rows)
     → total_in meter lines + total_in (carried meter lines) (entering rows) ≤ MAX_TOTAL
@@ -72,8 +72,6 @@ within meter lines (row ∷ rows) well fit le =
       within meter lines rows well fit.1
           (omega (arith, le, whole_with now row.entry (entries_of now.opening (entering rows)) follow)),
     )
-
--- ---- one more file
 
 same_meter : (m n : Installed) → m.range ≡ n.range → m.ceiling ≡ n.ceiling → m.opening ≡ n.opening → m ≡ n
 same_meter m n range ceiling opening =
@@ -126,14 +124,12 @@ one_more meter old new well before unended range ceiling opening h le =
     joined_entered meter old new.tables before.rows there.rows well before.fit before.total before.intervals before.ended unended
     there.fit there.last there.total there.intervals there.ended le
 
--- ---- all files
-
 total_grows : (old : Tables) (later : List InFile) → old.total ≤ (entry_from_all_rows old later).total
 total_grows old [] = omega arith
 total_grows old (new ∷ later) = omega (arith, total_grows (reported_by_both old new.tables) later)
 
--- The joint report of several files is that of recorded entries, if the meter continues in each
--- file from the file before it.
+-- The joint report of several database files about a meter is that of recorded entries, if the
+-- meter continues in each file from the file before it.
 all_entered : (meter : Installed) (so_far : Tables) (old : InFile) (later : List InFile) → IsWellInstalled meter
     → AreEntered meter so_far → so_far.last ≡ old.tables.last → so_far.ended ≡ old.tables.ended
     → old.meter.range ≡ meter.range → old.meter.ceiling ≡ meter.ceiling

@@ -1,4 +1,4 @@
--- Worked examples of a meter in two and in three files, computed from the definitions.
+-- Worked examples of a meter in two and in three database files, computed from the definitions.
 use Rattle.std.proofs.Common.{◌≡◌, ℕ, pos, true, List, [], ◌∷◌, map, Some, None, refl, ap, arith}
 use Rattle.std.proofs.lemmas.Int.{ints}
 use Rattle.energy_core.specs.declared.entries.Entry.TheVariants as entry
@@ -33,8 +33,8 @@ share start mwh = record { start = start; mwh = mwh }
 abbrev house : Installed
 house = installed 1000 5000
 
--- The journal in the old file. Its last entry, at 2550 s, is voided, so the meter continues in the
--- new file from 2500 s.
+-- The meter's journal in the old database file. Its last entry, at 2550 s, is voided (cancelled),
+-- so the meter continues in the new file from 2500 s.
 abbrev old : Journal
 old = Voided 4 ∷ read 2550 5305 ∷ read 2500 5300 ∷ read 1900 5200 ∷ []
 
@@ -56,8 +56,8 @@ old_fits = (
 carried_at_2500 : carried house old ≡ installed 2500 5300
 carried_at_2500 = refl
 
--- The journal in the new file: two readings, the first of them in the quarter hour in which the
--- files change.
+-- The meter's journal in the new database file: two readings, the first of them in the quarter hour
+-- in which the files change.
 abbrev new : Journal
 new = read 3600 5400 ∷ read 2600 5310 ∷ []
 
@@ -73,7 +73,7 @@ new_intervals : interval_rows (installed 2500 5300) new ≡ share 1800 19000 ∷
 unfolding unit_of
 new_intervals = refl
 
--- The quarter hour from 1800 s, in which the files change, has the energy of both files.
+-- The quarter hour from 1800 s, in which the database files change, has the energy of both files.
 intervals_of_both : interval_rows house (joined_journal old new) ≡ share 900 177777 ∷ share 1800 141223 ∷ share 2700 81000 ∷ []
 unfolding unit_of
 intervals_of_both = refl
@@ -82,13 +82,14 @@ total_of_both : total_in house (joined_journal old new) ≡ 400000
 unfolding unit_of
 total_of_both = refl
 
--- Entry 2 of the new file has sequence number 5 in the joined journal, because the old file has
--- three entries.
+-- Entry 2 of the new file has sequence number 5 in the joined history of both files, because the
+-- old file has entries 2 to 4.
 void_of_both : joined_journal old (Voided 2 ∷ new)
     ≡ Voided 5 ∷ read 3600 5400 ∷ read 2600 5310 ∷ Voided 4 ∷ read 2550 5305 ∷ read 2500 5300 ∷ read 1900 5200 ∷ []
 void_of_both = refl
 
--- A void that is lawful in the new file is also lawful in the joined journal.
+-- A void (the cancellation of an entry) that the rules accept in the new database file is also
+-- accepted in the joined history of both files.
 void_fits : AreFitting (installed 2500 5300) (Voided 2 ∷ new)
 unfolding unit_of
 void_fits = (
@@ -111,13 +112,11 @@ well_installed = record { raw = omega arith; scale = (grind (arith, ints), grind
 void_of_both_fits : AreFitting house (joined_journal old (Voided 2 ∷ new))
 void_of_both_fits = carried_journals_fit house old (Voided 2 ∷ new) well_installed old_fits refl void_fits stays_within
 
--- After a void in the new file, the joined journal has the energy from 2500 s to 3600 s in one
--- step. Before the void, it had two steps.
+-- After an entry of the new file is voided (cancelled), one step leads from 2500 s to 3600 s in the
+-- joined history of both files. Before, two steps had this energy.
 void_intervals : interval_rows house (joined_journal old (Voided 2 ∷ new)) ≡ share 900 177777 ∷ share 1800 140404 ∷ share 2700 81819 ∷ []
 unfolding unit_of
 void_intervals = refl
-
--- ---- a meter in three files
 
 abbrev file : Installed → List EntryRow → InFile
 file meter rows = record { meter = meter; tables = tables_of meter rows }
@@ -137,7 +136,8 @@ second_goes_on = record { unended = refl; range = refl; ceiling = refl; opening 
 third_goes_on : GoesOnAs second.meter second.tables.last second.tables.ended third.meter
 third_goes_on = record { unended = refl; range = refl; ceiling = refl; opening = refl }
 
--- The meter of the third file does not continue from the first file if the second file is left out.
+-- The meter of the third file does not continue from the first database file if the second file is
+-- left out.
 third_not_after_first : GoesOnAs house first.tables.last first.tables.ended third.meter → ⊥
 third_not_after_first h = let at : 3600 ≡ 2500 = ap (λ (l : Last). l.at) h.opening in omega (arith, at)
 
@@ -153,6 +153,7 @@ three_intervals : reported_by_three.intervals ≡ share 900 177777 ∷ share 180
 unfolding unit_of
 three_intervals = refl
 
--- The opening rows of later files are not entries of the joint report.
+-- The opening rows (first entries) of a meter in later database files are not entries of the joint
+-- report of all files.
 three_places : map (λ (reported : TableRow). reported.place) reported_by_three.entries ≡ 6 ∷ 5 ∷ 4 ∷ 3 ∷ 2 ∷ 1 ∷ []
 three_places = refl

@@ -1,5 +1,5 @@
--- The tables of an old and a new file, for a meter that continues from the old file into the new
--- file.
+-- Lemmas on the tables of an old and a new database file, for a meter that continues from the old
+-- file into the new file.
 use Rattle.std.proofs.Common.{◌≡◌, ℕ, ◌+◌, ◌-◌, ◌<◌, Bool, true, false, cond, List, [], ◌∷◌, ◌++◌, map, take, length, append_assoc, refl, sym, ap, subst, ◌∙◌, arith}
 use Rattle.std.specs.Prelude.{ℤ}
 use Rattle.std.proofs.lemmas.List.{length-append}
@@ -30,13 +30,12 @@ use Rattle.meter_journal.proofs.AuditLemmas.CarriedLemmas.Fitting.{HasRoom, fits
 use Rattle.meter_journal.proofs.AuditLemmas.CarriedLemmas.Over.{left_by, last_over, follow_over, steps_over, total_over, entries_over, place_over}
 use Rattle.meter_journal.proofs.AuditLemmas.CarriedLemmas.Quarters.{rows_of_both, counted_once}
 
--- If the rules accept the rows of the old file, then the meter's opening in the new file is valid.
+-- If the rules accept the rows of the old database file, then the meter's opening (first entry) in
+-- the new file is valid.
 well_from : (meter : Installed) (old : List EntryRow) → IsWellInstalled meter → AllFit meter old → IsWellInstalled (carried_from meter old)
 well_from meter old well h =
     let sound = accounts_are_sound meter.range meter.opening (entries_in old) _ _ well.raw well.scale (fitting_account meter old well h) in
     record { raw = sound.raw; scale = sound.scale }
-
--- ---- the values in the joined tables
 
 scale_over : (meter : Installed) (count : ℕ) (rows old : List EntryRow)
     → scale_after meter (map (moved_row count) rows ++ old) ≡ scale_after (carried_from meter old) rows
@@ -95,7 +94,7 @@ carried_tables_are_one law meter old new well h unended new_h =
       ended = ended_over count new old unended;
     }
 
--- ---- the rules accept each row of the joined tables
+-- The rules accept each row of the joined tables of an old and a new database file.
 
 come_over : (meter : Installed) (es old : List Entry) (stands : Bool) (k : EntryKind) (e : Entry) → ((last_after (left_by meter old) es).raw < meter.range)
     → HasRoom meter es old e → MayCome (left_by meter old) es stands k e → MayCome meter (es ++ old) stands k e

@@ -1,5 +1,5 @@
--- A line that the rules accept in the new file is also accepted in the joined journal of both
--- files.
+-- A line of a meter's journal that the rules accept in a new database file is also accepted in the
+-- joined journal of both files.
 use Rattle.std.proofs.Common.{◌≡◌, ℕ, ◌+◌, ◌*◌, ◌^◌, ◌<◌, ◌≤◌, ◌==◌, Bool, true, false, cond, ◌&&◌, nat_lt, if◌then◌else◌, List, [], ◌∷◌, ◌++◌, map, length, Option, Some, None, Ok, refl, sym, ap, subst, ◌∙◌, inl, inr, arith}
 use Rattle.std.specs.List.{find}
 use Rattle.std.specs.Option.{option_map, option_or}
@@ -37,13 +37,11 @@ use Rattle.meter_journal.proofs.Voiding.{whole_with}
 use Rattle.meter_journal.specs.Audit.Carried.{carried, moved_line, moved_row, StaysWithin, CarriedJournalsFit}
 use Rattle.meter_journal.proofs.AuditLemmas.CarriedLemmas.Over.{left_by, last_over, total_over, entries_over, moved_same, moved_other, rows_over, entries_of_both, well_carried}
 
--- ---- new entries
-
 abbrev pub terms_of : Installed → (total : ℕ) → Terms
 terms_of meter total = record { ceiling = meter.ceiling; total = total }
 
--- The energy of the joined journal of both files, with one more entry, stays within the limit of
--- one meter.
+-- The energy of the joined journal of both database files, with one more entry, stays within the
+-- limit of one meter, 4 * 10^18 mWh.
 abbrev pub HasRoom : Installed → (es old : List Entry) → Entry → Type 0
 HasRoom meter es old e = total_after meter (es ++ old) + energy_of meter.range (last_after (left_by meter old) es) e ≤ 4 * 10 ^ 18
 
@@ -111,8 +109,6 @@ fits_over meter es old kind.Closing (entry.Change at before new sf) under room h
 fits_over meter es old kind.Reset (entry.Step at raw rolls) under room h = absurd h
 fits_over meter es old kind.Rescale (entry.Step at raw rolls) under room h = absurd h
 
--- ---- rejected readings
-
 abbrev pub before_full : List Cause
 before_full = cause.NotAccumulated ∷ cause.ScaleChanged ∷ cause.NotBelowRange ∷ cause.NotLater
     ∷ cause.SpanTooLong ∷ cause.GapTooLong ∷ cause.TooFast ∷ []
@@ -150,8 +146,6 @@ held_over meter es old reading c le h =
     (sym (last_over meter.opening es old))
     (held_more meter.range meter.ceiling (total_after (left_by meter old) es) (total_after meter (es ++ old)) (last_after (left_by meter old) es)
     reading c le h)
-
--- ---- the rows after a void, appended to the rows of the old file
 
 abbrev LeavesNext : Last → (place : ℕ) → List EntryRow → Around → Option EntryRow → Type 0
 LeavesNext opening place rows a None = entries_in (with_void opening place rows) ≡ entries_in a.before
@@ -213,8 +207,6 @@ grows meter [] es h = (omega arith, h)
 grows meter (e ∷ later) es h =
     let rest = grows meter later es h.1 in (omega (arith, rest.0, whole_with meter e (later ++ es) h), rest.1)
 
--- ---- voids in the new file
-
 abbrev pub moved_around : (count : ℕ) → (old : List EntryRow) → Around → Around
 moved_around count old a = record {
   before = map (moved_row count) a.before ++ old;
@@ -264,8 +256,8 @@ rolled_entry l n at raw rolls on reading is =
 reads : (k : EntryKind) (e : Entry) → is_read k e ≡ true → is_reading k ≡ true
 reads k e h = by_read (λ k e. is_reading k ≡ true) (λ at raw rolls. refl) k e h
 
--- The entry after a voided entry is also plausible in the joined journal of both files, because the
--- energy without the voided entry stays within the limit.
+-- If a reading in the new file is accepted without the voided (cancelled) entry before it, it is
+-- also accepted in the joined history of both files. The total energy must stay within its limit.
 plausible_over : (meter : Installed) (es old : List Entry) (n : EntryRow) (e : Entry) (later : List Entry) (whole : ℕ)
     → n.entry ≡ e → n.stands ≡ true → is_reading n.kind ≡ true
     → AllFollow meter.range (last_after meter old) (later ++ (rolled (last_after (left_by meter old) es) n).entry ∷ es)
@@ -307,8 +299,6 @@ next_over meter count place rows old a (Some n) under before follow room free le
     subst (λ (es : List Entry). IsPlausibleNext meter es n.entry) (sym (entries_over count a.before old))
     (plausible_over meter es (entries_in old) n n.entry left.1.0 _ refl left.0 (reads n.kind n.entry free) all
     (sym (ap (total_after M) left.1.1)) room under before h)
-
--- ---- joined journals
 
 pub ended_over : (count : ℕ) (lines more : Journal) → is_ended lines ≡ false → is_ended (map (moved_line count) more ++ lines) ≡ is_ended more
 ended_over count lines [] h = h

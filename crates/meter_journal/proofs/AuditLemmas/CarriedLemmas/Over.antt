@@ -1,4 +1,4 @@
--- The rows and entries of a journal that continues in another file.
+-- Lemmas on the rows and entries of a meter's journal that continues in another file.
 use Rattle.std.proofs.Common.{◌≡◌, ℕ, ◌+◌, ◌==◌, true, false, ◌&&◌, List, [], ◌∷◌, ◌++◌, map, length, Some, refl, sym, ap, subst, ◌∙◌, inl, inr, arith, eq-eqb}
 use Rattle.std.proofs.lemmas.Bool.{cases_Bool, cond-true, cond-false, eqb-true}
 use Rattle.std.proofs.lemmas.Bool.Decides.{nat_tests}
@@ -16,9 +16,7 @@ use Rattle.meter_journal.proofs.Keeping.{entries_standing, entries_struck, mappe
 use Rattle.meter_journal.proofs.Voiding.{whole_with}
 use Rattle.meter_journal.specs.Audit.Carried.{carried, moved_line, moved_row}
 
--- ---- entries that follow the entries of another file
-
--- The meter as it is installed in the file that follows the entries `old`.
+-- The meter as it is installed in the database file that follows the entries `old`.
 abbrev pub left_by : Installed → List Entry → Installed
 left_by meter old = record { range = meter.range; ceiling = meter.ceiling; opening = last_after meter old }
 
@@ -50,8 +48,6 @@ total_over meter (e ∷ es) old h g =
       whole_with (left_by meter old) e es h,
       ap (λ (l : Last). energy_of meter.range l e) (last_over meter.opening es old),
     )
-
--- ---- rows that follow the rows of another file
 
 pub entries_over : (count : ℕ) (rows old : List EntryRow) → entries_in (map (moved_row count) rows ++ old) ≡ entries_in rows ++ entries_in old
 entries_over count [] old = refl

@@ -1,4 +1,5 @@
--- The interval rows of a journal that continues in another file.
+-- Lemmas on the energies by quarter hour (interval rows) of a meter's journal that continues in
+-- another file.
 use Rattle.std.proofs.Common.{◌≡◌, ℕ, ◌+◌, ◌==◌, Bool, true, false, cond, ◌||◌, List, [], ◌∷◌, ◌++◌, refl, sym, ap, subst, ◌∙◌, arith, eq-eqb}
 use Rattle.std.specs.Prelude.{ℤ, filter}
 use Rattle.std.specs.List.{list_any}
@@ -28,7 +29,7 @@ use Rattle.meter_journal.proofs.Merging.{rows_are_accounts}
 use Rattle.meter_journal.specs.Audit.Carried.{carried, joined_journal, AreCountedOnce, CarriesGoOn, CarriesCountOnce}
 use Rattle.meter_journal.proofs.AuditLemmas.CarriedLemmas.Over.{last_over, follow_over, steps_over, total_over, rows_over, entries_of_both, well_carried}
 
--- ---- merging of interval rows is associative
+-- Merging lists of interval rows (energies by quarter hour) is associative.
 
 abbrev one_of : Share → Share → Share
 one_of row share = record { start = row.start; mwh = row.mwh + share.mwh }
@@ -45,7 +46,8 @@ same_rows s m n rows is = ap (λ x. let r : Share = record { start = s; mwh = x 
 through : (x y z : ℕ) (c : Bool) → x == y ≡ true → y == z ≡ c → x == z ≡ c
 through x y z c at is = ap (λ n. n == z) (eqb-true x y at) ∙ is
 
--- Merging three interval rows from the left produces the same rows as merging them from the right.
+-- Merging three interval rows (energies by quarter hour) from the left produces the same rows as
+-- merging them from the right.
 three : (x y z : Share) (zs : List Share) (b c : Bool) → x.start == y.start ≡ b → y.start == z.start ≡ c
     → with_shares (cond b (one_of x y ∷ []) (x ∷ y ∷ [])) (z ∷ zs) ≡ joined x (cond c (one_of y z ∷ zs) (y ∷ z ∷ zs))
 three x y z zs true true at next =
@@ -55,8 +57,8 @@ three x y z zs true false at next = cond-false _ _ _ (through x.start y.start z.
 three x y z zs false true off next = ap (λ rs. x ∷ rs) (cond-true _ _ _ next) ∙ sym (cond-false _ _ _ off)
 three x y z zs false false off next = ap (λ rs. x ∷ rs) (cond-false _ _ _ next) ∙ sym (cond-false _ _ _ off)
 
--- Merging the first two interval rows and merging quarter-hour energies into the last row can be
--- done in either order.
+-- In a list of interval rows, merging the first two rows and merging quarter-hour energies into the
+-- last row can be done in either order.
 longer : (x y next : Share) (ys zs : List Share) (b : Bool) → x.start == y.start ≡ b
     → with_shares (cond b (one_of x y ∷ next ∷ ys) (x ∷ y ∷ next ∷ ys)) zs ≡ joined x (y ∷ with_shares (next ∷ ys) zs)
 longer x y next ys zs true at = sym (cond-true _ _ _ at)
@@ -87,8 +89,6 @@ rows_of_both (step ∷ steps) old =
     ap (λ rs. with_shares rs (shares_of step)) (rows_of_both steps old)
     ∙ after_each_other (rows_of_steps old) (rows_of_steps steps) (shares_of step)
 
--- ---- the interval rows whose starts pass a test
-
 abbrev pub passing : (ℕ → Bool) → List Share → List Share
 passing f rows = filter (λ (row : Share). f row.start) rows
 
@@ -99,7 +99,8 @@ pub record CountTheSame (f : ℕ → Bool) (xs ys : List Share) : Type 0 where
   pub any : (p : ℕ → Bool) → list_any p (starts_of (passing f xs)) ≡ list_any p (starts_of (passing f ys))
   pub count : distinct_count (starts_of (passing f xs)) ≡ distinct_count (starts_of (passing f ys))
 
--- Two lists of interval rows have the same energy and the same set of starts.
+-- Two lists of interval rows (energies of quarter hours) have the same energy and the same set of
+-- starts.
 abbrev Counts : (xs ys : List Share) → Type 0
 Counts xs ys = (energy_of xs ≡ energy_of ys)
     × ((p : ℕ → Bool) → list_any p (starts_of xs) ≡ list_any p (starts_of ys))
@@ -114,7 +115,8 @@ counted f xs ys h = record { energy = h.0; any = h.1; count = h.2 }
 count_same : (f : ℕ → Bool) (xs : List Share) → CountTheSame f xs xs
 count_same f xs = record { energy = refl; any = λ p. refl; count = refl }
 
--- Prepending the same row to two lists with the same energy and starts preserves this equality.
+-- If two lists of interval rows (energies by quarter hour) have the same energy and starts,
+-- prepending the same row to both preserves this equality.
 one_before : (row : Share) (xs ys : List Share) → Counts xs ys → Counts (row ∷ xs) (row ∷ ys)
 one_before row xs ys h =
     let mwh : Share → ℕ = λ r. r.mwh in (
@@ -221,8 +223,6 @@ counted_once rows shares ascending =
       energies = λ zone day. energy_passing (λ s. int_eq (day_at zone s) day) rows shares;
       whole = merged_sum rows shares;
     }
-
--- ---- joined journals
 
 pub carries_go_on : CarriesGoOn
 carries_go_on meter lines more well h more_h =

@@ -1,5 +1,5 @@
--- Journal lines that the rules accept in the old file are also accepted in a new file in which the
--- meter continues.
+-- Lines of a meter's journal that the rules accept in the old database file are also accepted in a
+-- new file in which the meter continues.
 use Rattle.std.proofs.Common.{◌≡◌, ◌≢◌, ℕ, ◌+◌, ◌-◌, ◌<◌, ◌≤◌, ◌==◌, Bool, true, false, cond, List, [], ◌∷◌, ◌++◌, map, length, Option, Some, None, Ok, refl, sym, ap, subst, ◌∙◌, inl, inr, arith}
 use Rattle.std.specs.List.{find}
 use Rattle.std.specs.Option.{option_map, option_or}
@@ -36,9 +36,8 @@ use Rattle.meter_journal.specs.Audit.Carried.{carried, moved_line, moved_row, Al
 use Rattle.meter_journal.proofs.AuditLemmas.CarriedLemmas.Fitting.{terms_of, before_full, moved_around, next_moved}
 use Rattle.meter_journal.proofs.AuditLemmas.CarriedLemmas.Over.{left_by, last_over, total_over, entries_over, moved_same, moved_other, rows_over, entries_of_both, well_carried}
 
--- ---- readings and entries after less energy
-
--- The joined journal of both files has at least the energy of the new file.
+-- The joined history of a meter in an old and a new database file has at least the energy of the
+-- new file.
 abbrev HasMore : Installed → (es old : List Entry) → Type 0
 HasMore meter es old = total_after (left_by meter old) es ≤ total_after meter (es ++ old)
 
@@ -131,8 +130,6 @@ held_there meter es old reading c other h =
     ∙ held_there_too meter.range l reading (find (test less) before_full) (test less cause.TotalFull) (test all cause.TotalFull) c other
     (sym (ap (judged meter.range l reading) (parts all)) ∙ is)
 
--- ---- voids in the new file
-
 -- No row has the sequence number `place` if all rows have smaller sequence numbers.
 none_there : (place : ℕ) (rows : List EntryRow) → AreNumbered rows → length rows + 2 ≤ place → row_at place rows ≡ None
 none_there place [] h le = refl
@@ -181,10 +178,8 @@ next_there meter count before old (Some n) more h =
     plausible_there meter (entries_in before) (entries_in old) n.entry more
     (subst (λ (es : List Entry). IsPlausibleNext meter es n.entry) (entries_over count before old) h)
 
--- ---- joined journals
-
--- The lines `later` are the lines of a new file, with sequence numbers raised by the number of
--- entries in the old file.
+-- The lines `later` are those of the meter's journal in the new database file, with their sequence
+-- numbers raised by the number of old entries.
 record IsMoved (meter : Installed) (count : ℕ) (lines later : Journal) : Type 0 where
   more : Journal
   moved : map (moved_line count) more ≡ later

@@ -19,7 +19,8 @@ Came-then a b c r s t x y = record {
   consumed = Consumes-trans r s t _ _ x.consumed y.consumed;
 }
 
--- If the parsed head is `Open`, the bytes hold an incomplete head.
+-- If parsing the received bytes returns the state `Open`, the bytes contain an incomplete request
+-- head.
 pub head_state-open : (bytes : List ℕ) (head_state : HeadState) → Looks bytes head_state → is_open head_state ≡ true → IsOpenHead bytes
 head_state-open bytes Open h e = h
 head_state-open bytes TooLarge h e = cc e
@@ -33,14 +34,14 @@ came-kept old mid new r s t came same kept = record {
   consumed = Consumes-kept r s t came.chunk came.consumed kept;
 }
 
--- A read that fails while the head is incomplete adds no bytes.
+-- A read that fails while the request head is incomplete adds no bytes.
 pub fails_after : (fault : TakeFault) (old mid new : List ℕ) (r s t : Option (List ℕ)) → Came old mid r s → TakesOn {X = Unit {0}} (Err fault) mid new s t → IsOpenHead mid → ReadsHead (Err fault) old new r t
 fails_after Read old mid new r s t came on goes_on = (came-kept old mid new r s t came on.0 on.1, subst IsOpenHead (sym on.0) goes_on, tt)
 fails_after Short old mid new r s t came on goes_on = (came-kept old mid new r s t came on.0 on.1, subst IsOpenHead (sym on.0) goes_on, on.2)
 fails_after TurnsUsed old mid new r s t came on goes_on = (came-kept old mid new r s t came on.0 on.1, subst IsOpenHead (sym on.0) goes_on, tt)
 
--- If the bytes were incomplete before the last read, then that read was necessary
--- (`TakesWhatLacks`).
+-- If the received bytes were incomplete before the last read, as the condition `GoesOn` defines,
+-- then that read was necessary.
 pub stops_after : (GoesOn : List ℕ → Type 0) (old mid new : List ℕ) (last : Option LastTake) (earlier chunk : List ℕ) → mid ≡ old ++ earlier → GoesOn mid
     → new ≡ mid ++ chunk → length new ≡ length mid + brought last → TakesWhatLacks GoesOn old new last
 stops_after GoesOn old mid new last earlier chunk came goes_on is size = record {

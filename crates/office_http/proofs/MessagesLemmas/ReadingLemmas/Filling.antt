@@ -1,4 +1,4 @@
--- Lemmas on a buffer that consecutive reads fill.
+-- Lemmas on a buffer that consecutive reads of a client's connection fill.
 use Rattle.std.proofs.Common.{◌≡◌, ◌∙◌, ℕ, ◌+◌, ◌≤◌, List, ◌++◌, length, take, refl, sym, ap, subst, arith}
 use Rattle.std.proofs.lemmas.List.{length-take-le, take-take}
 use Rattle.std.proofs.lemmas.Slice.{take-put_mid}
@@ -20,7 +20,7 @@ written a k n xs ys inside few =
     ∙ ap (λ m. take (m + n) (take a xs ++ ys)) (sym front)
     ∙ take-append-add (take a xs) ys n
 
--- A read that returns `n` bytes consumes the first `n` bytes of `piece`, the available input.
+-- A read that returns `n` bytes consumes the first `n` bytes of the available input `piece`.
 pub took_bytes : (before after : Option (List ℕ)) (piece : List ℕ) (took : Took) (n : ℕ) → TakeConsumes before after (Ok took) piece → took ≡ Bytes n → Consumes before after (take n piece)
 took_bytes before after piece took n h is = subst (λ t. TakeConsumes before after (Ok t) piece) is h
 

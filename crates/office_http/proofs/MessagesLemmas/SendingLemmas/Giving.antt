@@ -1,4 +1,4 @@
--- Lemmas on the bytes of a response that are sent to a link in parts.
+-- Lemmas on the bytes of a response that are sent to a client's connection in parts.
 use Rattle.std.proofs.Common.{◌≡◌, ◌∙◌, ℕ, Bool, true, false, List, [], ◌++◌, Option, Result, Ok, Err, refl, sym, ap, subst, append_assoc, is_err, not, ◌&&◌}
 use Rattle.std.specs.Io.KnownBytes.{Appends}
 use Rattle.std.proofs.KnownBytes.{Appends-nil, Appends-trans, Keeps-refl, Keeps-trans}
@@ -6,8 +6,8 @@ use Rattle.std.proofs.lemmas.List.{append-nil}
 use Rattle.mb_wire.specs.Links.{Gives, risen}
 use Rattle.office_http.specs.Messages.Sending.Sending.{OnlyGives, Outgoing, Puts, Sends}
 
--- If the buffered bytes and further bytes are written to the link with one write, then the further
--- bytes are sent.
+-- If the buffered bytes and further bytes are written to the client's connection with one write,
+-- then the further bytes are sent.
 pub Sends-given : {X E : Type 0} (result : Result X E) (base a b : Option (List ℕ)) (buffered kept : List ℕ) (old new : Bool) (all more : List ℕ) → old ≡ false → new ≡ is_err result → kept ≡ []
     → Sends base a buffered old all → (left : List ℕ) → buffered ++ more ≡ left → Gives result a b left → Sends base b kept new (all ++ more)
 Sends-given (Ok x) base a b buffered kept old new all more works failed none so_far left is gives =
@@ -31,8 +31,8 @@ Sends-given (Err e) base a b buffered kept old new all more works failed none so
       whole = λ w. absurd cc;
     }
 
--- If further bytes are appended to the write buffer, then they count as sent, since a later write
--- passes them to the link.
+-- If further bytes are appended to the write buffer, then they count as sent, because a later write
+-- passes them to the client's connection.
 pub Sends-buffered : (base a : Option (List ℕ)) (buffered kept : List ℕ) (old new : Bool) (all more : List ℕ) → new ≡ old → kept ≡ buffered ++ more → Sends base a buffered old all → Sends base a kept new (all ++ more)
 Sends-buffered base a buffered kept old new all more same is so_far = record {
   sent = so_far.sent;
@@ -42,8 +42,8 @@ Sends-buffered base a buffered kept old new all more same is so_far = record {
   whole = λ w. ap (λ t. t ++ more) (so_far.whole (sym same ∙ w)) ∙ sym is;
 }
 
--- If a write to the link has failed, then the writer may drop further bytes. The link still has a
--- prefix of the response.
+-- If a write to the client's connection has failed, then the writer may drop further bytes. The
+-- client still has a prefix of the response.
 pub Sends-lost : (base a : Option (List ℕ)) (buffered : List ℕ) (old : Bool) (all more : List ℕ) → old ≡ true → Sends base a buffered old all → Sends base a buffered old (all ++ more)
 Sends-lost base a buffered old all more failed so_far = record {
   sent = so_far.sent;
@@ -53,15 +53,16 @@ Sends-lost base a buffered old all more failed so_far = record {
   whole = λ w. absurd cc;
 }
 
--- If the buffered bytes are written to the link, then the response has the same bytes as before.
+-- If the buffered bytes are written to the client's connection, then the response has the same
+-- bytes as before.
 pub Sends-flushed : {X E : Type 0} (result : Result X E) (base a b : Option (List ℕ)) (buffered kept : List ℕ) (old new : Bool) (all : List ℕ) → old ≡ false → new ≡ is_err result → kept ≡ []
     → Sends base a buffered old all → Gives result a b buffered → Sends base b kept new all
 Sends-flushed result base a b buffered kept old new all works failed none so_far gives =
     subst (Sends base b kept new) (append-nil all)
     (Sends-given result base a b buffered kept old new all [] works failed none so_far buffered (append-nil buffered) gives)
 
--- After two consecutive calls, at most one failed write is counted, since no write follows a failed
--- write.
+-- After two consecutive calls of a response writer, at most one failed write is counted, because no
+-- write follows a failed write.
 risen_twice : (a b c : Bool) (count : ℕ) → (a ≡ true → b ≡ true) → (b ≡ true → c ≡ true) → risen (c && not b) (risen (b && not a) count) ≡ risen (c && not a) count
 risen_twice true true true count ab bc = refl
 risen_twice true true false count ab bc = refl
@@ -84,7 +85,7 @@ OnlyGives-then {x = x} {y = y} {z = z} first next = record {
   last = next.last ∙ first.last;
 }
 
--- If a first text and then a second text are sent, then the link gets the first text followed by
+-- If a first text and then a second text are sent, then the client gets the first text followed by
 -- the second text.
 pub Puts-then : {x y z : Outgoing} {s t : List ℕ} → Puts x y s → Puts y z t → Puts x z (s ++ t)
 Puts-then {x = x} {y = y} {z = z} {s = s} {t = t} first next = record {
@@ -92,14 +93,15 @@ Puts-then {x = x} {y = y} {z = z} {s = s} {t = t} first next = record {
   link = OnlyGives-then first.link next.link;
 }
 
--- Without a failed write and with an empty buffer, the link has received all bytes of the response.
+-- Without a failed write and with an empty write buffer, the client's connection has received all
+-- bytes of the response.
 pub Sends-all : (base given : Option (List ℕ)) (buffered : List ℕ) (failed : Bool) (all : List ℕ) → failed ≡ false → buffered ≡ [] → Sends base given buffered failed all → Appends base given all
 Sends-all base given buffered failed all works none sends =
     let order : all ≡ sends.sent = sends.in_order ∙ ap (λ l. sends.sent ++ l) (sends.whole works ∙ none) ∙ append-nil sends.sent in
     subst (Appends base given) (sym order) sends.came
 
--- If the link has received nothing since `base` and the buffer is empty, no byte of a response was
--- sent.
+-- If the client's connection has received nothing since the time of `base`, and the write buffer is
+-- empty, no byte of a response was sent.
 pub HasPut-none : (base given : Option (List ℕ)) (buffered : List ℕ) (failed : Bool) → given ≡ base → buffered ≡ [] → Sends base given buffered failed []
 HasPut-none base given buffered failed same none = record {
   sent = [];
@@ -109,8 +111,8 @@ HasPut-none base given buffered failed same none = record {
   whole = λ _. sym none;
 }
 
--- If a call changes nothing, then it satisfies `OnlyGives`: the writer has the same link, reads
--- nothing, and counts no new failure.
+-- If a call changes nothing, then it satisfies `OnlyGives`: the writer has the same connection,
+-- reads nothing, and counts no new failure.
 OnlyGives-none : (x : Outgoing) → OnlyGives x x
 OnlyGives-none x = record {
   link = refl;

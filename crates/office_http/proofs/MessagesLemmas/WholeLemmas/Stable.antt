@@ -97,14 +97,15 @@ lacks table old mid new seen r s t at size first head same is came few = record 
   body = subst (λ n. length new < at.len + n) (size_stays table mid new seen s t at size same is head came) few;
 }
 
--- Bytes with a complete head lack a part of the body until all bytes of the body have arrived.
+-- If received bytes have a complete request head, a part of the request's body is missing until all
+-- bytes of the body have arrived.
 lacks_still : (table : Table) (mid earlier seen : List ℕ) (at : Head) (size : ℕ) → seen ≡ mid → size ≡ body_size table (start_at seen at) → IsHeadAt mid at
     → length (mid ++ earlier) < at.len + size → LacksBody table (mid ++ earlier)
 lacks_still table mid earlier seen at size same is head few =
     let start : body_size table (start_at (mid ++ earlier) at) ≡ size = ap (body_size table) (start_stays mid earlier at head) ∙ ap (λ b. body_size table (start_at b at)) (sym same) ∙ sym is in
     record { at = at; head = head_stays mid earlier at head; body = omega (arith, few, start) }
 
--- If the request has no body, the buffer makes no read after the head is complete.
+-- If a request has no body, the buffer makes no further read after the request's head is complete.
 pub stops_at_head : (table : Table) (old new : Inbox) (was now : Option LastTake) → StopsAtOnce IsOpenHead old new was now → StopsAtOnce (IsUnfinished table) old new was now
 stops_at_head table old new was now (inl none) = inl none
 stops_at_head table old new was now (inr some) = inr record {

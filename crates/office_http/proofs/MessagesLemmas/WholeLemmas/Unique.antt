@@ -21,24 +21,25 @@ start_is bytes at x =
     let headers = x.0.1.1.headers in
     λ i. record { method = method i; target = target i; headers = headers i }
 
--- Two heads parsed from equal bytes have equal methods, targets, headers and sizes.
+-- Two request heads that were parsed from equal bytes have equal methods, targets, headers and
+-- sizes.
 pub start_one : (bytes : List ℕ) (a b : Head) → IsHeadAt bytes a → IsHeadAt bytes b → (start_at bytes a ≡ start_at bytes b) × (a.len ≡ b.len)
 start_one bytes a b x y =
     let same = head_unique bytes a.len b.len x.0.0 y.0.0 x.0.1.0 y.0.1.0 in
     (start_is bytes a x ∙ ap start_of same.0 ∙ sym (start_is bytes b y), same.1)
 
--- Bytes with only a part of the body hold no complete request.
+-- Received bytes with only a part of the request's body contain no complete request.
 pub lacks_not_whole : (table : Table) (bytes : List ℕ) (at : Head) → LacksBody table bytes → IsWhole table bytes at → ⊥
 lacks_not_whole table bytes at l w =
     let one = start_one bytes l.at at l.head w.head in
     let size : body_size table (start_at bytes l.at) ≡ body_size table (start_at bytes at) = ap (body_size table) one.0 in
     omega (arith, l.body, w.body, one.1, size)
 
--- Bytes with an incomplete head hold no complete request.
+-- Received bytes with an incomplete head contain no complete request.
 pub open_not_whole : (table : Table) (bytes : List ℕ) (at : Head) → IsOpenHead bytes → IsWhole table bytes at → ⊥
 open_not_whole table bytes at o w = o.none at.len w.head.0.0 w.head.0.1.0
 
--- Bytes with a complete head and body hold the request with this head and this body.
+-- Received bytes with a complete head and body contain the request with this head and this body.
 pub request_of_whole : (table : Table) (bytes : List ℕ) (at : Head) → IsWhole table bytes at → HoldsRequest table bytes (start_at bytes at) (body_of table bytes at)
 request_of_whole table bytes at w = record {
   head = w.head.0.0;
@@ -49,7 +50,7 @@ request_of_whole table bytes at w = record {
   body_is = refl;
 }
 
--- Two requests that the same bytes hold are equal.
+-- Two requests that the same received bytes contain are equal.
 pub one_request : (table : Table) (bytes : List ℕ) (start other_start : Start) (body other_body : List ℕ) → HoldsRequest table bytes start body → HoldsRequest table bytes other_start other_body
     → IsOneRequest start other_start body other_body
 one_request table bytes start other_start body other_body x y =

@@ -1,6 +1,6 @@
--- The command of each route, from the members of its JSON body. `name` is the route's parameter:
--- the name of an accounting register, or of a meter if the command voids an entry. `name` is None
--- if the parameter is no valid name.
+-- The command of each HTTP route, from the members of its JSON body. `name` is the route's
+-- parameter: the name of an accounting register (energy counter), or of a meter if the command
+-- cancels an entry. `name` is None if the parameter is no valid name.
 use Rattle.std.specs.Prelude.{ℕ, List, Option, Some, None, Result, Ok, Err, codes}
 use Rattle.serde_json.specs.Data.{Data}
 use Rattle.office_http.specs.Messages.Commands.Json.Tables.{close_members, device_members, exchange_members, fault_of, install_members, manual_members, register_fault, rescale_members, reset_members, void_members}
@@ -21,7 +21,7 @@ add_device d = command.AddDevice (record {
   window = natural_in (codes "window") d;
 })
 
--- The command that adds an accounting register.
+-- The command that adds an accounting register, a named energy counter of a device.
 abbrev pub add_register : Data → Command
 add_register d = command.AddRegister (record {
   name = name_in (codes "name") d;
@@ -31,7 +31,7 @@ add_register d = command.AddRegister (record {
   scale = scale_in d;
 })
 
--- The command that installs a meter at an accounting register.
+-- The command that installs a meter at an accounting register (a named energy counter).
 abbrev pub install : Option (List ℕ) → Data → Command
 install name d = command.Install (record {
   register = name;
@@ -42,8 +42,8 @@ install name d = command.Install (record {
   range = or_full_range (optional_in (codes "range") d);
 })
 
--- The command that closes the meter at an accounting register, and installs another meter at that
--- register.
+-- The command that closes the meter at an accounting register (a named energy counter), and
+-- installs another meter there.
 abbrev pub exchange : Option (List ℕ) → Data → Command
 exchange name d = command.Exchange (record {
   register = name;
@@ -90,20 +90,20 @@ close name d = command.Close (record {
   rolls = natural_in (codes "rolls") d;
 })
 
--- The command that voids an entry of a meter: the entry was false and no longer counts.
+-- The command that voids (cancels) an entry of a meter: the entry was false and no longer counts.
 abbrev pub void : Option (List ℕ) → Data → Command
 void name d = command.Void (record {
   meter = name;
   place = natural_in (codes "place") d;
 })
 
--- The command if the JSON body has no fault, otherwise the fault.
+-- The parsed command if its JSON body has no fault, otherwise the fault.
 abbrev pub unless_fault : Option BodyFault → Command → Result Command BodyFault
 unless_fault None c = Ok c
 unless_fault (Some fault) c = Err fault
 
--- The command in the JSON body for this route, or the fault of the body. The result is `Malformed`
--- for the route of a point list (CSV) and for the routes of queries.
+-- The command in the JSON body of a request with this route, or the fault of the body. The result
+-- is `Malformed` for routes of queries, and for the route whose body is CSV.
 abbrev pub command_of : Route → Option (List ℕ) → Data → Result Command BodyFault
 command_of route.Devices name d = unless_fault (fault_of device_members d) (add_device d)
 command_of route.List name d = Err Malformed

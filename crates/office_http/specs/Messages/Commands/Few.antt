@@ -6,13 +6,14 @@ use Rattle.point_list.specs.declared.fault.FaultyRow.{FaultyRow}
 use Rattle.office_http.specs.declared.messages.commands.fault.CommandFault.{CommandFault}
 use Rattle.office_http.specs.declared.messages.commands.fault.CommandFault.TheVariants.{Malformed, Negative, Faulty, Memory}
 
--- The list has at most 513 faulty rows of a point list, each with a row number of at most 514. Row
--- 1 is the header, and the parser reads no row after row 514.
+-- True if the list has at most 513 faulty rows of a point list (CSV), each with a row number of at
+-- most 514. Row 1 is the header, and the parser reads no row after row 514.
 pub record AreFew (rows : List FaultyRow) : Type 0 where
   pub few : length rows ≤ 513
   pub low : All (λ faulty. faulty.row ≤ 514) rows
 
--- If the result is `Faulty`, its faulty rows are within the bounds of `AreFew`.
+-- True if a parsed body has at most 513 faulty rows of a point list (CSV), each with a row number
+-- of at most 514. Other results are always accepted.
 abbrev pub HasFewRows : Result Command CommandFault → Type 0
 HasFewRows (Ok c) = Unit {0}
 HasFewRows (Err Malformed) = Unit {0}

@@ -14,7 +14,7 @@ use Rattle.office_http.specs.Messages.Commands.Commands.{command_of}
 use Rattle.office_http.specs.declared.messages.commands.fault.CommandFault.{CommandFault}
 use Rattle.office_http.specs.declared.messages.commands.fault.CommandFault.TheVariants.{Malformed, Negative, Faulty, Memory}
 
--- The bytes are a JSON text (RFC 8259) with the value `d`.
+-- True if the bytes are a JSON text (RFC 8259) with the value `d`.
 pub record IsJson (bytes : List ℕ) (d : Data) : Type 0 where
   pub utf8 : IsUtf8 bytes
   pub value : read bytes ≡ Some d
@@ -25,39 +25,40 @@ fault_reported body.Malformed = Malformed
 fault_reported body.Negative = Negative
 fault_reported body.Memory = Memory
 
--- The result for a command, converted from the result of parsing its JSON body.
+-- The command or the fault of a request, converted from the result of parsing its JSON body.
 abbrev pub reported : Result Command BodyFault → Result Command CommandFault
 reported (Ok c) = Ok c
 reported (Err fault) = Err (fault_reported fault)
 
--- The bytes are a JSON text, and its value contains this command or has this fault.
+-- True if the bytes are a JSON text, and its value contains this command or has this fault.
 pub record GivesJson (at : Route) (name : Option (List ℕ)) (bytes : List ℕ)
     (given : Result Command CommandFault) : Type 0 where
   pub value : Data
   pub is : IsJson bytes value
   pub gives : given ≡ reported (command_of at name value)
 
--- The bytes are not a JSON text, and the result is `Malformed`.
+-- True if the bytes are not a JSON text, and the result is `Malformed`.
 pub record IsNoJson (bytes : List ℕ) (given : Result Command CommandFault) : Type 0 where
   pub none : (d : Data) → IsJson bytes d → ⊥
   pub gives : given ≡ Err Malformed
 
--- The result of parsing a body that must be JSON. For any body, the result may also be `Memory`
--- (out of memory).
+-- True if the result is that of parsing a body that must be JSON. For any body, the result may also
+-- be `Memory` (out of memory).
 abbrev pub IsBody : Route → Option (List ℕ) → (bytes : List ℕ) → Result Command CommandFault
     → Type 0
 IsBody at name bytes given =
     GivesJson at name bytes given ⊎ IsNoJson bytes given ⊎ (given ≡ Err Memory)
 
--- The bytes are a point list: CSV rows with the registers to poll. The command stores the list with
--- its reading plan, which is the fewest Modbus reads that cover the list.
+-- True if the bytes are a point list: CSV rows with the registers to poll. The command stores the
+-- list with its reading plan, which is the fewest Modbus reads that cover the list.
 pub record GivesList (name : Option (List ℕ)) (bytes : List ℕ) (c : Command) : Type 0 where
   pub list : Planned
   pub spelled : SpellsList bytes list.points
   pub planned : IsPlanned list
   pub is : c ≡ PutList (record { device = name; list = list })
 
--- The result of parsing a body that must be a point list (CSV rows with the registers to poll).
+-- True if the result is that of parsing a body that must be a point list (CSV rows with the
+-- registers to poll).
 abbrev pub IsListBody : Option (List ℕ) → (bytes : List ℕ) → Result Command CommandFault → Type 0
 IsListBody name bytes (Ok c) = GivesList name bytes c
 IsListBody name bytes (Err Malformed) = ⊥
@@ -65,8 +66,8 @@ IsListBody name bytes (Err Negative) = ⊥
 IsListBody name bytes (Err (Faulty rows)) = AreFaults (list_faults (rows_read bytes)) rows
 IsListBody name bytes (Err Memory) = Unit {0}
 
--- The result of parsing the body of a request with this route. If the result is `Memory`, memory
--- ran out, and the body is arbitrary.
+-- True if the result is that of parsing the body of a request with this route. If the result is
+-- `Memory`, memory ran out, and the body is arbitrary.
 abbrev pub Gives : Route → Option (List ℕ) → (bytes : List ℕ) → Result Command CommandFault → Type 0
 Gives route.List name bytes given = IsListBody name bytes given
 Gives route.Devices name bytes given = IsBody route.Devices name bytes given

@@ -41,8 +41,8 @@ abbrev pub or_full_range : Option ℕ → ℕ
 or_full_range None = MAX_RANGE
 or_full_range (Some range) = range
 
--- The scale of an accounting register: the exponent in `fixed`, or the Modbus address in `scale_at`
--- from which the exponent is read.
+-- The scale of an accounting register (energy counter): the exponent in `fixed`, or the Modbus
+-- address in `scale_at` from which the exponent is read.
 abbrev pub scale_in : Data → GivenScale
 scale_in d =
     if is_none (get (codes "fixed") d) then Register (natural_in (codes "scale_at") d)

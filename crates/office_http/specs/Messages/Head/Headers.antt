@@ -5,18 +5,18 @@ use Rattle.std.specs.Str.{bytes_eq}
 use Rattle.office_http.specs.declared.messages.head.headers.Given.{Given}
 use Rattle.office_http.specs.declared.messages.head.headers.Given.TheVariants.{Never, Once, Often}
 
--- The two header names are equal, if upper and lower case count as equal.
+-- True if two header names are equal. Upper and lower case count as equal.
 abbrev pub same_name : List ℕ → List ℕ → Bool
 same_name one other = bytes_eq (map to_ascii_lowercase one) (map to_ascii_lowercase other)
 
--- The values of all headers with this name, in their order.
+-- The values of all headers of a request that have this name, in their order.
 abbrev pub values_of : List ℕ → List (List ℕ × List ℕ) → List (List ℕ)
 values_of name [] = []
 values_of name (header ∷ headers) =
     if same_name header.0 name then header.1 ∷ values_of name headers else values_of name headers
 
--- The count of a header with these values: Never without a value, Once with its only value, Often
--- with two or more.
+-- True if the count of a header follows from its values: Never without a value, Once with its only
+-- value, Often with two or more.
 abbrev pub Gives : Given → List (List ℕ) → Type 0
 Gives Never values = values ≡ []
 Gives (Once value) values = values ≡ value.now ∷ []

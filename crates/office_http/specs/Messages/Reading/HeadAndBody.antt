@@ -9,13 +9,13 @@ use Rattle.office_http.specs.declared.messages.reading.inbox.Inbox.{Inbox}
 use Rattle.office_http.specs.declared.messages.reading.inbox.TakeFault.{TakeFault}
 use Rattle.office_http.specs.declared.messages.reading.inbox.TakeFault.TheVariants.{Read, Short, TurnsUsed}
 
--- After a read that failed with Short (the input ended early), the input has no bytes left.
+-- True if the input has no bytes left after a read that failed with Short (the input ended early).
 abbrev pub EndsAt : TakeFault → Option (List ℕ) → Type 0
 EndsAt Read after = Unit {0}
 EndsAt Short after = IsAtEnd after
 EndsAt TurnsUsed after = Unit {0}
 
--- Either the buffer holds a complete or an invalid request head, or reading failed while the head
+-- True if the buffer has a complete or an invalid request head, or reading failed while the head
 -- was incomplete.
 abbrev pub ReadsHead : Result HeadState TakeFault → List ℕ → List ℕ → Option (List ℕ)
     → Option (List ℕ) → Type 0
@@ -24,21 +24,22 @@ ReadsHead (Ok head_state) old new before after =
 ReadsHead (Err fault) old new before after =
     Came old new before after × IsOpenHead new × EndsAt fault after
 
--- Either the buffer holds at least `count` bytes, or reading failed and the buffer holds fewer.
+-- True if the buffer has at least `count` bytes, or reading failed and the buffer has fewer.
 abbrev pub ReadsUpTo : ℕ → {X : Type 0} → Result X TakeFault → List ℕ → List ℕ → Option (List ℕ)
     → Option (List ℕ) → Type 0
 ReadsUpTo count (Ok x) old new before after = Came old new before after × (count ≤ length new)
 ReadsUpTo count (Err fault) old new before after =
     Came old new before after × (length new < count) × EndsAt fault after
 
--- The buffer made no read: its count of reads and the link's last read are unchanged.
+-- True if the buffer made no read: its count of reads and the last read of the client's connection
+-- are unchanged.
 pub record TakesNothing (old new : Inbox) (was now : Option LastTake) : Type 0 where
   pub takes : new.takes ≡ old.takes
   pub bytes : bytes_in new ≡ bytes_in old
   pub last : now ≡ was
 
--- The last read was necessary: the bytes before that read were incomplete, which the condition
--- `GoesOn` says.
+-- True if the last read was necessary: before that read, the bytes in the buffer were incomplete,
+-- as the condition `GoesOn` defines.
 pub record TakesWhatLacks (GoesOn : List ℕ → Type 0) (old new : List ℕ) (now : Option LastTake) :
     Type 0 where
   pub earlier : List ℕ
@@ -47,7 +48,7 @@ pub record TakesWhatLacks (GoesOn : List ℕ → Type 0) (old new : List ℕ) (n
   pub bytes : new ≡ (old ++ earlier) ++ chunk
   pub size : length chunk ≡ brought now
 
--- The buffer made no read after its bytes were complete: either it made no read at all, or its
+-- True if the buffer made no read after its bytes were complete: it made no read at all, or its
 -- bytes were incomplete before the last read.
 abbrev pub StopsAtOnce : (List ℕ → Type 0) → Inbox → Inbox → (was now : Option LastTake) → Type 0
 StopsAtOnce GoesOn old new was now =

@@ -9,26 +9,26 @@ use Rattle.matchit.specs.declared.error.InsertError.{InsertError}
 use Rattle.office_http.specs.declared.messages.routing.routes.Route.{Route}
 use Rattle.office_http.specs.declared.messages.routing.routes.Route.TheVariants.{Devices, List as ListRoute, Registers, Install, Exchange, Reset, Rescale, Manual, Close, Void, Days, Meter, Intervals, Poll}
 
--- The table of routes in a router.
+-- The table of routes in an HTTP router.
 abbrev pub Table : Type 0
 Table = RowsOf (RouteOf Route)
 
--- The table with one more route, from the parsed text of its pattern. A malformed text adds no
--- route.
+-- The table of routes with one more route, from the parsed text of its pattern. A malformed text
+-- adds no route.
 abbrev pub with_route : Result Scan InsertError → Route → Table → Table
 with_route (Ok s) value rows = placed (s.pattern, route_from s value) rows
 with_route (Err e) value rows = rows
 
--- The table with one more route, from the text of its pattern, such as `/polls/{number}`.
+-- The table of routes with one more route, from the text of its pattern, such as `/polls/{number}`.
 abbrev pub add : List ℕ → Route → Table → Table
 add text value rows = with_route (parse_route text) value rows
 
--- The parsed pattern of a route is well formed, and conflicts with no route of the table.
+-- True if the parsed pattern of a route is well formed, and conflicts with no route of the table.
 abbrev pub FitsRead : Result Scan InsertError → Table → Type 0
 FitsRead (Ok s) rows = nearest s.pattern rows ≡ None
 FitsRead (Err e) rows = ⊥
 
--- The pattern of a route is well formed, and conflicts with no route of the table.
+-- True if the pattern of a route is well formed, and conflicts with no route of the table.
 abbrev pub Fits : List ℕ → Table → Type 0
 Fits text rows = FitsRead (parse_route text) rows
 
@@ -50,11 +50,12 @@ routes =
     add (codes "/devices/{name}/list") ListRoute (
     add (codes "/devices") Devices [])))))))))))))
 
--- The value of the first parameter in a list of names and values, if there is one.
+-- The value of the first parameter in a list of route parameters with their values, or None if the
+-- list is empty.
 abbrev pub head_value : List (List ℕ × List ℕ) → Option (List ℕ)
 head_value [] = None
 head_value (p ∷ rest) = Some p.1
 
--- The value of the first parameter of route `r` in a path.
+-- The value of the first parameter of the route `r` in the path of a request.
 abbrev pub param_of : RouteOf Route → List ℕ → Option (List ℕ)
 param_of r path = head_value (walk r.pattern r.text path r.names 0 0)

@@ -8,11 +8,11 @@ use Rattle.office_http.specs.declared.messages.routing.routes.Route.{Route}
 use Rattle.office_http.specs.declared.messages.routing.targets.Found.{Found}
 use Rattle.office_http.specs.declared.messages.routing.routes.Route.TheVariants.{Devices, List as ListRoute, Registers, Install, Exchange, Reset, Rescale, Manual, Close, Void, Days, Meter, Intervals, Poll}
 
--- The request target contains a question mark.
+-- True if the request target contains a question mark.
 abbrev pub has_query : List ℕ → Bool
 has_query target = list_any (λ byte. byte == 63) target
 
--- The route in the table that matches a request target, if any.
+-- The route in the table that matches a request target, or None if no route matches.
 abbrev pub first_route : Table → List ℕ → Option Route
 first_route table target = option_map (λ r. r.value) (first table target)
 
@@ -25,8 +25,8 @@ first_name table target = option_and_then (λ r. param_of r target) (first table
 abbrev pub route_in : Table → List ℕ → Option Route
 route_in table target = if has_query target then None else first_route table target
 
--- The value of the route's parameter in a request target. A target with a byte outside ASCII has
--- none.
+-- The value of the route's parameter in a request target. None for a target with a byte outside
+-- ASCII.
 abbrev pub name_in : Table → List ℕ → Option (List ℕ)
 name_in table target = if list_all is_ascii target then first_name table target else None
 
@@ -34,7 +34,7 @@ name_in table target = if list_all is_ascii target then first_name table target 
 abbrev pub name_of : Found → Option (List ℕ)
 name_of found = option_map (λ s. s.now) found.name
 
--- The route is a query (GET). All other routes are commands (POST).
+-- True if the route is a query (GET). All other routes are commands (POST).
 abbrev pub is_question : Route → Bool
 is_question Devices = false
 is_question ListRoute = false

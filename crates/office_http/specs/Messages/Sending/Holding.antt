@@ -3,12 +3,12 @@ use Rattle.std.specs.Prelude.{ℕ, List, take, Option}
 use Rattle.office_http.specs.Messages.Sending.Sending.{Progress}
 use Rattle.office_http.specs.declared.messages.sending.outbox.Outbox.{Outbox}
 
--- The bytes that wait in the write buffer.
+-- The bytes of a response that wait in the write buffer.
 abbrev pub buffered_in : Outbox → List ℕ
 buffered_in outbox = take outbox.filled outbox.buffered
 
--- The progress of a response: the bytes that the link received, the bytes in the write buffer, and
--- whether a write failed.
+-- The progress of a response: the bytes that the client's connection received, the bytes in the
+-- write buffer, and whether a write failed.
 abbrev pub progress : (given : Option (List ℕ)) → Outbox → Progress
 progress given outbox = record {
   given = given;

@@ -1,13 +1,12 @@
--- The progress of a response: how many of its bytes were written to the link, which is the client's
--- connection.
+-- The progress of a response: how many of its bytes were written to the client's connection.
 use Rattle.std.specs.Prelude.{◌≡◌, ℕ, Bool, true, false, not, ◌&&◌, List, ◌++◌, Option}
 use Rattle.std.specs.Io.KnownBytes.{Appends, Keeps}
 use base.Fml.{GName}
 use Rattle.mb_wire.specs.Links.{risen}
 use Rattle.mb_wire.specs.declared.link.LastTake.{LastTake}
 
--- The link has received a prefix of `all` since `base`. Without a failed write, the buffer has
--- exactly the remaining bytes.
+-- True if the client's connection has received a prefix of `all` since `base`. Without a failed
+-- write, the write buffer has exactly the remaining bytes.
 pub record Sends (base given : Option (List ℕ)) (buffered : List ℕ) (failed : Bool) (all : List ℕ) :
     Type 0 where
   pub sent : List ℕ
@@ -16,27 +15,28 @@ pub record Sends (base given : Option (List ℕ)) (buffered : List ℕ) (failed 
   pub came : Appends base given sent
   pub whole : failed ≡ false → left ≡ buffered
 
--- The progress of a response: the bytes that the link received, the bytes in the write buffer, and
--- whether a write failed.
+-- The progress of a response: the bytes that the client's connection received, the bytes in the
+-- write buffer, and whether a write failed.
 pub record Progress : Type 0 where
   pub given : Option (List ℕ)
   pub buffered : List ℕ
   pub failed : Bool
 
--- The writer sends the bytes after all earlier bytes of the response.
+-- True if the writer sends the bytes after all earlier bytes of the response.
 abbrev pub PutsAfter : Progress → Progress → List ℕ → Type 0
 PutsAfter old new bytes =
     (base : Option (List ℕ)) (all : List ℕ) → Sends base old.given old.buffered old.failed all
     → Sends base new.given new.buffered new.failed (all ++ bytes)
 
--- The writer adds no bytes to the response. It may write bytes from its buffer to the link.
+-- True if the writer adds no bytes to the response. The writer may write bytes from its buffer to
+-- the client's connection.
 abbrev pub PutsNothing : Progress → Progress → Type 0
 PutsNothing old new =
     (base : Option (List ℕ)) (all : List ℕ) → Sends base old.given old.buffered old.failed all
     → Sends base new.given new.buffered new.failed all
 
--- The model of a response writer: its link, the state of the link, the buffered bytes, and whether
--- a write failed.
+-- The model of a response writer: the client's connection and its state, the buffered bytes, and
+-- whether a write failed.
 pub record Outgoing : Type 0 where
   pub link : GName
   pub given : Option (List ℕ)
@@ -47,13 +47,13 @@ pub record Outgoing : Type 0 where
   pub buffered : List ℕ
   pub failed : Bool
 
--- `all` is the response that was sent since the link had received `base`. Some of its bytes may be
--- in the write buffer.
+-- True if `all` is the response that was sent since the client's connection had received `base`.
+-- Some bytes of the response may be in the write buffer.
 abbrev pub HasPut : Option (List ℕ) → Outgoing → List ℕ → Type 0
 HasPut base out all = Sends base out.given out.buffered out.failed all
 
--- The writer has the same link as before, and reads nothing from the link. A failed write increases
--- the link's count of failures once, and no write follows it.
+-- True if the writer has the same connection as before, and reads nothing from it. A failed write
+-- increases the connection's count of failures once, and no write follows it.
 pub record OnlyGives (old new : Outgoing) : Type 0 where
   pub link : new.link ≡ old.link
   pub stays : old.failed ≡ true → new.failed ≡ true
@@ -62,8 +62,8 @@ pub record OnlyGives (old new : Outgoing) : Type 0 where
   pub takes : new.takes ≡ old.takes
   pub last : new.last ≡ old.last
 
--- The writer sends the bytes after all earlier bytes of the response, and reads nothing from its
--- link.
+-- True if the writer sends the bytes after all earlier bytes of the response, and reads nothing
+-- from the client's connection.
 pub record Puts (old new : Outgoing) (bytes : List ℕ) : Type 0 where
   pub put : (base : Option (List ℕ)) (all : List ℕ) → HasPut base old all
       → HasPut base new (all ++ bytes)

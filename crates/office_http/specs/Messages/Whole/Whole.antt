@@ -32,34 +32,34 @@ body_size table start =
     size_unless (head_fault table start) (asks (route_in table start.target))
     (size_in (post_headers_of start.headers))
 
--- The bytes hold a complete request head, followed by its complete body.
+-- True if the bytes have a complete request head, followed by the request's complete body.
 pub record IsWhole (table : Table) (bytes : List ℕ) (at : Head) : Type 0 where
   pub head : IsHeadAt bytes at
   pub body : at.len + body_size table (start_at bytes at) ≤ length bytes
 
--- The bytes hold a complete request head, but only a part of its body.
+-- True if the bytes have a complete request head, but only a part of the request's body.
 pub record LacksBody (table : Table) (bytes : List ℕ) : Type 0 where
   pub at : Head
   pub head : IsHeadAt bytes at
   pub body : length bytes < at.len + body_size table (start_at bytes at)
 
--- The bytes hold neither a complete request nor an invalid head.
+-- True if the bytes have neither a complete request nor an invalid head.
 abbrev pub IsUnfinished : Table → List ℕ → Type 0
 IsUnfinished table bytes = IsOpenHead bytes ⊎ LacksBody table bytes
 
--- The bytes hold a complete request with this head, or an invalid head of this kind. The state Open
--- (an incomplete head) matches no bytes.
+-- True if the bytes have a complete request with this head, or an invalid head of this kind. False
+-- for the state Open (an incomplete head).
 abbrev pub Holds : Table → List ℕ → HeadState → Type 0
 Holds table bytes Open = ⊥
 Holds table bytes TooLarge = Looks bytes TooLarge
 Holds table bytes NoHead = Looks bytes NoHead
 Holds table bytes (Whole at) = IsWhole table bytes at
 
--- The bytes hold a complete request or an invalid head.
+-- True if the bytes have a complete request or an invalid head.
 abbrev pub IsReadWhole : Table → List ℕ → Type 0
 IsReadWhole table bytes = (head_state : HeadState) × Holds table bytes head_state
 
--- Either the buffer holds a complete request or an invalid head, or reading failed before that.
+-- True if the buffer has a complete request or an invalid head, or if reading failed before that.
 abbrev pub ReadsRequest : Table → Result HeadState TakeFault → List ℕ → List ℕ → Option (List ℕ)
     → Option (List ℕ) → Type 0
 ReadsRequest table (Ok head_state) old new before after =
@@ -67,20 +67,21 @@ ReadsRequest table (Ok head_state) old new before after =
 ReadsRequest table (Err fault) old new before after =
     Came old new before after × IsUnfinished table new × EndsAt fault after
 
--- The query or command of a complete request, or the status that rejects it: 431 for a head past
--- the limits, 400 for a malformed head, otherwise the status of the first failed test.
+-- True if the result is the query or command of a complete request, or the status that rejects it:
+-- 431 for a head past the limits, 400 for a malformed head, otherwise the status of the first
+-- failed test.
 abbrev pub TestsRequest : Table → List ℕ → HeadState → Result Ask Status → Type 0
 TestsRequest table bytes Open result = ⊥
 TestsRequest table bytes TooLarge result = result ≡ Err FieldsTooLarge
 TestsRequest table bytes NoHead result = result ≡ Err BadRequest
 TestsRequest table bytes (Whole at) result = TestsHead table (start_at bytes at) result
 
--- The body of a request: the bytes after the head, as many as `body_size` says.
+-- The body of a request: as many of the bytes after the head as the request's body size says.
 abbrev pub body_of : Table → List ℕ → Head → List ℕ
 body_of table bytes at = take (body_size table (start_at bytes at)) (drop at.len bytes)
 
--- The bytes begin with a complete request with this body. Its head is within the limits and has
--- these parts.
+-- True if the bytes begin with a complete request with this body. Its head is within the limits and
+-- has these parts.
 pub record HoldsRequest (table : Table) (bytes : List ℕ) (start : Start) (body : List ℕ) : Type 0
   where
     pub head : RequestHead
@@ -90,12 +91,12 @@ pub record HoldsRequest (table : Table) (bytes : List ℕ) (start : Start) (body
     pub whole : len + body_size table start ≤ length bytes
     pub body_is : body ≡ take (body_size table start) (drop len bytes)
 
--- The two requests have equal heads (method, target and headers) and equal bodies.
+-- True if two requests have equal heads (method, target and headers) and equal bodies.
 pub record IsOneRequest (start other_start : Start) (body other_body : List ℕ) : Type 0 where
   pub one_start : start ≡ other_start
   pub one_body : body ≡ other_body
 
--- Bytes begin with at most one request.
+-- States that bytes begin with at most one request.
 abbrev pub RequestsAreOne : Type 0
 RequestsAreOne =
     (table : Table) (bytes : List ℕ) (start other_start : Start) (body other_body : List ℕ)

@@ -1,4 +1,5 @@
-//! Parses the commands for the meter at an accounting register, from JSON bodies.
+//! Parses the commands for the meter at an accounting register (a named energy counter), from JSON
+//! bodies.
 ghost use Rattle.std.specs.Prelude.{◌≡◌};
 ghost use Rattle.serde_json.specs.View.{view};
 ghost use Rattle.office_http.specs.declared.messages.routing.routes.Route.TheVariants as route;
@@ -10,7 +11,7 @@ use crate::messages::commands::json::{
 use crate::messages::commands::values::{name, or_full_range};
 use office_events::{Close, Command, Exchange, Install, Manual, Name, Rescale, Reset, VoidEntry};
 
-// Parses the command that installs a meter at an accounting register.
+// Parses the command that installs a meter at an accounting register (a named energy counter).
 pub(crate) fn install(register: Option<Name>, body: &Body) -> Result<Command, BodyFault>
     ensures { result ≡ command_of route.Install register (view body.now) }
 {
@@ -25,8 +26,8 @@ pub(crate) fn install(register: Option<Name>, body: &Body) -> Result<Command, Bo
     }))
 }
 
-// Parses the command that closes a meter and installs another meter at the same accounting
-// register.
+// Parses the command that closes a meter and installs another meter at the same accounting register
+// (energy counter).
 pub(crate) fn exchange(register: Option<Name>, body: &Body) -> Result<Command, BodyFault>
     ensures { result ≡ command_of route.Exchange register (view body.now) }
 {
@@ -93,7 +94,8 @@ pub(crate) fn close(register: Option<Name>, body: &Body) -> Result<Command, Body
     }))
 }
 
-// Parses the command that voids an entry of a meter: the entry was false and no longer counts.
+// Parses the command that voids (cancels) an entry of a meter: the entry was false and no longer
+// counts.
 pub(crate) fn void(meter: Option<Name>, body: &Body) -> Result<Command, BodyFault>
     ensures { result ≡ command_of route.Void meter (view body.now) }
 {

@@ -1,4 +1,5 @@
-//! Parses the commands that add devices and accounting registers, from JSON bodies.
+//! Parses the commands that add devices and accounting registers (named energy counters), from JSON
+//! bodies.
 ghost use Rattle.std.specs.Prelude.{◌≡◌};
 ghost use Rattle.serde_json.specs.View.{view};
 ghost use Rattle.office_http.specs.Messages.Commands.Json.Tables.{device_members, fault_of, register_fault};
@@ -22,7 +23,7 @@ pub(crate) fn add_device(body: &Body) -> Result<Command, BodyFault>
     }))
 }
 
-// Parses the command that adds an accounting register.
+// Parses the command that adds an accounting register, a named energy counter of a device.
 pub(crate) fn add_register(body: &Body) -> Result<Command, BodyFault>
     ensures { result ≡ unless_fault (register_fault (view body.now))
         (add_register (view body.now)) }

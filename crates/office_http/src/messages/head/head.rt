@@ -29,7 +29,7 @@ pub struct Head {
 pub enum HeadState {
     /// An incomplete head: its end has not arrived.
     Open,
-    /// A head past the limits: the first 8,192 bytes hold no end of the head, or more than 64 lines
+    /// A head past the limits: the first 8,192 bytes have no end of the head, or more than 64 lines
     /// follow the request line.
     TooLarge,
     /// A malformed head: it ends within the limits, but is not the head of an HTTP request.
@@ -71,7 +71,7 @@ fn head_of(bytes: &[u8]) -> Option<Head>
 }
 
 // Returns the first 8,192 bytes, or all bytes if there are fewer. A request head has to end within
-// them.
+// these bytes.
 fn front_of(bytes: &[u8]) -> &[u8]
     ensures { result.now ≡ front_of bytes.now }
 {

@@ -20,8 +20,8 @@ pub(crate) fn same_name(one: &[u8], other: &[u8]) -> bool
     one.eq_ignore_ascii_case(other)
 }
 
-// Counts one more value of a header: the result is `Once` after the first value, and `Often` after
-// any later value.
+// Returns the count of a header after one more value: `Once` after the first value, and `Often`
+// after any later value.
 fn one_more<'b>(found: Given<'b>, value: &'b [u8]) -> Given<'b>
     ensures { (values : List (List ℕ)) → Gives found.entry values
         → Gives result (values ++ value.now ∷ []) }

@@ -2,7 +2,8 @@
 ghost use Rattle.std.specs.Prelude.{◌≡◌, length};
 ghost use Rattle.office_http.specs.Messages.Head.Lines.{has_head_end, is_empty_line, lines_of_head};
 
-// Returns whether a line is empty. The line has no line feed, but may have a carriage return.
+// Returns whether a line is empty. The text of the line has no line feed, but may end with a
+// carriage return.
 fn is_empty_line(line: &[u8]) -> bool
     ensures { result ≡ is_empty_line line.now }
 {
@@ -47,7 +48,8 @@ fn scan(bytes: &[u8]) -> LineScan
     }
 }
 
-/// Returns whether the bytes hold the end of a request head: an empty line after a nonempty line.
+/// Returns whether the bytes contain the end of a request head: an empty line after a nonempty
+/// line.
 pub fn has_head_end(bytes: &[u8]) -> bool
     ensures { result ≡ has_head_end bytes.now }
 {

@@ -1,4 +1,4 @@
-//! Reads from a link until the head of a request, and then its body, is complete.
+//! Reads from a client's connection until the head of a request, and then its body, is complete.
 ghost use Rattle.std.specs.Prelude.{◌≡◌, ◌≤◌, ◌<◌, OnOk, length};
 ghost use Rattle.std.specs.Io.KnownBytes.{Keeps};
 ghost use Rattle.mb_wire.specs.Links.{risen};
@@ -10,9 +10,9 @@ use crate::messages::head::{HeadState, parse_head};
 use crate::messages::reading::inbox::{Inbox, TakeFault};
 use mb_wire::Link;
 
-/// Reads from a link until the buffer holds a complete or an invalid request head. The returned
-/// state is never `Open`. Fails if a read fails, the input ends, or the buffer has made 100,000
-/// reads.
+/// Reads from a client's connection until the buffer has a complete or an invalid request head. The
+/// returned state is never `Open`. Fails if a read fails, the input ends, or the buffer has made
+/// 100,000 reads.
 pub fn read_head<L: Link>(inbox: &mut Inbox<'_>, link: &mut L) -> Result<HeadState, TakeFault>
     requires { 8192 ≤ room_of inbox.old }
     ensures reads { ReadsHead result (bytes_in inbox.old) (bytes_in inbox.new)
@@ -33,8 +33,8 @@ pub fn read_head<L: Link>(inbox: &mut Inbox<'_>, link: &mut L) -> Result<HeadSta
     }
 }
 
-/// Reads from a link until the buffer holds `count` bytes in all. Fails if a read fails, the input
-/// ends, or the buffer has made 100,000 reads.
+/// Reads from a client's connection until the buffer has `count` bytes in all. Fails if a read
+/// fails, the input ends, or the buffer has made 100,000 reads.
 pub fn read_body<L: Link>(
     inbox: &mut Inbox<'_>,
     link: &mut L,

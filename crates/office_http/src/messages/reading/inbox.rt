@@ -1,4 +1,4 @@
-//! A buffer for the bytes of a request that are read from a link.
+//! A buffer for the bytes of a request that are read from a client's connection.
 ghost use Rattle.std.specs.Prelude.{◌≤◌, length};
 
 use mb_wire::{Link, LinkFailed, Took};
@@ -6,13 +6,13 @@ use std::error::Error;
 use std::fmt;
 use std::fmt::{Display, Formatter};
 
-/// The most reads from a link that one buffer makes.
+/// The most reads from a client's connection that one buffer makes.
 pub const MOST_TAKES: u32 = 100_000;
 
 /// The cause that ended the reading of a request.
 #[derive(Clone, Copy, Debug, PartialEq, Eq)]
 pub enum TakeFault {
-    /// A read from the link failed.
+    /// A read from the client's connection failed.
     Read,
     /// The input ended before the request was complete.
     Short,
@@ -48,7 +48,7 @@ impl<'a> Inbox<'a> {
     ghost use Rattle.mb_wire.specs.Links.{risen};
     ghost use Rattle.office_http.specs.Messages.Reading.Taking.{CountsTakes, EndedBy, TakesOn, brought, bytes_in, is_read_fault, room_of};
 
-    /// Makes an empty buffer in `room`.
+    /// Makes an empty buffer in the borrowed memory `room`.
     pub fn new(room: &'a mut [u8]) -> Inbox<'a>
         ensures empty { bytes_in result ≡ [] }
         ensures takes { result.takes ≡ 0 }
@@ -61,15 +61,15 @@ impl<'a> Inbox<'a> {
         }
     }
 
-    /// Returns all bytes that the buffer has read from the link.
+    /// Returns all bytes that the buffer has read from the client's connection.
     pub fn bytes(&self) -> &[u8]
         ensures { result.now ≡ bytes_in self.entry.now }
     {
         &self.room[..self.filled]
     }
 
-    /// Reads once more from the link, unless the buffer has made 100,000 reads. A read that times
-    /// out counts and adds no bytes.
+    /// Reads once more from the client's connection, unless the buffer has made 100,000 reads. A
+    /// read that times out counts and adds no bytes.
     pub fn take_more<L: Link>(&mut self, link: &mut L) -> Result<(), TakeFault>
         requires { length (bytes_in self.old) < room_of self.old }
         ensures takes_on { TakesOn result (bytes_in self.old) (bytes_in self.new)

@@ -60,8 +60,8 @@ fn add(router: &mut Router<Route>, text: &str, route: Route) -> Result<(), Alloc
     }
 }
 
-// Adds all routes to an empty router. This function is separate from `router`, because the prover
-// needs a minute for a function that drops the router at each `?`.
+// Adds all routes to an empty router. This function is separate from `router`, because the proof of
+// a function that drops the router at each `?` takes a minute.
 fn fill(router: &mut Router<Route>) -> Result<(), AllocError>
     requires { router.old ≡ [] }
     ensures { OnOk result (router.new ≡ routes) }

@@ -50,8 +50,8 @@ pub fn has_query(target: &[u8]) -> bool
     target.iter().any(|byte| *byte == b'?')
 }
 
-// Finds the route of a target with a byte outside ASCII. The parameter stays unread, since all
-// names are ASCII.
+// Finds the route of a target with a byte outside ASCII. Ignores the value of the route's
+// parameter, because all names are ASCII.
 fn bare_route<'v>(router: &Router<Route>, target: &'v str) -> Option<Found<'v>>
     ensures route { option_map (λ f. f.route) result ≡ first_route router.now target.now }
     ensures name { IfSome result (λ f. name_of f ≡ None) }
@@ -65,8 +65,8 @@ fn bare_route<'v>(router: &Router<Route>, target: &'v str) -> Option<Found<'v>>
     }
 }
 
-/// Finds the route of a request target, and the value of the route's parameter.
-/// [`router`](super::router) makes the router.
+/// Finds the route of a request target in the router that [`router`](super::router) makes, and the
+/// value of the route's parameter.
 #[tactic(auto, using(crate::proofs::MessagesLemmas::RoutingLemmas::Plain::all_ascii, crate::proofs::MessagesLemmas::RoutingLemmas::Plain::not_ascii))]
 pub fn route_of<'v>(router: &Router<Route>, target: &'v [u8]) -> Option<Found<'v>>
     requires { IsUtf8 target.now }

@@ -7,7 +7,7 @@ use crate::messages::Status;
 /// A text of at most 8,192 bytes, for the body of a response.
 pub type Text = script_text::Text<8192>;
 
-/// Formats the JSON body that reports a refusal by its number.
+/// Formats the JSON body of a response that reports a refusal by its number.
 pub fn refused_body(number: u8) -> Text
     ensures { result ≡ refused_text number }
 {
@@ -17,7 +17,7 @@ pub fn refused_body(number: u8) -> Text
     text
 }
 
-/// Formats the JSON body that reports any other error by its HTTP status code.
+/// Formats the JSON body of a response that reports any other error by its HTTP status code.
 pub fn fault_body(status: Status) -> Text
     ensures { result ≡ fault_text status }
 {

@@ -1,4 +1,5 @@
-//! A write buffer that collects the bytes of a response before they are written to a link.
+//! A write buffer that collects the bytes of a response before they are written to the client's
+//! connection.
 ghost use Rattle.std.specs.Prelude.{◌≡◌, ◌≤◌, ◌<◌, ◌+◌, ◌++◌, [], length};
 ghost use Rattle.std.specs.Prelude.{true, false, not, ◌&&◌};
 ghost use Rattle.std.specs.Io.KnownBytes.{Keeps};
@@ -9,7 +10,8 @@ use mb_wire::{Link, give_all};
 // The size of the write buffer in bytes.
 const ROOM: usize = 512;
 
-// A write buffer for a link. After the first failed write, the buffer drops all bytes.
+// A write buffer for a client's connection. After the first failed write, the buffer drops all
+// bytes.
 #[derive(Drop)]
 pub(crate) struct Outbox {
     pub(crate) buffered: [u8; 512],
@@ -39,7 +41,7 @@ impl Outbox {
         self.failed
     }
 
-    // Writes the buffered bytes to the link.
+    // Writes the buffered bytes to the client's connection.
     pub(crate) fn flush<L: Link>(&mut self, link: &mut L)
         ensures sends { PutsNothing (progress (L.given link.old) self.old)
             (progress (L.given link.new) self.new) }
@@ -59,7 +61,8 @@ impl Outbox {
         self.filled = 0;
     }
 
-    // Writes the buffered bytes to the link if the buffer has no room for `count` more bytes.
+    // Writes the buffered bytes to the client's connection if the buffer has no room for `count`
+    // more bytes.
     fn make_room<L: Link>(&mut self, link: &mut L, count: usize)
         ensures sends { PutsNothing (progress (L.given link.old) self.old)
             (progress (L.given link.new) self.new) }
@@ -77,7 +80,7 @@ impl Outbox {
         }
     }
 
-    // Appends bytes to the buffer.
+    // Appends bytes of a response to the write buffer.
     fn hold(&mut self, bytes: &[u8])
         requires { self.old.filled + length bytes.now ≤ 512 }
         ensures buffered { buffered_in self.new ≡ buffered_in self.old ++ bytes.now }
@@ -88,7 +91,8 @@ impl Outbox {
         self.filled = end;
     }
 
-    // Writes bytes directly to the link. The buffer must be empty.
+    // Writes bytes of a response directly to the client's connection. The write buffer must be
+    // empty.
     fn pass<L: Link>(&mut self, link: &mut L, bytes: &[u8])
         requires works { self.old.failed ≡ false }
         requires empty { buffered_in self.old ≡ [] }
@@ -102,7 +106,8 @@ impl Outbox {
         self.failed = give_all(link, bytes).is_err();
     }
 
-    // Sends bytes after all earlier bytes: through the buffer if they fit, otherwise directly.
+    // Sends bytes after all earlier bytes of a response: through the write buffer if they fit,
+    // otherwise directly.
     pub(crate) fn write_bytes<L: Link>(&mut self, link: &mut L, bytes: &[u8])
         ensures sends { PutsAfter (progress (L.given link.old) self.old)
             (progress (L.given link.new) self.new) bytes.now }

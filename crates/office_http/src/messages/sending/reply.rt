@@ -37,7 +37,7 @@ pub fn write_json<L: Link>(status: Status, body: &[u8], writer: &mut ResponseWri
 }
 
 /// Writes the head of a plain-text response. The caller then writes the lines of the text with
-/// [`ResponseWriter::put`].
+/// [`ResponseWriter::write_bytes`].
 pub fn write_text_head<L: Link>(writer: &mut ResponseWriter<'_, L>)
     ensures { Puts writer.old writer.new text_head }
 {

@@ -1,4 +1,4 @@
-//! A buffered writer of HTTP responses to a link.
+//! A buffered writer of HTTP responses to a client's connection.
 ghost use Rattle.std.specs.Prelude.{◌≡◌, ◌≤◌, ℕ, List, [], Option, take, false, is_err};
 ghost use Rattle.office_http.specs.Messages.Sending.Giving.{Gives};
 ghost use Rattle.office_http.specs.Messages.Sending.Sending.{HasPut, OnlyGives, Outgoing, Puts};
@@ -7,7 +7,8 @@ use crate::messages::sending::outbox::Outbox;
 use mb_wire::{Link, LinkFailed};
 use std::marker::Model;
 
-/// A buffered writer to a link. After the first failed write, the writer drops all bytes.
+/// A buffered writer to a client's connection. After the first failed write, the writer drops all
+/// bytes.
 #[derive(Drop)]
 pub struct ResponseWriter<'l, L: Link> {
     link: &'l mut L,
@@ -30,7 +31,7 @@ impl<'l, L: Link> Model for ResponseWriter<'l, L> {
 }
 
 impl<'l, L: Link> ResponseWriter<'l, L> {
-    /// Makes a writer to this link, with an empty write buffer.
+    /// Makes a writer to this client's connection, with an empty write buffer.
     pub fn new(link: &'l mut L) -> ResponseWriter<'l, L>
         ensures link { result.link ≡ link.entry.ghost_name }
         ensures given { result.given ≡ L.given link.entry.now }
@@ -47,15 +48,15 @@ impl<'l, L: Link> ResponseWriter<'l, L> {
         }
     }
 
-    /// Sends bytes after all earlier bytes, through the write buffer.
+    /// Sends bytes after all earlier bytes of the response, through the write buffer.
     pub fn write_bytes(&mut self, bytes: &[u8])
         ensures { Puts self.old self.new bytes.now }
     {
         self.outbox.write_bytes(self.link, bytes);
     }
 
-    /// Writes the buffered bytes to the link. Returns `Ok` if all bytes of the response were
-    /// written to the link.
+    /// Writes the buffered bytes to the client's connection. Returns `Ok` if all bytes of the
+    /// response were written.
     pub fn finish(&mut self) -> Result<(), LinkFailed>
         ensures given { (base : Option (List ℕ)) (all : List ℕ) → HasPut base self.old all
             → Gives result base self.new.given all }
@@ -70,7 +71,7 @@ impl<'l, L: Link> ResponseWriter<'l, L> {
         }
     }
 
-    /// Returns the link, and drops the bytes that are still buffered.
+    /// Returns the client's connection, and drops the bytes that are still buffered.
     pub fn into_link(self) -> &'l mut L
         ensures link { result.ghost_name ≡ self.entry.link }
         ensures given { L.given result.now ≡ self.entry.given }

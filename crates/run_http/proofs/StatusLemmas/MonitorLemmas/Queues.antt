@@ -23,8 +23,8 @@ seen_at f xs place d inside = slice_get-map f xs place ∙ ap (option_map f) (sl
 pub seen_past : {X : Type 0} (f : X → List ℕ) (xs : List X) (place : ℕ) → length xs ≤ place → slice_get (map f xs) place ≡ None
 seen_past f xs place past = slice_get-map f xs place ∙ ap (option_map f) (slice_get_past xs place past)
 
--- If frames are appended to the queue of a slot, then they wait to be sent to the device in that
--- slot.
+-- If frames are appended to the queue of a slot (a device's index), then they wait to be sent to
+-- the device in that slot.
 pub sent_there : {X : Type 0} (f : X → List ℕ) (xs : List X) (place : ℕ) (x d : X) (e : Event) (frames : List ℕ) → place < length xs
     → f x ≡ kept e (f (get_or xs place d)) ++ frames → map f (set xs place x) ≡ sent_to place e frames (map f xs)
 sent_there f xs place x d e frames inside is =
@@ -36,7 +36,7 @@ pub sent_at : {X : Type 0} (f : X → List ℕ) (xs : List X) (place : ℕ) (x d
 sent_at f xs place x d e frames inside (inl is) = inl (sent_there f xs place x d e frames inside is)
 sent_at f xs place x d e frames inside (inr is) = inr (sent_there f xs place x d e [] inside is)
 
--- If frames are sent to a slot that does not exist, then no queue changes.
+-- If frames are queued for a slot (a device's index) that does not exist, then no queue changes.
 pub sent_nowhere : {X : Type 0} (f : X → List ℕ) (xs : List X) (place : ℕ) (e : Event) (frames : List ℕ) → length xs ≤ place
     → IsSentTo place e frames (map f xs) (map f xs)
 sent_nowhere f xs place e frames past =
@@ -49,7 +49,7 @@ taken_there f xs place d inside = ap taken_in (sym (seen_at f xs place d inside)
 pub taken_nowhere : {X : Type 0} (f : X → List ℕ) (xs : List X) (place : ℕ) → length xs ≤ place → [] ≡ taken_at place (map f xs)
 taken_nowhere f xs place past = ap taken_in (sym (seen_past f xs place past))
 
--- If the queue of a slot is emptied, then all other queues are unchanged.
+-- If the send queue of one device is emptied, then the queues of all other devices are unchanged.
 pub left_there : {X : Type 0} (f : X → List ℕ) (xs : List X) (place : ℕ) (x : X) → f x ≡ [] → map f (set xs place x) ≡ set (map f xs) place []
 left_there f xs place x is = map-set f xs place x ∙ ap (set (map f xs) place) is
 

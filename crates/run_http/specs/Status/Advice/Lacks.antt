@@ -22,23 +22,24 @@ use Rattle.run_http.specs.declared.status.advice.lacks.DeviceLack.{DeviceLack}
 abbrev pub lack_of : (device : Option (List ℕ)) → Lack → DeviceLack
 lack_of device lack = record { device = device; lack = lack }
 
--- A list with `lack` of the device if `lacking` is true, otherwise an empty list.
+-- A list with the device and the missing thing `lack` if `lacking` is true, otherwise an empty
+-- list.
 abbrev pub lacks_if : (lacking : Bool) → (device : List ℕ) → Lack → List DeviceLack
 lacks_if true device lack = lack_of (Some device) lack ∷ []
 lacks_if false device lack = []
 
--- True if one of the planned reads covers the two Modbus registers of the accounting register's
--- counter, and the Modbus registers of its scale.
+-- True if one of the planned Modbus reads covers the registers of the counter, and those of its
+-- scale factor.
 abbrev pub is_read : List PlannedRead → Register → Bool
 is_read reads register = list_any (λ read. is_read_by read.span register) reads
 
--- True if a read of the point list covers the accounting register. Also true without a point list,
--- because the program then reports the missing list.
+-- True if a Modbus read of the device's point list covers the accounting register's counter and
+-- scale. Also true without a point list, because the program then reports the missing list.
 abbrev pub is_in_list : Option Planned → Register → Bool
 is_in_list None register = true
 is_in_list (Some list) register = is_read list.reads register
 
--- True if the installation exists and its meter is open.
+-- True if there is a meter (`Some`) and it is open.
 abbrev pub is_open : Option Installation → Bool
 is_open row = is_some (option_and_then if_open row)
 
@@ -54,7 +55,7 @@ lacks_of_register known device list register =
     lacks_if (not (is_in_list list register)) device (NotInList register)
     ++ lacks_if (not (has_meter known register)) device (NoMeter register)
 
--- What all accounting registers of a device lack.
+-- What all accounting registers of a device lack: Modbus reads that cover them, or open meters.
 abbrev pub lacks_of_registers : List Fact → (device : List ℕ) → Option Planned → List Register
     → List DeviceLack
 lacks_of_registers known device list registers =
@@ -69,12 +70,13 @@ lacks_by known device list registers =
     ++ lacks_if (length registers == 0) device NoRegister
     ++ lacks_of_registers known device list registers
 
--- What a device lacks by the records of the store.
+-- What a device lacks in the store: a point list, an accounting register, a read that covers a
+-- register, or an open meter.
 abbrev pub lacks_of_device : List Fact → (device : List ℕ) → List DeviceLack
 lacks_of_device known device =
     lacks_by known device (list_of known device) (registers_of known device)
 
--- True if one of the devices has this name.
+-- True if one of the devices in the list has this name.
 abbrev pub has_name : (name : List ℕ) → List Device → Bool
 has_name name devices = list_any (λ device. same device.name name) devices
 
@@ -88,16 +90,16 @@ lacks_of_name known name =
     if has_device known name then lacks_of_device known name
     else lacks_if true name NoDevice
 
--- What a device with an optional name lacks. The name is None if it is not valid.
+-- What a device with an optional name lacks in the store. The name is None if it is not valid.
 abbrev pub lacks_of : List Fact → Option (List ℕ) → List DeviceLack
 lacks_of known None = lack_of None NoDevice ∷ []
 lacks_of known (Some name) = lacks_of_name known name
 
--- What these devices lack, one device after the other.
+-- What each of the devices lacks in the store, one device after the other.
 abbrev pub lacks_of_all : List Fact → List (Option (List ℕ)) → List DeviceLack
 lacks_of_all known devices = flat_map (lacks_of known) devices
 
--- ---- The effect of lookups in the store.
+-- Definitions on the effect of lookups in the store.
 
 -- A lookup changes no record of the store and no time zone. A store that has returned wrong data
 -- stays marked as not clean (`is_clean`).
@@ -106,14 +108,15 @@ pub record LooksUp (old new : Ledger) : Type 0 where
   pub clean : new.is_clean → old.is_clean
   pub zone : new.zone ≡ old.zone
 
--- On success, everything that is missing for the devices (`says`) was appended to the list. On an
--- error, the appended items may be incomplete.
+-- On success, everything that is missing for the devices (`says`) was appended to the list of
+-- missing things. On an error, the appended items may be incomplete.
 abbrev pub Adds : {T E : Type 0} → (old new : Ledger) → (List Fact → List DeviceLack)
     → (before after : List DeviceLack) → Result T E → Type 0
 Adds old new says before after result = (known : List Fact) → old.holds known → new.is_clean
     → OnOk result (after ≡ before ++ says known)
 
--- On success, `lack` of the device was appended to the list if `lacking` is true.
+-- On success, the device and the missing thing `lack` were appended to the list if `lacking` is
+-- true.
 abbrev pub AddsOne : {T E : Type 0} → (device : List ℕ) → Lack → (lacking : Bool)
     → (before after : List DeviceLack) → Result T E → Type 0
 AddsOne device lack lacking before after result =

@@ -6,7 +6,7 @@ use Rattle.run_http.specs.declared.status.advice.reported.ReportedNumber.{Report
 use Rattle.run_http.specs.declared.status.advice.reported.Topic.{Topic}
 use Rattle.run_http.specs.declared.status.advice.reported.Topic.TheVariants.{Connection, Round, Meter}
 
--- The number of a topic, by which two topics are compared.
+-- A number that identifies the topic of a message, by which two topics are compared.
 abbrev pub topic_number : Topic → ℕ
 topic_number Connection = 1
 topic_number Round = 2
@@ -38,54 +38,55 @@ abbrev pub is_other : Option ReportedNumber → (number : ℕ) → Bool
 is_other None number = false
 is_other (Some before) number = if before.number == number then false else true
 
--- The list with the new number at the index `place` if `other` is true, otherwise the unchanged
--- list.
+-- The list of reported error numbers. The entry at the index `place` is replaced if `other` is
+-- true.
 abbrev pub changed_to : (other : Bool) → (place : ℕ) → ReportedNumber → List ReportedNumber
     → List ReportedNumber
 changed_to true place reported numbers = slice_set numbers place reported
 changed_to false place reported numbers = numbers
 
--- The entry at the index `place` gets the new number. `is_reported` is true if the number differs
--- and must be reported.
+-- The list entry at the index `place` gets the new error number. `is_reported` is true if the
+-- number differs from the old number and must be reported.
 abbrev pub Changes : (place : ℕ) → ReportedNumber → (old new : List ReportedNumber) → (is_reported : Bool)
     → Type 0
 Changes place reported old new is_reported =
     (is_reported ≡ is_other (slice_get old place) reported.number)
     × (new ≡ changed_to is_reported place reported old)
 
--- The list with a further entry if `room` is true, otherwise the unchanged list.
+-- The list of reported error numbers, with one more entry if `room` is true.
 abbrev pub pushed : (room : Bool) → ReportedNumber → List ReportedNumber → List ReportedNumber
 pushed true reported numbers = numbers ++ reported ∷ []
 pushed false reported numbers = numbers
 
--- If the list has room, then an entry is added to the list. `is_reported` is true if the entry was
--- added, and its number must be reported.
+-- If the list of reported error numbers has room, then an entry is added. `is_reported` is true if
+-- the entry was added, and its number must be reported.
 abbrev pub Adds : ReportedNumber → (old new : List ReportedNumber) → (is_reported : Bool) → Type 0
 Adds reported old new is_reported = new ≡ pushed is_reported reported old
 
--- The entry at the index gets the new number. Without an index, an entry with that number is added
--- to the list.
+-- The list entry at the index gets the new error number. Without an index, an entry with the number
+-- is added to the list.
 abbrev pub ReportsNumberAt : (place : Option ℕ) → ReportedNumber → (old new : List ReportedNumber)
     → (is_reported : Bool) → Type 0
 ReportsNumberAt None reported old new is_reported = Adds reported old new is_reported
 ReportsNumberAt (Some place) reported old new is_reported = Changes place reported old new is_reported
 
--- `is_reported` is true if a number about a device or meter must be reported. Then the last number
--- on the same topic was different or missing.
+-- `is_reported` is true if the error number of a device or meter must be reported. Then the last
+-- number on the same topic was different or missing.
 abbrev pub ReportsNumber : ReportedNumber → (old new : List ReportedNumber) → (is_reported : Bool) → Type 0
 ReportsNumber reported old new is_reported = ReportsNumberAt (place_of reported old) reported old new is_reported
 
--- The entry of a device or meter that has no problem to report. Its number is 0.
+-- The list entry for a device or meter that has no problem to report. The error number of the entry
+-- is 0.
 abbrev pub nothing_of : Topic → (name : Option (List ℕ)) → ReportedNumber
 nothing_of topic name = reported_number topic name 0
 
--- The entry at the index gets the number 0. Without an index, nothing changes.
+-- The list entry at the index gets the error number 0. Without an index, the list is unchanged.
 abbrev pub ForgetsAt : (place : Option ℕ) → ReportedNumber → (old new : List ReportedNumber) → Type 0
 ForgetsAt None none old new = new ≡ old
 ForgetsAt (Some place) none old new = (changed : Bool) × Changes place none old new changed
 
--- The entry with this topic and this device or meter, if there is one, gets the number 0. Its next
--- problem is then reported again.
+-- The list entry with this topic and this device or meter, if there is one, gets the error number
+-- 0. The next problem of the device or meter is then reported again.
 abbrev pub Forgets : Topic → (name : Option (List ℕ)) → (old new : List ReportedNumber) → Type 0
 Forgets topic name old new =
     ForgetsAt (place_of (nothing_of topic name) old) (nothing_of topic name) old new

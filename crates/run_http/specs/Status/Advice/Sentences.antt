@@ -21,7 +21,7 @@ use Rattle.run_http.specs.declared.status.advice.lacks.DeviceLack.{DeviceLack}
 use Rattle.run_http.specs.declared.status.advice.lacks.Lack.{Lack}
 use Rattle.run_http.specs.declared.status.advice.lacks.Lack.TheVariants.{NoDevice, NoList, NoRegister, NotInList, NoMeter}
 
--- The name of the device, or `-` if there is none.
+-- The name of the device, or `-` if the message concerns no single device.
 abbrev pub name_of : Option (List ℕ) → List ℕ
 name_of (Some name) = name
 name_of None = codes "-"
@@ -89,17 +89,18 @@ with_lack_of device NoRegister text =
 with_lack_of device (NotInList register) text = with_unread device register text
 with_lack_of device (NoMeter register) text = with_unmetered register text
 
--- The message for one device and one thing that it lacks.
+-- The message for a device and one thing that it lacks in the store, such as a point list.
 abbrev pub with_lack : DeviceLack → List ℕ → List ℕ
 with_lack lack text = with_lack_of lack.device lack.lack text
 
--- The message with the text `before`, the meaning of a printed number, and what to do appended.
+-- The message with three parts appended: the text `before`, the meaning of an error number, and
+-- what the operator can do.
 abbrev pub with_meaning : (before : List ℕ) → Meaning → List ℕ → List ℕ
 with_meaning before meaning text =
     text ++ before ++ meaning.means.now ++ codes "; " ++ meaning.remedy.now ++ codes "\n"
 
--- What a device lacks if its event was refused with "not found". For a connection, the store does
--- not have the device. For the start of a polling round, the device has no point list.
+-- What a device lacks if the program refused its event with "not found". For a connection, the
+-- store does not have the device. For the start of a polling round, the device has no point list.
 abbrev pub lack_at : Event → Option Lack
 lack_at (event.Connected given) = Some NoDevice
 lack_at (event.Command (command.StartRound start)) = Some NoList
@@ -111,7 +112,7 @@ abbrev pub lack_by : Event → Refusal → Option Lack
 lack_by e refusal.NotFound = lack_at e
 lack_by e _ = None
 
--- The text `before` and the meaning of this number were appended to the message.
+-- The text `before`, the meaning of the error number, and a remedy were appended to the message.
 abbrev pub MeansAfter : Kind → (number : ℕ) → (before old new : List ℕ) → Type 0
 MeansAfter k number before old new =
     (meaning : Bor Meaning) × IsMeaningOf k number meaning

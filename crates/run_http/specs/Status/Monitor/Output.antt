@@ -4,7 +4,7 @@ use Rattle.office_events.specs.declared.events.Event.{Event}
 use Rattle.office_events.specs.declared.events.Event.TheVariants as event
 use Rattle.run_http.specs.declared.status.monitor.run_monitor.RunMonitor.{RunMonitor}
 
--- The bytes that wait to be sent to each device, indexed by the device's slot.
+-- The bytes that wait to be sent to each device. The index of a device in the list is its slot.
 abbrev pub queues_of : RunMonitor → List (List ℕ)
 queues_of monitor = map (λ queue. queue.items) monitor.outgoing.items
 
@@ -27,34 +27,34 @@ kept e queue = if is_end e then [] else queue
 abbrev pub IsPut : Event → (frames old new : List ℕ) → Type 0
 IsPut e frames old new = (new ≡ kept e old ++ frames) ⊎ (new ≡ kept e old ++ [])
 
--- The queues after frames were added to the queue of slot `place`. They are unchanged if slot
--- `place` does not exist.
+-- The send queues after frames were added to the queue at the index `place`. They are unchanged if
+-- that index does not exist.
 abbrev pub sent_in : ℕ → Option (List ℕ) → Event → (frames : List ℕ) → List (List ℕ)
     → List (List ℕ)
 sent_in place None e frames queues = queues
 sent_in place (Some queue) e frames queues = slice_set queues place (kept e queue ++ frames)
 
--- The queues after the frames were added for the device in slot `place`.
+-- The send queues of all devices after the frames were added for the device with the index `place`.
 abbrev pub sent_to : ℕ → Event → (frames : List ℕ) → List (List ℕ) → List (List ℕ)
 sent_to place e frames queues = sent_in place (slice_get queues place) e frames queues
 
--- Either all frames were queued for the device in slot `place`, or no frame was queued because
--- memory ran out.
+-- Either all Modbus frames were queued for the device with the index `place`, or no frame was
+-- queued because memory ran out.
 abbrev pub IsSentTo : ℕ → Event → (frames : List ℕ) → (old new : List (List ℕ)) → Type 0
 IsSentTo place e frames old new =
     (new ≡ sent_to place e frames old) ⊎ (new ≡ sent_to place e [] old)
 
--- The Modbus frames of the event were queued for the device in the event's slot. An event without a
--- slot changes no queue.
+-- The Modbus frames of the event were queued for the device that the event concerns. An event of no
+-- single device changes no queue.
 abbrev pub IsSentFor : Option ℕ → Event → (frames : List ℕ) → (old new : List (List ℕ)) → Type 0
 IsSentFor None e frames old new = new ≡ old
 IsSentFor (Some place) e frames old new = IsSentTo place e frames old new
 
--- The bytes of an optional queue. A slot without a device has no bytes.
+-- The bytes of an optional send queue. A missing queue has no bytes.
 abbrev pub taken_in : Option (List ℕ) → List ℕ
 taken_in None = []
 taken_in (Some queue) = queue
 
--- The bytes that wait to be sent to the device in slot `place`.
+-- The bytes that wait to be sent to the device with the index `place`.
 abbrev pub taken_at : ℕ → List (List ℕ) → List ℕ
 taken_at place queues = taken_in (slice_get queues place)

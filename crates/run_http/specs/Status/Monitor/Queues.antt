@@ -3,8 +3,8 @@ use Rattle.std.specs.Prelude.{◌≡◌, ◌⊎◌, ◌==◌, ◌+◌, ◌-◌, 
 use Rattle.std.specs.List.{filter}
 use Rattle.run_http.specs.declared.status.monitor.line_queue.LineQueue.{LineQueue}
 
--- The model of a queue of log lines. It has the bytes added since the queue was last empty, how
--- many of these bytes were written, and how many lines were dropped.
+-- The model of a queue of log lines: the bytes added since the queue was last empty, the number of
+-- written bytes, and the number of dropped lines.
 pub record Queue : Type 0 where
   pub put : List ℕ
   pub written : ℕ
@@ -18,11 +18,11 @@ queue_of queue = record {
   dropped = queue.dropped;
 }
 
--- The bytes of the queue that are still to be written.
+-- The bytes of the queue of log lines that are still to be written.
 abbrev pub waiting_in : Queue → List ℕ
 waiting_in queue = drop queue.written queue.put
 
--- True if all bytes of the queue were written.
+-- True if all bytes of the queue of log lines were written.
 abbrev pub is_written : Queue → Bool
 is_written queue = nat_le (length queue.put) queue.written
 
@@ -35,7 +35,7 @@ abbrev pub with_dropped : (at dropped : ℕ) → List ℕ → List ℕ
 with_dropped at dropped text =
     text ++ decimal at ++ codes " - dropped " ++ decimal dropped ++ codes " lines\n"
 
--- The line queue, cleared if all its bytes were written.
+-- The queue of log lines, cleared if all its bytes were written.
 abbrev pub emptied : Queue → Queue
 emptied queue =
     if is_written queue then record { put = []; written = 0; dropped = queue.dropped } else queue
@@ -45,49 +45,50 @@ emptied queue =
 abbrev pub is_due : Queue → Bool
 is_due queue = not (queue.dropped == 0) && is_written queue
 
--- The line queue after the number of dropped lines was reported. The queue has only the line with
--- that number.
+-- The line queue after the number of dropped lines was reported. The queue then has only the line
+-- with that number.
 abbrev pub reported : (at : ℕ) → Queue → Queue
 reported at queue = record { put = with_dropped at queue.dropped []; written = 0; dropped = 0 }
 
--- The number of dropped lines is reported if `due` is true and memory suffices.
+-- If `due` is true and memory suffices, the line with the number of dropped lines is added to the
+-- queue.
 abbrev pub ReportsDroppedBy : (due : Bool) → (at : ℕ) → (old new : Queue) → Type 0
 ReportsDroppedBy true at old new = (new ≡ reported at old) ⊎ (new ≡ emptied old)
 ReportsDroppedBy false at old new = new ≡ old
 
--- The number of dropped lines is reported if lines were dropped, no bytes wait, and memory
--- suffices.
+-- The line with the number of dropped lines is added to the queue if lines were dropped, no bytes
+-- wait, and memory suffices.
 abbrev pub ReportsDropped : (at : ℕ) → (old new : Queue) → Type 0
 ReportsDropped at old new = ReportsDroppedBy (is_due old) at old new
 
--- True if the queue has room for a text. The queue has room if no line was dropped, and it is empty
--- or has at most 65,536 bytes including the text.
+-- True if the queue of log lines has room for a text. The queue has room if no line was dropped,
+-- and it is empty or has at most 65,536 bytes including the text.
 abbrev pub has_room : (text : List ℕ) → Queue → Bool
 has_room text queue =
     (queue.dropped == 0)
     && ((length queue.put == 0) || nat_le (length queue.put + length text) 65536)
 
--- The line queue after the text was added at its end.
+-- The queue of log lines after the text was added at its end.
 abbrev pub kept : (text : List ℕ) → Queue → Queue
 kept text queue = record queue { put = queue.put ++ text }
 
--- The line queue after the lines of the text were dropped and counted.
+-- The queue of log lines after the lines of the text were dropped and counted.
 abbrev pub left_out : (text : List ℕ) → Queue → Queue
 left_out text queue =
     record queue { dropped = min (queue.dropped + line_count text) (2 ^ 64 - 1) }
 
--- The text is queued if `room` is true and memory suffices. Otherwise the lines of the text are
--- dropped and counted.
+-- The text is added to the line queue if `room` is true and memory suffices. Otherwise the lines of
+-- the text are dropped and counted.
 abbrev pub PutsBy : (room : Bool) → (text : List ℕ) → (old new : Queue) → Type 0
 PutsBy true text old new = (new ≡ kept text old) ⊎ (new ≡ left_out text old)
 PutsBy false text old new = new ≡ left_out text old
 
--- The text is queued if the queue has room and memory suffices. Otherwise the lines of the text are
--- dropped and counted.
+-- The text is added to the line queue if the queue has room and memory suffices. Otherwise the
+-- lines of the text are dropped and counted.
 abbrev pub PutsAfter : (text : List ℕ) → (old new : Queue) → Type 0
 PutsAfter text old new = PutsBy (has_room text old) text old new
 
--- The queue is first cleared if all its bytes were written. Then the text is queued, or its lines
--- are dropped and counted.
+-- The line queue is first cleared if all its bytes were written. Then the text is queued, or its
+-- lines are dropped and counted.
 abbrev pub Puts : (text : List ℕ) → (old new : Queue) → Type 0
 Puts text old new = PutsAfter text (emptied old) new

@@ -1,5 +1,5 @@
--- What the observer of the program's events (`RunMonitor`) records of each event: counts, device
--- states and Modbus frames to send.
+-- Defines what the program records of each event for `/status` and its logs: counts, device states
+-- and Modbus frames to send.
 use Rattle.std.specs.Prelude.{◌≡◌, ℕ, Bool, true, false, List, slice_get, slice_set, Option, Some, None, Result, Ok, Err, if◌then◌else◌}
 use Rattle.std.specs.List.{list_any}
 use Rattle.office_events.specs.declared.answers.Answer.{Answer}
@@ -41,7 +41,8 @@ is_connected before (event.Gone given closing) answer = false
 is_connected before (event.Command c) answer = before
 is_connected before (event.Asked asked) answer = before
 
--- The state of a device after one of its events.
+-- The state of a device after one of its events: whether it is connected, and the time of its
+-- latest accepted reading.
 abbrev pub followed : (at : ℕ) → Event → Result Answer Refusal → List Note → DeviceState
     → DeviceState
 followed at e answer notes state = record {
@@ -50,34 +51,34 @@ followed at e answer notes state = record {
   latest = if list_any is_reading notes then Some at else state.latest;
 }
 
--- The device states after this event at the device in slot `place`. They are unchanged if slot
--- `place` does not exist.
+-- The states of all devices after an event of the device with the index `place`. They are unchanged
+-- if that index does not exist.
 abbrev pub followed_in : ℕ → Option DeviceState → (at : ℕ) → Event → Result Answer Refusal
     → List Note → List DeviceState → List DeviceState
 followed_in place None at e answer notes states = states
 followed_in place (Some state) at e answer notes states =
     slice_set states place (followed at e answer notes state)
 
--- The device states after this event at the device in slot `place`.
+-- The states of all devices after this event of the device with the index `place`.
 abbrev pub followed_at : ℕ → (at : ℕ) → Event → Result Answer Refusal → List Note → List DeviceState
     → List DeviceState
 followed_at place at e answer notes states =
     followed_in place (slice_get states place) at e answer notes states
 
--- The device states after this event. An event without a slot changes no state.
+-- The states of all devices after this event. An event of no single device changes no state.
 abbrev pub followed_for : Option ℕ → (at : ℕ) → Event → Result Answer Refusal → List Note
     → List DeviceState → List DeviceState
 followed_for None at e answer notes states = states
 followed_for (Some place) at e answer notes states = followed_at place at e answer notes states
 
--- The counts after an event. The program counts its refusal, and each of its notifications of polls
--- and readings.
+-- The counts after an event. If the program refused the event, the refusal is counted.
+-- Notifications of polls and readings are counted too.
 abbrev pub counted : Result Answer Refusal → List Note → Counts → Counts
 counted (Ok given) notes counts = noted_all notes counts
 counted (Err why) notes counts = noted_all notes (refused counts)
 
--- What the observer of the program's events records of one event: counts, the device states and the
--- Modbus frames to send.
+-- Records one event for `/status` and the logs: counts, the device states and the Modbus frames to
+-- send.
 pub record Keeps (old : RunMonitor) (shown : Shown) (new : RunMonitor) : Type 0 where
   pub counts : new.counts ≡ counted shown.answer shown.notes old.counts
   pub states : new.states.items

@@ -9,7 +9,7 @@ use Rattle.office_events.specs.declared.answers.Note.TheVariants as note
 use Rattle.office_events.specs.Numbers.{one_more}
 use Rattle.run_http.specs.declared.status.status.counts.Counts.{Counts}
 
--- Counts that are all 0.
+-- The counts of polls, readings and refusals before any event: all 0.
 abbrev pub nothing : Counts
 nothing = record {
   answered = 0;
@@ -22,7 +22,7 @@ nothing = record {
   refusals = 0;
 }
 
--- The counts after a poll ended with this outcome.
+-- The counts of `/status` after a poll ended with this outcome.
 abbrev pub ended : Outcome → Counts → Counts
 ended Answered counts = record counts { answered = one_more counts.answered }
 ended (Exception code) counts = record counts { exceptions = one_more counts.exceptions }
@@ -30,8 +30,8 @@ ended Silent counts = record counts { silent = one_more counts.silent }
 ended (Malformed wrong) counts = record counts { malformed = one_more counts.malformed }
 ended (Lost cause) counts = record counts { lost = one_more counts.lost }
 
--- The counts after a reading was rejected for this cause. The index of a cause is its number minus
--- one.
+-- The counts of `/status` after a reading was rejected for this cause. The index of a cause is its
+-- number minus one.
 abbrev pub held_for : Cause → Counts → Counts
 held_for cause counts =
     record counts {
@@ -51,6 +51,6 @@ abbrev pub noted_all : List Note → Counts → Counts
 noted_all [] counts = counts
 noted_all (one ∷ notes) counts = noted_all notes (noted one counts)
 
--- The counts after the program refused another event.
+-- The counts of `/status` after the program refused another event.
 abbrev pub refused : Counts → Counts
 refused counts = record counts { refusals = one_more counts.refusals }

@@ -5,16 +5,17 @@ use Rattle.run_http.specs.declared.status.advice.lacks.DeviceLack.{DeviceLack}
 use Rattle.run_http.specs.declared.status.advice.lacks.Lack.{Lack}
 use Rattle.run_http.specs.declared.status.advice.lacks.Lack.TheVariants.{NoDevice, NoList, NoRegister, NotInList, NoMeter}
 
--- The text with `before` and the name appended. Without a name, only `before` is appended.
+-- The text, followed by the text `before` and a name. Without a name, only `before` is appended.
 abbrev pub with_name : (before text : List ℕ) → Option (List ℕ) → List ℕ
 with_name before text None = text ++ before
 with_name before text (Some name) = text ++ before ++ name
 
--- The text with `before` and the name of the device that lacks something appended.
+-- The text, followed by the text `before` and the name of the device that lacks something in the
+-- store.
 abbrev pub with_device : (before text : List ℕ) → DeviceLack → List ℕ
 with_device before text lack = with_name before text lack.device
 
--- The text with `before` and the name of the accounting register appended, up to the end of its
+-- The text, followed by the text `before`, the name of an accounting register, and the end of its
 -- JSON object.
 abbrev pub with_register : (before text : List ℕ) → Register → List ℕ
 with_register before text register = text ++ before ++ register.name ++ codes "\"}"

@@ -11,7 +11,7 @@ abbrev pub with_name_of : List ℕ → (before : List ℕ) → Option (List ℕ)
 with_name_of text before None = text ++ before
 with_name_of text before (Some name) = text ++ before ++ name
 
--- The text with `before` and the name of a device appended.
+-- The text, followed by the text `before` and the name of a device.
 abbrev pub with_name : List ℕ → (before : List ℕ) → DeviceState → List ℕ
 with_name text before device = with_name_of text before device.name
 
@@ -26,7 +26,7 @@ abbrev pub with_latest : List ℕ → Option ℕ → List ℕ
 with_latest text None = text ++ codes ",\"last_reading\":null"
 with_latest text (Some moment) = text ++ codes ",\"last_reading\":" ++ decimal moment
 
--- The JSON of one device's state, after the text `before`.
+-- The JSON of one device's state, which is appended after the text `before`.
 abbrev pub with_device : (before : List ℕ) → List ℕ → DeviceState → List ℕ
 with_device before text device =
     with_latest (with_connected (with_name text before device) device.connected) device.latest
@@ -66,7 +66,7 @@ with_held text held =
     ++ codes ",\"total_full\":" ++ decimal (slice_index held 6) ++ codes ",\"not_below_range\":"
     ++ decimal (slice_index held 7)
 
--- The JSON of all device states and all counts.
+-- The JSON of all device states and all counts of `/status`.
 abbrev pub with_counts : List ℕ → Counts → List DeviceState → List ℕ
 with_counts text counts devices =
     with_held (with_polls (with_devices (text ++ codes "{\"devices\":[") devices) counts)

@@ -44,8 +44,8 @@ fn is_read(reads: &[PlannedRead], register: &Register) -> bool
     reads.iter().any(|read| is_read_by(read.span, register))
 }
 
-// Returns whether a read of the point list covers the accounting register. Returns true without a
-// point list, because `NoList` is reported then.
+// Returns whether a Modbus read of the device's point list covers the accounting register. Returns
+// true without a point list, because the program then reports `NoList`.
 fn is_in_list(list: &Option<PlannedList>, register: &Register) -> bool
     ensures { result ≡ specs.is_in_list list.now register.now }
 {
@@ -86,7 +86,7 @@ fn has_device<B: Books>(books: &mut B, name: &Name) -> Result<bool, BooksFault>
     Ok(has_name(&books.devices()?, name))
 }
 
-// Adds `lack` of the device to the list if `is_lacking` is true.
+// Adds the device and the missing thing `lack` to the list if `is_lacking` is true.
 fn add(
     lacks: &mut Vec<DeviceLack>,
     device: &Name,
@@ -141,7 +141,7 @@ fn add_of_registers<B: Books>(
     Ok(())
 }
 
-// Adds everything that a device lacks, for a device that the store has.
+// Adds to the list everything that a device lacks. The store must have the device.
 fn add_of_device<B: Books>(
     lacks: &mut Vec<DeviceLack>,
     books: &mut B,
@@ -158,8 +158,8 @@ fn add_of_device<B: Books>(
     add_of_registers(lacks, books, device, &list, &registers)
 }
 
-// Adds everything that the device `name` lacks, or `NoDevice` if the store has no device with that
-// name.
+// Adds to the list everything that the device `name` lacks, or `NoDevice` if the store has no
+// device with that name.
 fn add_of_name<B: Books>(
     lacks: &mut Vec<DeviceLack>,
     books: &mut B,

@@ -6,10 +6,10 @@ ghost use Rattle.run_http.specs.Status.Advice.Reported as specs;
 use office_events::Name;
 use std::alloc::{AllocError, Global};
 
-/// The most devices and meters whose last reported number is remembered.
+/// The most devices and meters whose last reported error number is remembered.
 pub const MOST_REPORTED: usize = 512;
 
-/// What the error number in a message is about.
+/// The topic of a message with an error number.
 #[derive(Clone, Copy, PartialEq, Eq)]
 pub enum Topic {
     /// The number says why the program refused a device's connection.
@@ -24,7 +24,7 @@ impl Topic {
     ghost use Rattle.std.specs.Prelude.{◌≡◌};
     ghost use Rattle.run_http.specs.Status.Advice.Reported.{topic_number};
 
-    // Returns the number of a topic, by which two topics are compared.
+    // Returns a number that identifies the topic of a message, by which two topics are compared.
     fn number(self) -> u8
         ensures { result ≡ topic_number self }
     {
@@ -68,8 +68,8 @@ impl ReportedNumber {
     }
 }
 
-/// The last reported number of each device and meter. A number is reported only if it differs from
-/// the last reported number.
+/// The last reported error number of each device and meter. A number is reported only if it differs
+/// from the last reported number.
 #[derive(Drop)]
 pub struct Reported {
     pub numbers: Vec<ReportedNumber>,
@@ -79,7 +79,7 @@ impl Reported {
     ghost use Rattle.std.specs.Prelude.{◌≡◌, [], is_ok};
     ghost use Rattle.run_http.specs.Status.Advice.Reported as specs;
 
-    /// Makes a list without any reported number.
+    /// Makes a list without any reported error number.
     pub fn new(alloc: Global) -> Reported
         ensures { result.numbers.items ≡ [] }
     {
@@ -88,14 +88,14 @@ impl Reported {
         }
     }
 
-    // Returns the index of the entry with the topic and the device or meter of `reported`.
+    // Returns the index of the list entry with the topic and the device or meter of `reported`.
     fn place_of(&self, reported: &ReportedNumber) -> Option<usize>
         ensures { result ≡ specs.place_of reported.now self.now.numbers.items }
     {
         self.numbers.iter().position(|one| one.is_of_same(reported))
     }
 
-    // Adds an entry for a device or meter if memory suffices.
+    // Adds a list entry for a device or meter if memory suffices.
     fn push(&mut self, topic: Topic, name: Option<Name>, number: u8) -> Result<(), AllocError>
         ensures { self.new.numbers.items
             ≡ specs.pushed (is_ok result) (specs.reported_number topic name number)
@@ -109,7 +109,7 @@ impl Reported {
         Ok(())
     }
 
-    // Adds an entry for a device or meter, and returns whether the list had room.
+    // Adds a list entry for a device or meter, and returns whether the list had room.
     fn add(&mut self, reported: ReportedNumber) -> bool
         ensures { specs.Adds reported self.old.numbers.items self.new.numbers.items result }
     {
@@ -119,8 +119,8 @@ impl Reported {
                 .is_ok()
     }
 
-    // Replaces the number of the entry at an index, and returns whether the new number is
-    // different.
+    // Replaces the error number of the list entry at an index, and returns whether the new number
+    // is different.
     fn change(&mut self, place: usize, reported: ReportedNumber) -> bool
         ensures { specs.Changes place reported self.old.numbers.items self.new.numbers.items result }
     {
@@ -134,7 +134,7 @@ impl Reported {
         true
     }
 
-    /// Records a number about a device or meter, and returns whether to report the number.
+    /// Records the error number of a device or meter, and returns whether to report the number.
     ///
     /// A number is reported if it differs from the last number on the same topic. If the list has
     /// no room for a device or meter, then no number about that device or meter is reported.
@@ -147,8 +147,8 @@ impl Reported {
         }
     }
 
-    /// Records that a device or meter works. Its next problem is then reported even if the number
-    /// of that problem equals the last number.
+    /// Records that a device or meter works. Its next problem is then reported even if the problem
+    /// has the same error number as the last one.
     pub fn forget(&mut self, topic: Topic, name: Option<Name>)
         ensures { specs.Forgets topic name self.old.numbers.items self.new.numbers.items }
     {

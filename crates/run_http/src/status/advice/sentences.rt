@@ -130,7 +130,8 @@ pub fn write_lack(text: &mut Vec<u8>, lack: &DeviceLack) -> Result<(), AllocErro
     }
 }
 
-// Appends to a message the text `before`, the meaning of a printed number, and what to do.
+// Appends to a message the text `before`, the meaning of an error number, and what the operator can
+// do.
 fn append_meaning(text: &mut Vec<u8>, before: &[u8], meaning: &Meaning) -> Result<(), AllocError>
     ensures { OnOk result (text.new.items
         ≡ sentences.with_meaning before.now meaning.now text.old.items) }

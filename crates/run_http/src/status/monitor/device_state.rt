@@ -48,7 +48,8 @@ fn is_connected(before: bool, event: &Event, answer: Result<Answer, Refusal>) ->
     }
 }
 
-/// Returns the state of a device after one of its events.
+/// Returns the state of a device after one of its events: whether it is connected, and the time of
+/// its latest accepted reading.
 pub(crate) fn followed(
     state: DeviceState,
     at: u64,

@@ -14,9 +14,9 @@ pub const MOST_WAITING: usize = 65_536;
 pub struct LineQueue {
     /// The bytes that were added to the queue since it was last empty.
     pub bytes: Vec<u8>,
-    /// The number of bytes of `bytes` that were already written.
+    /// The number of bytes of `bytes` that were already written to the log.
     pub written: usize,
-    /// The number of lines that were dropped and not yet reported.
+    /// The number of log lines that were dropped and not yet reported.
     pub dropped: u64,
 }
 
@@ -38,7 +38,7 @@ fn write_dropped(text: &mut Vec<u8>, at: u64, dropped: u64) -> Result<(), AllocE
 impl LineQueue {
     ghost use Rattle.std.specs.Prelude.{◌≡◌, []};
 
-    /// Makes an empty queue.
+    /// Makes an empty queue of log lines.
     pub fn new(alloc: Global) -> LineQueue
         ensures bytes { result.bytes.items ≡ [] }
         ensures written { result.written ≡ 0 }
@@ -63,7 +63,7 @@ impl LineQueue {
         self.bytes.len() <= self.written
     }
 
-    // Clears the queue if all its bytes were written.
+    // Clears the queue of log lines if all its bytes were written.
     fn empty(&mut self)
         ensures { queue_of self.new ≡ queues.emptied (queue_of self.old) }
     {
@@ -88,7 +88,7 @@ impl LineQueue {
         self.dropped == 0 && (self.bytes.is_empty() || fits)
     }
 
-    // Adds lines at the end of the queue, or drops and counts them.
+    // Adds log lines at the end of the queue, or drops and counts them.
     fn write_after(&mut self, lines: &[u8])
         ensures { queues.PutsAfter lines.now (queue_of self.old) (queue_of self.new) }
     {

@@ -1,4 +1,4 @@
-//! The observer of the program's events, for `/status`, log lines and the Modbus frames to send.
+//! Records the program's events for `/status` and log lines, and queues the Modbus frames to send.
 use crate::status::monitor::device_state::{followed, unconnected};
 use crate::status::monitor::output::write_frames;
 use crate::status::status::{Counts, DeviceState};
@@ -6,15 +6,15 @@ use office_events::{Answer, Event, Name, Note, Observer, Refusal};
 use std::alloc::{AllocError, Global};
 use std::mem;
 
-/// An observer of the program's events. It keeps counts, the state of each device, and the Modbus
-/// frames to send.
+/// A record of the program's events: counts, the state of each device, and the Modbus frames to
+/// send.
 #[derive(Drop)]
 pub struct RunMonitor {
     alloc: Global,
     pub counts: Counts,
-    /// The state of each device, indexed by the device's slot.
+    /// The state of each device, indexed like the list of the devices.
     pub states: Vec<DeviceState>,
-    /// The bytes to send to each device, indexed by the device's slot.
+    /// The bytes to send to each device, indexed like the list of the devices.
     pub outgoing: Vec<Vec<u8>>,
 }
 
@@ -24,7 +24,8 @@ impl RunMonitor {
     ghost use Rattle.run_http.specs.Status.Monitor.Output.{IsSentTo, queues_of, taken_at};
     ghost use Rattle.run_http.specs.Status.Monitor.Watching.{unconnected};
 
-    /// Makes an observer for devices with these names, none of them connected.
+    /// Makes a record of events for devices with these names. No device is connected, and all
+    /// counts are 0.
     pub fn new(alloc: Global, names: &[Option<Name>]) -> Result<RunMonitor, AllocError>
         ensures counts { IfOk result (λ monitor. monitor.counts ≡ nothing) }
         ensures states { IfOk result (λ monitor. monitor.states.items ≡ map unconnected names.now) }
@@ -44,8 +45,8 @@ impl RunMonitor {
         })
     }
 
-    /// Removes and returns the bytes to send to the device in a slot, in order. Frames for which
-    /// memory ran out are missing, and their polls time out.
+    /// Removes and returns the bytes to send to the device with this index, in order. Frames for
+    /// which memory ran out are missing, and their polls time out.
     #[tactic(auto, using(crate::proofs::StatusLemmas::MonitorLemmas::Queues::taken_there, crate::proofs::StatusLemmas::MonitorLemmas::Queues::taken_nowhere))]
     pub fn take_outgoing(&mut self, place: usize) -> Vec<u8>
         ensures taken { result.items ≡ taken_at place (queues_of self.old) }
@@ -59,7 +60,7 @@ impl RunMonitor {
         Vec::new(self.alloc)
     }
 
-    // Queues the frames of an event for the device in a slot.
+    // Queues the Modbus frames of an event for the device with this index.
     #[tactic(auto, using(crate::proofs::StatusLemmas::MonitorLemmas::Queues::sent_at, crate::proofs::StatusLemmas::MonitorLemmas::Queues::sent_nowhere))]
     fn send(&mut self, place: usize, event: &Event, frames: &[u8])
         ensures counts { self.new.counts ≡ self.old.counts }
@@ -90,7 +91,7 @@ impl RunMonitor {
         self.counts.note_all(notes);
     }
 
-    // Updates the state of the device in a slot after an event.
+    // Updates the state of the device with this index after an event.
     fn follow(
         &mut self,
         place: usize,

@@ -25,7 +25,7 @@ impl Counts {
     ghost use Rattle.std.specs.Prelude.{◌≡◌};
     ghost use Rattle.run_http.specs.Status.Status.Counts as counting;
 
-    /// Makes counts that are all 0.
+    /// Makes counts of polls, readings and refusals that are all 0.
     pub fn new() -> Counts
         ensures { result ≡ counting.nothing }
     {

@@ -1,4 +1,4 @@
-//! Appends bytes, numbers and words to a text.
+//! Appends bytes, numbers and words to the text of a response.
 ghost use Rattle.std.specs.Prelude.{◌≡◌, ◌++◌, OnOk, decimal};
 ghost use Rattle.std.specs.Fmt.{signed_decimal};
 

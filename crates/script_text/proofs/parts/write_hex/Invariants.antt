@@ -1,4 +1,5 @@
--- Loop invariant: the writer received the hex text of all bytes except those still to be written.
+-- The loop invariant of writing bytes in hex: the writer received the hex text of all bytes except
+-- those still to be written.
 use Rattle.std.proofs.Common.{◌≡◌, ℕ, List, ◌++◌, length}
 use Rattle.std.specs.Io.KnownBytes.{Appends}
 use Rattle.hex.specs.Hex.{encode_lower}

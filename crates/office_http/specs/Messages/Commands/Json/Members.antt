@@ -35,7 +35,7 @@ is_of_kind Whole name d = is_some (whole name d)
 is_of_kind Natural name d = is_some (whole name d)
 is_of_kind Optional name d = is_none (get name d) || is_some (whole name d)
 
--- True if the number exists and is negative.
+-- True if the optional number exists and is negative.
 abbrev pub is_below_zero : Option ℤ → Bool
 is_below_zero None = false
 is_below_zero (Some (pos n)) = false
@@ -64,7 +64,7 @@ abbrev pub fault_in : Bool → Bool → Option BodyFault
 fault_in kinds negative =
     if kinds then (if negative then Some Negative else None) else Some Malformed
 
--- Either the JSON body has no fault and the result has its values, or the result is the body's
+-- True if the JSON body has no fault and the result has its values, or if the result is the body's
 -- fault.
 abbrev pub Reads : {X : Type 0} → Option BodyFault → (X → Type 0) → Result X BodyFault → Type 0
 Reads fault IsIn (Ok x) = (fault ≡ None) × IsIn x

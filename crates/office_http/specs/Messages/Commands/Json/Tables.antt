@@ -5,7 +5,7 @@ use Rattle.serde_json.specs.Find.{get}
 use Rattle.office_http.specs.declared.messages.commands.json.body.BodyFault.{BodyFault}
 use Rattle.office_http.specs.Messages.Commands.Json.Members.{Member, Text, Whole, Natural, Optional, fault_in, have_kinds, have_negative, is_below_zero, whole}
 
--- The fault of a JSON object that must have these members, if it has one.
+-- The fault of a JSON object that must have these members, or None if the object has no fault.
 abbrev pub fault_of : List Member → Data → Option BodyFault
 fault_of members d = fault_in (have_kinds members d) (have_negative members d)
 
@@ -18,8 +18,8 @@ device_members =
     ∷ record { name = codes "window"; want = Natural }
     ∷ []
 
--- The required members of the body that adds an accounting register. The body also has the
--- register's scale: exactly one of `fixed` and `scale_at`.
+-- The required members of the body that adds an accounting register (energy counter). The body also
+-- has the register's scale: exactly one of `fixed` and `scale_at`.
 abbrev pub register_members : List Member
 register_members =
     record { name = codes "name"; want = Text }
@@ -34,11 +34,11 @@ has_scale d =
     (is_some (whole (codes "fixed") d) && is_none (get (codes "scale_at") d))
     || (is_none (get (codes "fixed") d) && is_some (whole (codes "scale_at") d))
 
--- The fault of the scale in a body that adds an accounting register.
+-- The fault of the scale in a body that adds an accounting register (a named energy counter).
 abbrev pub scale_fault : Data → Option BodyFault
 scale_fault d = fault_in (has_scale d) (is_below_zero (whole (codes "scale_at") d))
 
--- The fault of a body that adds an accounting register.
+-- The fault of a body that adds an accounting register (a named energy counter).
 abbrev pub register_fault : Data → Option BodyFault
 register_fault d =
     fault_in (have_kinds register_members d && has_scale d)
@@ -92,7 +92,6 @@ close_members =
     ∷ record { name = codes "rolls"; want = Natural }
     ∷ []
 
--- The required member of the body that voids a meter entry (withdraws it as false): the entry's
--- sequence number.
+-- The required member of the body that voids (cancels) a meter entry: the entry's sequence number.
 abbrev pub void_members : List Member
 void_members = record { name = codes "place"; want = Natural } ∷ []

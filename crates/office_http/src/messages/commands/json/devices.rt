@@ -1,4 +1,4 @@
-//! Reads the JSON bodies that add devices and accounting registers.
+//! Reads the JSON bodies that add devices and accounting registers (named energy counters).
 ghost use Rattle.serde_json.specs.View.{view};
 ghost use Rattle.office_http.specs.Messages.Commands.Json.Members.{Reads};
 ghost use Rattle.office_http.specs.Messages.Commands.Json.Tables.{device_members, fault_of, register_fault, scale_fault};
@@ -16,7 +16,7 @@ pub struct DeviceBody<'b> {
     pub window: u64,
 }
 
-/// The source of an accounting register's scale exponent.
+/// The source of the scale exponent of an accounting register (a named energy counter).
 #[derive(Clone, Copy, PartialEq, Eq)]
 pub enum Scale {
     /// The scale exponent is fixed, from the member `fixed`.
@@ -25,7 +25,7 @@ pub enum Scale {
     At(u64),
 }
 
-/// The values in the JSON body that adds an accounting register.
+/// The values in the JSON body that adds an accounting register (a named energy counter).
 #[derive(Clone, Copy)]
 pub struct RegisterBody<'b> {
     pub name: &'b str,
@@ -51,8 +51,8 @@ pub fn device_in(body: &Body) -> Result<DeviceBody<'_>, BodyFault>
     })
 }
 
-// Reads the scale of an accounting register. Exactly one of the members `fixed` and `scale_at` must
-// exist.
+// Reads the scale of an accounting register (energy counter). Exactly one of the members `fixed`
+// and `scale_at` must exist.
 fn scale_in(body: &Body) -> Result<Scale, BodyFault>
     ensures { Reads (scale_fault (view body.now)) (IsScale (view body.now)) result }
 {
@@ -67,7 +67,7 @@ fn scale_in(body: &Body) -> Result<Scale, BodyFault>
     Ok(Scale::At(natural(address)?))
 }
 
-/// Reads the JSON body that adds an accounting register.
+/// Reads the JSON body that adds an accounting register (a named energy counter).
 pub fn register_in(body: &Body) -> Result<RegisterBody<'_>, BodyFault>
     ensures { Reads (register_fault (view body.now)) (IsRegister (view body.now)) result }
 {

@@ -53,7 +53,7 @@ pub(crate) fn optional(body: &Value, name: &str) -> Result<Option<i64>, BodyFaul
     }
 }
 
-// Converts an integer to an unsigned one, or returns `Negative`.
+// Converts an integer to an unsigned integer, or returns `Negative` if the integer is negative.
 pub(crate) fn natural(number: i64) -> Result<u64, BodyFault>
     ensures found { IfOk result (λ n. number ≡ pos n) }
     ensures negative { IfErr result (λ e. is_below_zero (Some number) ≡ true) }
@@ -66,7 +66,8 @@ pub(crate) fn natural(number: i64) -> Result<u64, BodyFault>
     }
 }
 
-// Converts an optional integer to an unsigned one, or returns `Negative`.
+// Converts an optional integer to an unsigned integer, or returns `Negative` if the integer is
+// negative.
 pub(crate) fn natural_or_none(number: Option<i64>) -> Result<Option<u64>, BodyFault>
     ensures found { IfOk result (λ o. number ≡ option_map (λ n. pos n) o) }
     ensures negative { IfErr result (λ e. is_below_zero number ≡ true) }

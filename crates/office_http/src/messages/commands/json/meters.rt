@@ -1,4 +1,5 @@
-//! Reads the JSON bodies that install, exchange, reset and rescale meters.
+//! Reads the JSON bodies that install and replace meters, and that record resets and scale changes
+//! of their counters.
 ghost use Rattle.serde_json.specs.View.{view};
 ghost use Rattle.office_http.specs.Messages.Commands.Json.Members.{Reads};
 ghost use Rattle.office_http.specs.Messages.Commands.Json.Tables.{exchange_members, fault_of, install_members};
@@ -18,8 +19,8 @@ pub struct InstallBody<'b> {
     pub range: Option<u64>,
 }
 
-/// The values in the JSON body that exchanges a meter. They are the old meter's last reading, the
-/// rollovers of its counter since the reading before, and the new meter.
+/// The values in the JSON body that replaces a meter: the old meter's last reading, the rollovers
+/// of its counter since the reading before, and the new meter.
 #[derive(Clone, Copy)]
 pub struct ExchangeBody<'b> {
     pub last: u64,
@@ -60,7 +61,7 @@ pub fn install_in(body: &Body) -> Result<InstallBody<'_>, BodyFault>
     })
 }
 
-/// Reads the JSON body that exchanges a meter for another one.
+/// Reads the JSON body that replaces a meter by another meter.
 pub fn exchange_in(body: &Body) -> Result<ExchangeBody<'_>, BodyFault>
     ensures { Reads (fault_of exchange_members (view body.now))
         (IsExchange (view body.now)) result }

@@ -1,5 +1,5 @@
-//! Reads the JSON bodies that enter readings by hand, close meters, and void entries (withdraw them
-//! as false).
+//! Reads the JSON bodies that enter readings by hand, close meters, and void (cancel) entries of
+//! meters.
 ghost use Rattle.serde_json.specs.View.{view};
 ghost use Rattle.office_http.specs.Messages.Commands.Json.Members.{Reads};
 ghost use Rattle.office_http.specs.Messages.Commands.Json.Tables.{close_members, fault_of, manual_members, void_members};
@@ -25,7 +25,7 @@ pub struct CloseBody {
     pub rolls: u64,
 }
 
-/// The sequence number of the meter entry that a command voids (withdraws as false).
+/// The sequence number of the meter entry that a command voids (cancels as false).
 #[derive(Clone, Copy)]
 pub struct VoidBody {
     pub place: u64,
@@ -57,7 +57,7 @@ pub fn close_in(body: &Body) -> Result<CloseBody, BodyFault>
     })
 }
 
-/// Reads the JSON body of the command that voids a meter entry (withdraws it as false).
+/// Reads the JSON body of the command that voids (cancels) a meter entry.
 pub fn void_in(body: &Body) -> Result<VoidBody, BodyFault>
     ensures { Reads (fault_of void_members (view body.now)) (IsVoid (view body.now)) result }
 {
