@@ -156,8 +156,8 @@ static REQUESTS: [u8; 24] = [
     0, 1, 0, 0, 0, 6, 7, 4, 0x9C, 0x4A, 0, 2, 0, 2, 0, 0, 0, 6, 7, 4, 0x9C, 0x4A, 0, 2,
 ];
 
-// Asserts the result of reading a counter over a connection of which one call may fail. Returns the
-// bytes written to the connection.
+// Asserts the result of reading a counter over a connection. One call of the connection may fail.
+// Returns the bytes written to the connection.
 fn assert_read(
     rt: &impl Abort,
     alloc: Global,

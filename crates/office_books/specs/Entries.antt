@@ -19,8 +19,7 @@ abbrev pub place_of : MeterEntry → ℕ
 place_of (entry.Opening last) = 1
 place_of (entry.Later row sf) = row.place
 
--- The scale factor of a meter's counter after the given entry rows, of which only the valid rows
--- count.
+-- The scale factor of a meter's counter after the given entry rows. Only the valid rows count.
 abbrev pub scale_after : Opening → List EntryRow → ℤ
 scale_after opening rows = (last_of (opened opening) (entries_in rows)).sf
 

@@ -145,7 +145,7 @@ module _ {L B C W : Type 0} (l : links.Ghosts L) (b : stores.Ghosts B) (c : cloc
   StepsBetween X = (here there : Progress) → (from to : L) → Leaves b c w (Result X RoundFault)
 
   -- True if the call performed the action `now`, provided that `now` is the polling round's next
-  -- action. Afterwards the next action is the one that `then` gives for the result.
+  -- action. Afterwards `then` gives the next action from the result.
   abbrev pub StepsOn : {X : Type 0} → (now : Next) → (then : X → Next) → StepsBetween X
   StepsOn now then here there from to old new before after had holds result =
       StepsFrom b.ledger (scene_of here from old before had) (scene_of there to new after holds)

@@ -1,5 +1,5 @@
--- Properties of the SunSpec model tables, each row of which describes one point. Because of these
--- properties, the points of a chain of models form a valid point list.
+-- Properties of the SunSpec model tables. Each row of such a table describes one point. Because of
+-- these properties, the points of a chain of models form a valid point list.
 use Rattle.std.proofs.Common.{◌≡◌, ℕ, Bool, true, false, List, [], ◌∷◌, length, refl}
 use Rattle.std.specs.Prelude.{◌==◌, ◌&&◌, ◌||◌, nat_le, not, if◌then◌else◌}
 use Rattle.std.specs.List.{list_all}

@@ -1,4 +1,4 @@
-//! Compares the schema of a file with the one that the program creates. The schema is the
+//! Compares the schema of a file with the schema that the program creates. A schema is the
 //! definitions of the tables with their columns, keys and foreign keys, and the indexes. In a file
 //! with another schema, rows could occur twice or without their parent.
 ghost use Rattle.std.specs.Prelude.{◌≡◌, ◌≢◌, ◌↔◌, false, OnOk, IfErr, IsTrue};
@@ -91,7 +91,7 @@ fn are_program_indexes(indexes: &[Index]) -> bool
     are_indexes(indexes, &INDEXES)
 }
 
-// Returns Ok only if a schema is the one that the program creates in a new file.
+// Returns Ok only if a schema equals the schema that the program creates in a new file.
 fn check_schema(schema: &Schema) -> Result<(), SchemaFault>
     ensures same { OnOk result (schema.now ≡ books_schema) }
     ensures other { IfErr result (λ fault. schema.now ≢ books_schema) }

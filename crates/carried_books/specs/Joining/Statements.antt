@@ -222,8 +222,8 @@ ReportsAll zone range facts listed old new None = (meters : List MeterOver)
     × AreReported zone range new after
 ReportsAll zone range facts listed old new (Some apart) = Unit {0}
 
--- The meters of the database file were added to the collected meters. Otherwise two meters are
--- returned of which the later neither continues the earlier nor begins after its closing.
+-- The meters of the database file were added to the collected meters, or two meters are returned.
+-- The later of the two neither continues the earlier nor begins after the earlier was closed.
 abbrev pub AddsListed : Zone → DayRange → (facts : List Fact) → (listed : List Installation)
     → (old new : List KeptMeter) → Option Apart → Type 0
 AddsListed zone range facts listed old new apart =

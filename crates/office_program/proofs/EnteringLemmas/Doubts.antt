@@ -60,8 +60,7 @@ row_failed None before after why other (inl reported) = let same = reported.0 in
 row_failed (Some y) before after why other (inl reported) = let never = reported.0 in absurd (cc never)
 row_failed found before after why other (inr fails) = fails
 
--- Lemmas on the open meter (the one that is not closed) at an accounting register (a named
--- counter).
+-- Lemmas on the open (not closed) meter at an accounting register (a named counter).
 
 pub sound_there : (facts : List Fact) (register : Option (List ℕ)) (row : Installation) → AreInRange facts
     → option_and_then (installation_at facts) register ≡ Some row → IsSound row

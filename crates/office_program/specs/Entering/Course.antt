@@ -125,8 +125,8 @@ reply_text past at e (Err why) = refused_line why
 abbrev pub faults_text : List FaultyRow → List ℕ
 faults_text rows = flat_map fault_line rows ++ refused_line Limit
 
--- The text that reports a doubted entry (one that needs a confirmation), with the energy in mWh
--- that the entry would record.
+-- The text that reports that an entry needs a confirmation, with the energy in mWh that the entry
+-- would record.
 abbrev pub doubted_line : (mwh : ℕ) → List ℕ
 doubted_line mwh = codes "doubted " ++ decimal mwh ++ codes "\n"
 
